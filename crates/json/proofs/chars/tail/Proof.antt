@@ -1,0 +1,24 @@
+-- `json::chars::tail` meets its contract: in each arm the range that holds picks the case of `tailOf`. Assumes nothing.
+use borrow.Author.Needs.{needs}
+use Rattle.text.specs.Chars.{tailOf}
+use Rattle.laws.proofs.Picks.{picks}
+use Rattle.json.proofs.chars.tail.Statement.{statement}
+use Rattle.json.proofs.chars.tail.Tie as tie
+
+cast-result : tie.Need-cast-result
+cast-result c = search needs
+
+returns : tie.Need-returns
+unfolding tailOf
+returns c = search picks
+
+returns-2 : tie.Need-returns-2
+unfolding tailOf
+returns-2 c = search picks
+
+returns-3 : tie.Need-returns-3
+unfolding tailOf
+returns-3 c = search picks
+
+pub tail-spec : {M : Type 1} → statement M
+tail-spec = tie.close (tie.spec cast-result returns returns-2 returns-3)

@@ -1,0 +1,126 @@
+-- `json::names::part_is` meets its contract: what the cursor has left is the same as the rest of the literal just where the name is the
+-- literal. The measure is the number of bytes that the cursor has left. Assumes nothing.
+use mathlib.Core.Path.{_≡_, refl, sym, ap}
+use Prim.Native.Nat.{_≤_, _<_}
+use native.Mathlib.Omega.{arith}
+use lib.ListN.{length, getD, drop, drop-of-length-le}
+use denote.Ref.{now}
+use borrow.Author.Needs.{needs}
+use Rattle.text.specs.Strings.{conts, decode}
+use Rattle.json.specs.Cursors.{rest}
+use Rattle.laws.specs.Order.{orderOf, same}
+use Rattle.laws.proofs.Places.{inside, ended, drop-byte}
+use Rattle.json.proofs.Handed.{handed}
+use Rattle.laws.proofs.Orders.{agree, absent}
+use Rattle.json.proofs.names.part_is.Statement.{statement}
+use Rattle.json.proofs.names.part_is.Tie as tie
+
+abbrev Inv-loop : tie.InvT-loop
+Inv-loop a lit x₀ i₀ x i = (same (rest a x) (drop i lit) ≡ same (decode a) lit) × (i ≤ length lit)
+
+abbrev μ-loop : tie.MeasureT-loop
+μ-loop a lit x₀ i₀ x i = length (rest a x)
+
+loop-holds : tie.Need-loop-holds Inv-loop μ-loop
+unfolding conts
+loop-holds c = (refl, search needs)
+
+peek-requires : tie.Need-peek-requires Inv-loop μ-loop
+peek-requires c κs = search needs
+
+next-byte-requires : tie.Need-next-byte-requires Inv-loop μ-loop
+next-byte-requires c κs = search needs
+
+enum-told : tie.Need-enum-told Inv-loop μ-loop
+enum-told c = search needs
+
+returns : tie.Need-returns Inv-loop μ-loop
+unfolding orderOf
+returns c =
+    let l = now (c .before .before .before .before .before .before .before .before .args .lit) in
+    let i = c .before .before .before .before .before .loop .i in
+    let eb = drop-of-length-le l (ended l i (omega (arith, c .before .before .before .before .before .before .shared-slice-known2 .given i)) (cc)) in
+    rw (
+      ← c .before .before .before .before .before .loop .inv .0,
+      ← c .before .before .before .next-byte .ensures,
+      c .before .enum-told .given .1,
+      eb,
+    )
+
+returns-2 : tie.Need-returns-2 Inv-loop μ-loop
+unfolding orderOf
+returns-2 c =
+    let l = now (c .before .before .before .before .before .before .before .before .args .lit) in
+    let i = c .before .before .before .before .before .loop .i in
+    let eb = drop-byte l i (inside l i (omega arith)) in
+    rw (
+      ← c .before .before .before .before .before .loop .inv .0,
+      ← c .before .before .before .next-byte .ensures,
+      c .before .enum-told .given .1,
+      eb,
+    )
+
+enum-known-p : tie.Need-enum-known-p Inv-loop μ-loop
+enum-known-p c = search needs
+
+cast-if2 : tie.Need-cast-if2 Inv-loop μ-loop
+cast-if2 c = search needs
+
+returns-3 : tie.Need-returns-3 Inv-loop μ-loop
+returns-3 c =
+    let l = now (c .before .before .before .before .before .before .before .before .before .args .lit) in
+    let i = c .before .before .before .before .before .before .loop .i in
+    let ne : (c .before .before .p .given .0 .0 ≡ getD l i 256 → ⊥) = omega arith in
+    rw (
+      ← c .before .before .before .before .before .before .loop .inv .0,
+      ← c .before .before .before .before .next-byte .ensures,
+      c .before .before .p .given .1,
+    )
+    (sym (absent l i _ _ ne))
+
+add-i : tie.Need-add-i Inv-loop μ-loop
+add-i c =
+    let l = now (c .before .before .before .before .before .before .before .before .before .args .lit) in
+    let i = c .before .before .before .before .before .before .loop .i in
+    let h : i < length l = inside l i (omega arith) in
+    omega arith
+
+loop-less : tie.Need-loop-less Inv-loop μ-loop
+loop-less c =
+    let a = now (c .before .before .before .before .before .before .before .before .before .args .a) in
+    let x = c .before .before .before .before .before .before .loop .x in
+    omega (arith, ap length (handed a x (c .before .before .before .before .next-byte .ensures) (c .before .before .p .given .1)))
+
+loop-again : tie.Need-loop-again Inv-loop μ-loop
+loop-again c =
+    let l = now (c .before .before .before .before .before .before .before .before .before .args .lit) in
+    let i = c .before .before .before .before .before .before .loop .i in
+    let h : i < length l = inside l i (omega arith) in (
+      rw (
+        ← c .before .before .before .before .before .before .loop .inv .0,
+        ← c .before .before .before .before .next-byte .ensures,
+        c .before .before .p .given .1,
+        drop-byte l i h,
+      )
+          (sym (agree _ _ _ _ (cc))),
+      omega arith,
+    )
+
+pub part-is-spec : {M : Type 1} → statement M
+part-is-spec =
+    tie.close
+    (tie.spec
+    Inv-loop
+    μ-loop
+    loop-holds
+    peek-requires
+    next-byte-requires
+    enum-told
+    returns
+    returns-2
+    enum-known-p
+    cast-if2
+    returns-3
+    add-i
+    loop-less
+    loop-again)

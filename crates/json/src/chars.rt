@@ -1,0 +1,252 @@
+// What stands at a place inside a string: one step, used by reading and by decoding.
+use crate::bytes::peek;
+use text::Hex;
+use text::Step;
+ghost use mathlib.Core.Path.{_≡_};
+ghost use Prim.Native.Nat.{_+_, _<_, _≤_};
+ghost use lib.ListN.{length};
+ghost use Rattle.text.specs.Chars.{digitOf, digitAt, hex4At, letterOf, checkedAt, tailOf, tailAt, seq2, seq3, seq4, rawAt, pairAt, unitAt, escapeAt, stepAt};
+
+// The value of a hexadecimal digit, or 16.
+fn digit(b: u16) -> u32
+    ensures { λ r. ⌜ r ≡ digitOf b ⌝ }
+{
+    match b {
+        48..=57 => (b - 48) as u32,
+        65..=70 => (b - 55) as u32,
+        97..=102 => (b - 87) as u32,
+        _ => 16,
+    }
+}
+
+// The digit at a place, or 16.
+fn digit_at(text: &[u8], at: usize) -> u32
+    ensures { λ r. ⌜ r ≡ digitAt (now (text .entry)) at ⌝ }
+{
+    digit(peek(text, at))
+}
+
+fn hex4(text: &[u8], at: usize) -> Hex
+    requires { ⌜ at ≤ length (now text) + 8 ⌝ }
+    ensures { λ r. ⌜ r ≡ hex4At (now (text .entry)) at ⌝ }
+{
+    let a = digit_at(text, at);
+    if a == 16 {
+        return Hex::Bad(at);
+    }
+    let b = digit_at(text, at + 1);
+    if b == 16 {
+        return Hex::Bad(at + 1);
+    }
+    let c = digit_at(text, at + 2);
+    if c == 16 {
+        return Hex::Bad(at + 2);
+    }
+    let d = digit_at(text, at + 3);
+    if d == 16 {
+        return Hex::Bad(at + 3);
+    }
+    Hex::Unit(a % 16 * 4096 + b % 16 * 256 + c % 16 * 16 + d % 16)
+}
+
+// What the letter of a short escape stands for, or 0.
+fn letter(b: u16) -> u32
+    ensures { λ r. ⌜ r ≡ letterOf b ⌝ }
+{
+    match b {
+        34 => 34,
+        47 => 47,
+        92 => 92,
+        98 => 8,
+        102 => 12,
+        110 => 10,
+        114 => 13,
+        116 => 9,
+        _ => 0,
+    }
+}
+
+// A character of `len` bytes at `at`, if its code point is allowed.
+fn checked(at: usize, code: u32, len: usize) -> Step
+    ensures { λ r. ⌜ r ≡ checkedAt at code len ⌝ }
+{
+    if code < 0xD800 {
+        return Step::Char(code, len);
+    }
+    if code < 0xE000 {
+        return Step::Bad3(at);
+    }
+    if code < 0xFDD0 {
+        return Step::Char(code, len);
+    }
+    if code < 0xFDF0 {
+        return Step::Bad3(at);
+    }
+    if 0x10FFFF < code {
+        return Step::Bad3(at);
+    }
+    if code % 65536 < 0xFFFE {
+        Step::Char(code, len)
+    } else {
+        Step::Bad3(at)
+    }
+}
+
+// The six bits of a continuation byte, or 64.
+fn tail(b: u16) -> u32
+    ensures { λ r. ⌜ r ≡ tailOf b ⌝ }
+{
+    match b {
+        128..=191 => (b - 128) as u32,
+        _ => 64,
+    }
+}
+
+// The six bits of the continuation byte at a place, or 64.
+fn tail_at(text: &[u8], at: usize) -> u32
+    ensures { λ r. ⌜ r ≡ tailAt (now (text .entry)) at ⌝ }
+{
+    tail(peek(text, at))
+}
+
+// The code point of a sequence of two, three or four bytes, or 0x110000 where it is none.
+fn code2(b: u16, x: u32) -> u32
+    ensures { λ r. ⌜ r ≡ seq2 b x ⌝ }
+{
+    if 63 < x {
+        return 0x110000;
+    }
+    let code = (b % 32) as u32 * 64 + x;
+    if code < 128 { 0x110000 } else { code }
+}
+
+fn code3(b: u16, x: u32, y: u32) -> u32
+    ensures { λ r. ⌜ r ≡ seq3 b x y ⌝ }
+{
+    if 63 < x {
+        return 0x110000;
+    }
+    if 63 < y {
+        return 0x110000;
+    }
+    let code = (b % 16) as u32 * 4096 + x * 64 + y;
+    if code < 2048 { 0x110000 } else { code }
+}
+
+fn code4(b: u16, x: u32, y: u32, z: u32) -> u32
+    ensures { λ r. ⌜ r ≡ seq4 b x y z ⌝ }
+{
+    if 63 < x {
+        return 0x110000;
+    }
+    if 63 < y {
+        return 0x110000;
+    }
+    if 63 < z {
+        return 0x110000;
+    }
+    let code = (b % 8) as u32 * 262144 + x * 4096 + y * 64 + z;
+    if code < 65536 { 0x110000 } else { code }
+}
+
+// A raw character of several bytes, with the first byte b.
+fn raw(text: &[u8], at: usize, b: u16) -> Step
+    requires { ⌜ at < length (now text) ⌝ }
+    ensures { λ r. ⌜ r ≡ rawAt (now (text .entry)) at b ⌝ }
+{
+    if b < 192 {
+        return Step::Bad3(at);
+    }
+    let x = tail_at(text, at + 1);
+    if b < 224 {
+        return checked(at, code2(b, x), 2);
+    }
+    let y = tail_at(text, at + 2);
+    if b < 240 {
+        return checked(at, code3(b, x, y), 3);
+    }
+    let z = tail_at(text, at + 3);
+    if b < 248 {
+        return checked(at, code4(b, x, y, z), 4);
+    }
+    Step::Bad3(at)
+}
+
+// The escape at `at` of a high surrogate: a low one has to follow at once.
+fn pair(text: &[u8], at: usize, high: u32) -> Step
+    requires { ⌜ at < length (now text) ⌝ }
+    ensures { λ r. ⌜ r ≡ pairAt (now (text .entry)) at high ⌝ }
+{
+    if peek(text, at + 6) != 92 {
+        return Step::Bad3(at);
+    }
+    if peek(text, at + 7) != 117 {
+        return Step::Bad3(at);
+    }
+    let Hex::Unit(low) = hex4(text, at + 8) else {
+        return Step::Bad3(at);
+    };
+    if low < 0xDC00 {
+        return Step::Bad3(at);
+    }
+    if low < 0xE000 {
+        return checked(at, 65536 + high % 1024 * 1024 + low % 1024, 12);
+    }
+    Step::Bad3(at)
+}
+
+// The escape at `at` with the value u.
+fn unit(text: &[u8], at: usize, u: u32) -> Step
+    requires { ⌜ at < length (now text) ⌝ }
+    ensures { λ r. ⌜ r ≡ unitAt (now (text .entry)) at u ⌝ }
+{
+    if u < 0xD800 {
+        return checked(at, u, 6);
+    }
+    if u < 0xDC00 {
+        return pair(text, at, u);
+    }
+    checked(at, u, 6)
+}
+
+// The escape whose backslash stands at `at`.
+pub(crate) fn escape(text: &[u8], at: usize) -> Step
+    requires { ⌜ at < length (now text) ⌝ }
+    ensures { λ r. ⌜ r ≡ escapeAt (now (text .entry)) at ⌝ }
+{
+    let b = peek(text, at + 1);
+    if b == 117 {
+        return match hex4(text, at + 2) {
+            Hex::Unit(u) => unit(text, at, u),
+            Hex::Bad(p) => Step::Bad2(p),
+        };
+    }
+    let code = letter(b);
+    if code == 0 {
+        return Step::Bad2(at + 1);
+    }
+    Step::Char(code, 2)
+}
+
+// What stands at a place inside a string, after the opening quote.
+pub(crate) fn step_at(text: &[u8], at: usize) -> Step
+    ensures { λ r. ⌜ r ≡ stepAt (now (text .entry)) at ⌝ }
+{
+    let b = peek(text, at);
+    if b == 34 {
+        return Step::Close;
+    }
+    if b == 92 {
+        return escape(text, at);
+    }
+    if b < 32 {
+        return Step::Bad2(at);
+    }
+    if b < 128 {
+        return Step::Char(b as u32, 1);
+    }
+    if b < 256 {
+        return raw(text, at, b);
+    }
+    Step::Bad2(at)
+}

@@ -1,0 +1,8 @@
+// What speaks of no format: the order of two runs of bytes.
+
+// How one run of bytes stands to another in ascending byte order.
+pub enum Order {
+    Less,
+    Same,
+    More,
+}

@@ -1,0 +1,112 @@
+-- Laws for callers:
+--     end-inside       a string that ends does so inside the text, after the place where the reading began
+--     decode-plain     bytes without a backslash decode to themselves
+--     two, three, four          the UTF-8 of a raw character's code point is its own bytes
+-- Assumes nothing.
+use mathlib.Core.Path.{_≡_, refl, sym, ap, ap₂, _∙_}
+use mathlib.Core.List.{List, [], _∷_}
+use Prim.Native.Nat.{ℕ, zero, suc, _+_, _-_, _*_, _/_, _%_, _≤_, _<_}
+use native.Mathlib.Decide.{decLe}
+use native.Mathlib.Omega.{arith}
+use lib.ListN.{length, drop, drop-of-length-le}
+use borrow.Author.Tests.{lt-ltb, le-ltb, ne-eqb}
+use Rattle.text.specs.Text.{byteAt}
+use Rattle.text.specs.Chars.{seq2, seq3, seq4, stepAt}
+use Rattle.text.specs.Strings.{stringEnd, conts, utf8, stop, piece, pieceBy, decodeFrom, decode}
+use Rattle.text.specs.declared.Step.{Step}
+use Rattle.text.specs.declared.Step.the-variants.{Close, Char, Bad2, Bad3}
+use Rattle.text.specs.declared.Token.the-variants.{End, No2, No3}
+use Rattle.laws.proofs.Places.{drop-byte}
+use Rattle.text.proofs.Walks.{end-at, decode-at, past-piece, close-inside, char-inside}
+
+-- ---- where a string ends ----
+
+pub record Ends (t : List ℕ) (i e : ℕ) : Type 0 where
+  pub after : i < e
+  pub within : e ≤ length t
+
+-- by the number of bytes left, f
+ends : (f : ℕ) (t : List ℕ) (i e : ℕ) → length t - i < f → stringEnd t i ≡ End e → Ends t i e
+ends zero t i e h q = absurd (omega arith)
+ends (suc f) t i e h q = go (stepAt t i) refl (λ j l g. ends f t j e l g)
+  where
+    go : (s : Step) → stepAt t i ≡ s → ((j : ℕ) → length t - j < f → stringEnd t j ≡ End e → Ends t j e) → Ends t i e
+    go Close p more =
+        let r : End (i + 1) ≡ End e = sym (end-at t i Close p) ∙ q in
+        let k : i + 1 ≡ e = cc in
+        let l = close-inside t i p in
+        omega arith
+    go (Char code n) p more =
+        let l = char-inside t i p in
+        let r = more (i + n) (omega arith) (sym (end-at t i (Char code n) p) ∙ q) in
+        omega arith
+    go (Bad2 x) p more =
+        let r : No2 x ≡ End e = sym (end-at t i (Bad2 x) p) ∙ q in
+        let z : _≡_ {A = ℕ} 0 1 = cc in
+        absurd (omega arith)
+    go (Bad3 x) p more =
+        let r : No3 x ≡ End e = sym (end-at t i (Bad3 x) p) ∙ q in
+        let z : _≡_ {A = ℕ} 0 1 = cc in
+        absurd (omega arith)
+
+pub end-inside : (t : List ℕ) (i e : ℕ) → stringEnd t i ≡ End e → Ends t i e
+end-inside t i e q = ends (suc (length t - i)) t i e (omega arith) q
+
+-- ---- bytes without a backslash ----
+
+-- no byte is a backslash, and each is a byte
+pub record Plain (l : List ℕ) : Type 0 where
+  pub none : (i : ℕ) → byteAt l i ≡ 92 → ⊥
+  pub small : (i : ℕ) → i < length l → byteAt l i < 256
+
+plain : (f : ℕ) (l : List ℕ) (i : ℕ) → Plain l → length l - i < f → decodeFrom l i ≡ drop i l
+unfolding pieceBy
+plain zero l i p h = absurd (omega arith)
+plain (suc f) l i p h = elim (decLe (length l) i) [
+  | yes k ↦ decode-at l i stop (past-piece l i k) ∙ sym (drop-of-length-le l k)
+  | no k ↦
+      let small : byteAt l i < 256 = p .small i (omega arith) in
+      let e : pieceBy l i (byteAt l i) ≡ piece (byteAt l i ∷ []) 1 = simp (ne-eqb (byteAt l i) 256 (omega arith), ne-eqb (byteAt l i) 92 (p .none i)) in
+      decode-at l i (piece (byteAt l i ∷ []) 1) e ∙ ap (λ (r : List ℕ). byteAt l i ∷ r) (plain f l (i + 1) p (omega arith)) ∙ sym (drop-byte l i (omega arith))
+]
+
+pub decode-plain : (l : List ℕ) → Plain l → decode l ≡ l
+decode-plain l p = plain (suc (length l - 0)) l 0 p (omega arith)
+
+-- ---- the UTF-8 of a raw character ----
+
+pub two : (b x : ℕ) → 192 ≤ b → b < 224 → x < 64 → 128 ≤ b % 32 * 64 + x → utf8 (seq2 b x) ≡ b ∷ (128 + x) ∷ []
+unfolding seq2 utf8 conts
+two b x lo hi hx ov =
+    let code : ℕ = b % 32 * 64 + x in
+    let s : seq2 b x ≡ code = simp (le-ltb 63 x (omega arith), le-ltb code 128 ov) in
+    let u : utf8 code ≡ (192 + code / 64 % 32) ∷ (128 + code % 64) ∷ [] = simp (le-ltb code 128 ov, lt-ltb code 2048 (omega arith)) in
+    let p : 192 + code / 64 % 32 ≡ b = omega arith in
+    let q : 128 + code % 64 ≡ 128 + x = omega arith in
+    ap utf8 s ∙ u ∙ ap₂ (λ (m n : ℕ). m ∷ n ∷ []) p q
+
+pub three : (b x y : ℕ) → 224 ≤ b → b < 240 → x < 64 → y < 64 → 2048 ≤ b % 16 * 4096 + x * 64 + y → utf8 (seq3 b x y) ≡ b ∷ (128 + x) ∷ (128 + y) ∷ []
+unfolding seq3 utf8 conts
+three b x y lo hi hx hy ov =
+    let code : ℕ = b % 16 * 4096 + x * 64 + y in
+    let s : seq3 b x y ≡ code = simp (le-ltb 63 x (omega arith), le-ltb 63 y (omega arith), le-ltb code 2048 ov) in
+    let u : utf8 code ≡ (224 + code / 4096 % 16) ∷ (128 + code / 64 % 64) ∷ (128 + code % 64) ∷ [] =
+    simp (le-ltb code 128 (omega arith), le-ltb code 2048 ov, lt-ltb code 65536 (omega arith)) in
+    let p : 224 + code / 4096 % 16 ≡ b = omega arith in
+    let q : 128 + code / 64 % 64 ≡ 128 + x = omega arith in
+    let r : 128 + code % 64 ≡ 128 + y = omega arith in
+    ap utf8 s ∙ u ∙ (cc)
+
+pub four : (b x y z : ℕ) → 240 ≤ b → b < 248 → x < 64 → y < 64 → z < 64 → 65536 ≤ b % 8 * 262144 + x * 4096 + y * 64 + z
+    → utf8 (seq4 b x y z) ≡ b ∷ (128 + x) ∷ (128 + y) ∷ (128 + z) ∷ []
+unfolding seq4 utf8 conts
+four b x y z lo hi hx hy hz ov =
+    let code : ℕ = b % 8 * 262144 + x * 4096 + y * 64 + z in
+    let s : seq4 b x y z ≡ code = simp (le-ltb 63 x (omega arith), le-ltb 63 y (omega arith), le-ltb 63 z (omega arith), le-ltb code 65536 ov) in
+    let u : utf8 code ≡ (240 + code / 262144 % 8) ∷ (128 + code / 4096 % 64) ∷ (128 + code / 64 % 64) ∷ (128 + code % 64) ∷ [] =
+    simp (le-ltb code 128 (omega arith), le-ltb code 2048 (omega arith), le-ltb code 65536 ov) in
+    let p : 240 + code / 262144 % 8 ≡ b = omega arith in
+    let q : 128 + code / 4096 % 64 ≡ 128 + x = omega arith in
+    let r : 128 + code / 64 % 64 ≡ 128 + y = omega arith in
+    let v : 128 + code % 64 ≡ 128 + z = omega arith in
+    ap utf8 s ∙ u ∙ (cc)

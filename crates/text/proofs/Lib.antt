@@ -1,0 +1,3 @@
+-- The theorems over the definitions of specs/, by subject.
+pub mod Walks
+pub mod Laws

@@ -1,0 +1,4 @@
+pub mod Limits
+pub mod Text
+pub mod Chars
+pub mod Strings

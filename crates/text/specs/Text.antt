@@ -1,0 +1,16 @@
+-- Texts as lists of bytes: what stands at a place, and quoted texts. Assumes nothing: these are definitions.
+use Prim.Native.Nat.{ℕ}
+use Prim.Native.Char.{code}
+use Prim.Native.String.{String}
+use Prim.Native.String as S
+use mathlib.Core.List.{List, [], _∷_}
+use lib.ListN.{getD}
+
+-- the byte at a place, and 256 at and past the end: so the end of a text is one more byte that can't continue
+abbrev pub byteAt : List ℕ → ℕ → ℕ
+byteAt t i = getD t i 256
+
+-- the bytes of a quoted text of ASCII characters, so that spellings and specimens can be read
+abbrev pub bytes : String → List ℕ
+bytes S.[] = []
+bytes (S._∷_ c s) = code c ∷ bytes s

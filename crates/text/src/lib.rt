@@ -1,0 +1,23 @@
+// What the functions of reading answer. There is no code here: the definitions of specs/ name these types, and the contracts of the
+// reading layer cite the definitions.
+
+// Four hexadecimal digits: their value, or the first place that has none.
+pub enum Hex {
+    Unit(u32),
+    Bad(usize),
+}
+
+// What stands at a place inside a string: its closing quote, a character with its code point and its length, or the refusal 2 or 3 at a place.
+pub enum Step {
+    Close,
+    Char(u32, usize),
+    Bad2(usize),
+    Bad3(usize),
+}
+
+// A literal, number or string: the place after it, or the refusal 2 or 3 at a place.
+pub enum Token {
+    End(usize),
+    No2(usize),
+    No3(usize),
+}
