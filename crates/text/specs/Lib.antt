@@ -2,3 +2,10 @@ pub mod Limits
 pub mod Text
 pub mod Chars
 pub mod Strings
+pub mod Sheet
+pub mod Tokens
+pub mod Tree
+pub mod Reader
+pub mod Whole
+pub mod Doc
+pub mod Writing

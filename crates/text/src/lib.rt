@@ -21,3 +21,20 @@ pub enum Token {
     No2(usize),
     No3(usize),
 }
+
+// Why a text is not read: numbers 1 to 7 of the refusal sheet, in its order. Each carries its second number: a place, or the rows needed.
+pub enum Refusal {
+    TooLong,
+    Grammar(usize),
+    Character(usize),
+    Repeated(usize),
+    Deep(usize),
+    Many(usize),
+    Small(usize),
+}
+
+// What reading a text answers: the number of its rows, or the refusal.
+pub enum Reading {
+    Rows(usize),
+    Refused(Refusal),
+}

@@ -1,0 +1,29 @@
+-- The refusal sheet: the paper's numbers for each case of reading's answer. Assumes nothing: these are definitions.
+use Prim.Native.Nat.{ℕ}
+use Rattle.text.specs.declared.Refusal.{Refusal}
+use Rattle.text.specs.declared.Refusal.the-variants.{TooLong, Grammar, Character, Repeated, Deep, Many, Small}
+use Rattle.text.specs.declared.Reading.{Reading}
+use Rattle.text.specs.declared.Reading.the-variants.{Rows, Refused}
+
+-- An answer on paper: 0 or the refusal's number; the row count or the refusal's second number; and the bytes written, which only localizing has.
+pub record Paper : Type 0 where
+  pub number : ℕ
+  pub second : ℕ
+  pub written : ℕ
+
+abbrev pub numbers : ℕ → ℕ → ℕ → Paper
+numbers number second written = record { number = number; second = second; written = written }
+
+-- the sheet's first seven lines
+unfoldable pub refused : Refusal → Paper
+refused TooLong = numbers 1 0 0
+refused (Grammar p) = numbers 2 p 0
+refused (Character p) = numbers 3 p 0
+refused (Repeated p) = numbers 4 p 0
+refused (Deep p) = numbers 5 p 0
+refused (Many p) = numbers 6 p 0
+refused (Small rows) = numbers 7 rows 0
+
+unfoldable pub paper : Reading → Paper
+paper (Rows n) = numbers 0 n 0
+paper (Refused r) = refused r

@@ -1,0 +1,45 @@
+-- What reading a whole text answers, and what it leaves in a lent table of so many words.
+-- Assumes nothing: these are definitions.
+use Prim.Native.Nat.{ℕ, _*_}
+use mathlib.Core.List.{List, []}
+use mathlib.Core.Bool.{cond}
+use lib.ListN.{length}
+use lib.Dec.{ltb, eqb}
+use Rattle.text.specs.Limits.{Limits}
+use Rattle.laws.specs.Lists.{filled}
+use Rattle.text.specs.Text.{byteAt}
+use Rattle.text.specs.Tokens.{skip}
+use Rattle.text.specs.Tree.{size, rowsOf}
+use Rattle.text.specs.Reader.{Read, good, bad, valueAt}
+use Rattle.text.specs.Sheet.{Paper, numbers, refused}
+use Rattle.text.specs.declared.Refusal.the-variants.{TooLong, Grammar, Small}
+
+-- a value with nothing but white space after it (8259: JSON-text = ws value ws)
+unfoldable pub endOf : List ℕ → Read → Read
+endOf t (bad r) = bad r
+endOf t (good f to) = let x = skip t to in cond (eqb (byteAt t x) 256) (good f x) (bad (Grammar x))
+
+-- the tree of a text, or the refusal of 1 to 6; 1 comes first
+unfoldable pub readOf : Limits → List ℕ → Read
+readOf L t =
+    let all = endOf t (valueAt L t (L .depth) 0 0 (skip t 0) 0) in
+    cond (ltb (L .bytes) (length t)) (bad TooLong) all
+
+-- 7, after all others: the table has fewer whole rows than the text has values
+unfoldable pub fitOf : Limits → (words : ℕ) → Read → Read
+fitOf L words (bad r) = bad r
+fitOf L words (good f to) = cond (ltb words (L .words * size f)) (bad (Small (size f))) (good f to)
+
+-- a text read for a table of so many words
+unfoldable pub wholeOf : Limits → (words : ℕ) → List ℕ → Read
+wholeOf L words t = fitOf L words (readOf L t)
+
+-- the answer in the paper's numbers: 0 and the row count, or the refusal's two numbers
+unfoldable pub sheetOf : Read → Paper
+sheetOf (good f to) = numbers 0 (size f) 0
+sheetOf (bad r) = refused r
+
+-- the whole table: the rows and zero after them; after a refusal zero
+unfoldable pub tableOf : (words : ℕ) → Read → List ℕ
+tableOf words (good f to) = filled words (rowsOf f)
+tableOf words (bad r) = filled words []

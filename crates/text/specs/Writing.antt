@@ -1,0 +1,61 @@
+-- The text of a document: no white space outside strings, every token as it is; and how a name that was in no text is spelled.
+-- Assumes nothing: these are definitions.
+use Prim.Native.Nat.{ℕ, _+_, _/_, _%_}
+use mathlib.Core.List.{List, [], _∷_, _++_}
+use mathlib.Core.Bool.{Bool, true, false, cond}
+use lib.Dec.{eqb, ltb}
+use Rattle.text.specs.Doc.{Name, Doc, scalar, array, object, Members, empty, member}
+
+-- ---- the compact text
+
+-- between two items, not before the first
+abbrev pub comma : (first : Bool) → List ℕ
+comma true = []
+comma false = 44 ∷ []
+
+abbrev mutual
+  pub written : Doc → List ℕ
+  written (scalar kind token) = token
+  written (array ms) = 91 ∷ writtenEntries ms true
+  written (object ms) = 123 ∷ writtenMembers ms true
+
+  -- the entries of an array from here on, and the closing bracket
+  pub writtenEntries : Members → (first : Bool) → List ℕ
+  writtenEntries empty first = 93 ∷ []
+  writtenEntries (member n label d ms) first = comma first ++ written d ++ writtenEntries ms false
+
+  -- the members of an object from here on, and the closing brace
+  pub writtenMembers : Members → (first : Bool) → List ℕ
+  writtenMembers empty first = 125 ∷ []
+  writtenMembers (member n label d ms) first = comma first ++ label ++ (58 ∷ written d) ++ writtenMembers ms false
+
+-- ---- a new name: escaped only where RFC 8259 demands it (quote, backslash, bytes below 32), by the short escape if there is one,
+-- else by \u00 and two small hexadecimal digits
+
+abbrev pub smallHex : ℕ → ℕ
+smallHex n = cond (ltb n 10) (48 + n) (87 + n)
+
+-- the letter of a byte's short escape, or 0
+abbrev pub shortOf : ℕ → ℕ
+shortOf b =
+    cond (eqb b 34) 34
+    (cond (eqb b 92) 92
+    (cond (eqb b 8) 98
+    (cond (eqb b 9) 116
+    (cond (eqb b 10) 110
+    (cond (eqb b 12) 102
+    (cond (eqb b 13) 114 0))))))
+
+abbrev pub spelledByte : ℕ → List ℕ
+spelledByte b =
+    cond (eqb (shortOf b) 0)
+    (cond (ltb b 32) (92 ∷ 117 ∷ 48 ∷ 48 ∷ smallHex (b / 16) ∷ smallHex (b % 16) ∷ []) (b ∷ []))
+    (92 ∷ shortOf b ∷ [])
+
+abbrev pub spelledBytes : Name → List ℕ
+spelledBytes [] = []
+spelledBytes (b ∷ bs) = spelledByte b ++ spelledBytes bs
+
+-- between its quotes
+abbrev pub spelled : Name → List ℕ
+spelled n = 34 ∷ spelledBytes n ++ (34 ∷ [])
