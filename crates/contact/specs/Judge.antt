@@ -1,0 +1,114 @@
+-- The verdict on a document, by the one table of types: the first breach in the order of the rows, and on one row the smallest number.
+-- Nothing here speaks of places, so a card that is written nowhere can be judged too.
+-- Assumes nothing: these are definitions.
+use Prim.Native.Nat.{ℕ, zero, suc, _+_}
+use mathlib.Core.List.{List, [], _∷_}
+use mathlib.Core.Bool.{Bool, true, false, not, cond, _&&_}
+use lib.Dec.{eqb}
+use Rattle.laws.specs.Order.{same}
+use Rattle.text.specs.Strings.{contentOf}
+use Rattle.text.specs.Doc.{Name, Doc, scalar, array, object, Members, empty, member, kindOf, tokenOf, below, countOf, seek, isThere}
+use Rattle.contact.specs.Schema.{Simple, anyString, exactly, flag, yes, count, time, Keys, free, ids, Ty, any, simple, objectOf, listOf, mapOf, card, Known, properties, typeIn, fits}
+use Rattle.contact.specs.Values.{isId, isCount}
+use Rattle.contact.specs.Dates.{isTime}
+use Rattle.contact.specs.Rules.{breaks}
+
+-- ---- one row
+
+-- 12: a mandatory member isn't there; one of the wrong kind is
+unfoldable pub lacking : List Known → Members → Bool
+lacking [] ms = false
+lacking (k ∷ ks) ms = let more = lacking ks ms in cond (k .mandatory && not (isThere (seek (k .spelling) ms))) true more
+
+abbrev pub lacks : Ty → Members → Bool
+lacks any ms = false
+lacks (simple l) ms = false
+lacks (objectOf o) ms = lacking (properties o) ms
+lacks (listOf ty) ms = false
+lacks (mapOf keys ty) ms = false
+
+-- 13: a value that isn't allowed
+abbrev pub allowedSimple : Simple → (kind : ℕ) → (token : List ℕ) → Bool
+allowedSimple anyString kind token = true
+allowedSimple (exactly n) kind token = same (contentOf token) n
+allowedSimple flag kind token = true
+allowedSimple yes kind token = eqb kind 3
+allowedSimple (count low high) kind token = isCount low high token
+allowedSimple time kind token = isTime (contentOf token)
+
+abbrev pub allowed : Ty → (kind : ℕ) → (token : List ℕ) → Bool
+allowed any kind token = true
+allowed (simple l) kind token = allowedSimple l kind token
+allowed (objectOf o) kind token = true
+allowed (listOf ty) kind token = true
+allowed (mapOf keys ty) kind token = true
+
+-- 14: a rule between members
+abbrev pub breaksRule : Ty → Members → Bool
+breaksRule any ms = false
+breaksRule (simple l) ms = false
+breaksRule (objectOf o) ms = breaks o ms
+breaksRule (listOf ty) ms = false
+breaksRule (mapOf keys ty) ms = false
+
+-- The smallest number that a value breaks by itself, or 0; 11 where its kind isn't the type's, and then it isn't looked into.
+-- `key` is whether it stands under a key that its map allows: a key that is no Id is 13 on the value's row
+unfoldable pub rowNumber : Ty → (key : Bool) → Doc → ℕ
+rowNumber ty key d =
+    let fine : ℕ = cond (breaksRule ty (below d)) 14 0 in
+    let value : ℕ = cond (key && allowed ty (kindOf d) (tokenOf d)) fine 13 in
+    let whole : ℕ = cond (lacks ty (below d)) 12 value in
+    cond (fits ty (kindOf d)) whole 11
+
+-- ---- what stands below
+
+-- the type of a member of that name, and whether its key is allowed (13 is on the member's value)
+abbrev pub memberType : Ty → Name → Ty
+memberType any n = any
+memberType (simple l) n = any
+memberType (objectOf o) n = typeIn (properties o) n
+memberType (listOf ty) n = ty
+memberType (mapOf keys ty) n = ty
+
+abbrev pub keyIn : Keys → Name → Bool
+keyIn free n = true
+keyIn ids n = isId n
+
+abbrev pub keyFits : Ty → Name → Bool
+keyFits any n = true
+keyFits (simple l) n = true
+keyFits (objectOf o) n = true
+keyFits (listOf ty) n = true
+keyFits (mapOf keys ty) n = keyIn keys n
+
+-- ---- the first breach
+
+pub data Breach : Type 0 where
+  nothing : Breach
+  found : (row number : ℕ) → Breach
+
+abbrev pub onRow : (number row : ℕ) → Breach → Breach
+onRow zero row inside = inside
+onRow (suc n) row inside = found row (suc n)
+
+abbrev pub orElse : Breach → Breach → Breach
+orElse nothing after = after
+orElse (found row number) after = found row number
+
+unfoldable mutual
+  -- a value of a type, on a row
+  pub breachOf : Ty → (key : Bool) → (row : ℕ) → Doc → Breach
+  breachOf ty key row (scalar kind token) = onRow (rowNumber ty key (scalar kind token)) row nothing
+  breachOf ty key row (array ms) = let inside = breachAmong ty (row + 1) ms in onRow (rowNumber ty key (array ms)) row inside
+  breachOf ty key row (object ms) = let inside = breachAmong ty (row + 1) ms in onRow (rowNumber ty key (object ms)) row inside
+
+  -- the members of a value of a type, the first of which is on a row
+  pub breachAmong : Ty → (row : ℕ) → Members → Breach
+  breachAmong ty row empty = nothing
+  breachAmong ty row (member n label d ms) =
+      let after = breachAmong ty (row + countOf d) ms in
+      orElse (breachOf (memberType ty n) (keyFits ty n) row d) after
+
+-- a whole card
+abbrev pub cardBreach : Doc → Breach
+cardBreach d = breachOf (objectOf card) true 0 d

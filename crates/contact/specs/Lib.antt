@@ -1,0 +1,9 @@
+pub mod Schema
+pub mod Values
+pub mod Dates
+pub mod Rules
+pub mod Judge
+pub mod Verdict
+pub mod Pointer
+pub mod Patch
+pub mod Localize

@@ -1,0 +1,113 @@
+-- Localizing: from a card text and a language to the localized card in the lent output and its rows in the lent table, or the refusal.
+-- Assumes nothing: these are definitions.
+use Prim.Native.Nat.{ℕ}
+use mathlib.Core.List.{List, []}
+use mathlib.Core.Bool.{cond}
+use mathlib.Core.Option.{Option, none, some}
+use lib.ListN.{length}
+use lib.Dec.{ltb}
+use Rattle.text.specs.Limits.{Limits}
+use Rattle.text.specs.Text.{bytes}
+use Rattle.laws.specs.Lists.{filled}
+use Rattle.text.specs.Tree.{Forest, size, rowsOf}
+use Rattle.text.specs.Doc.{Name, Doc, scalar, array, object, Members, Property, docOf}
+use Rattle.text.specs.Writing.{written}
+use Rattle.contact.specs.Verdict.{Judged, passed, failed, judgedOf, refusedCard}
+use Rattle.text.specs.Sheet.{Paper, numbers}
+use Rattle.contact.specs.Pointer.{Pointer, last, down, find}
+use Rattle.contact.specs.Patch.{Entry, entriesOf, anyBadKey, anyOwn, anyClash, anyWalk, isInArray, isNoObject, without, inObject, applied}
+use Rattle.contact.specs.declared.LocalRefusal.{LocalRefusal}
+use Rattle.contact.specs.declared.LocalRefusal.the-variants.{Given, NoLanguage, BadKey, OwnLocalizations, Clash, InArray, NoObject, Short, Inner}
+use Rattle.contact.specs.declared.Localized.{Localized}
+use Rattle.contact.specs.declared.Localized.the-variants.{Written, Denied}
+
+-- ---- the sheet's lines 21 to 28; 28 hands out the inner refusal's number alone
+
+unfoldable pub refusedLocal : LocalRefusal → Paper
+refusedLocal (Given r) = refusedCard r
+refusedLocal NoLanguage = numbers 21 0 0
+refusedLocal BadKey = numbers 22 0 0
+refusedLocal OwnLocalizations = numbers 23 0 0
+refusedLocal Clash = numbers 24 0 0
+refusedLocal InArray = numbers 25 0 0
+refusedLocal NoObject = numbers 26 0 0
+refusedLocal (Short n) = numbers 27 n 0
+refusedLocal (Inner r) = numbers 28 (refusedCard r .number) 0
+
+unfoldable pub paperOfLocalized : Localized → Paper
+paperOfLocalized (Written rows n) = numbers 0 rows n
+paperOfLocalized (Denied r) = refusedLocal r
+
+-- ---- localizing
+
+-- the text of the localized card and its tree, or the refusal
+pub data Outcome : Type 0 where
+  done : (text : List ℕ) → Forest → Outcome
+  denied : LocalRefusal → Outcome
+
+-- the starting point: the card without `localizations`
+abbrev pub start : Doc → Doc
+start card = inObject (without (bytes "localizations")) card
+
+-- where a language's PatchObject is
+abbrev pub patchAt : Name → Pointer
+patchAt lang = down (bytes "localizations") (last lang)
+
+module _ (L : Limits) (words room : ℕ) where
+  -- 28: the localized card would itself be refused. It is judged as any text is, for the same table, and its rows are those of reading it
+  unfoldable pub byJudge : (text : List ℕ) → Judged → Outcome
+  byJudge text (passed f) = done text f
+  byJudge text (failed r) = denied (Inner r)
+
+  -- 27: the output is shorter than needed
+  unfoldable pub byRoom : (text : List ℕ) → Outcome
+  byRoom text =
+      let all = byJudge text (judgedOf L words text) in
+      cond (ltb room (length text)) (denied (Short (length text))) all
+
+  -- 22 to 26, the smallest number first, each over all entries; then what the entries make of d, the card without its localizations
+  unfoldable pub byEntries : (d : Doc) → Members → List Entry → Outcome
+  byEntries d ms es =
+      let all = byRoom (written (applied d es)) in
+      let parents = cond (anyWalk isInArray es d) (denied InArray) (cond (anyWalk isNoObject es d) (denied NoObject) all) in
+      cond (anyBadKey ms) (denied BadKey)
+      (cond (anyOwn es) (denied OwnLocalizations)
+      (cond (anyClash es) (denied Clash) parents))
+
+  -- the PatchObject; judging has seen to it that it is an object
+  unfoldable pub inPatch : (d : Doc) → (patch : Doc) → Outcome
+  inPatch d (scalar kind token) = denied NoLanguage
+  inPatch d (array ms) = denied NoLanguage
+  inPatch d (object ms) = byEntries d ms (entriesOf ms)
+
+  -- 21: no such language in the card
+  unfoldable pub withPatch : (d : Doc) → Option Property → Outcome
+  withPatch d none = denied NoLanguage
+  withPatch d (some p) = inPatch d (p .content)
+
+  unfoldable pub localizedDoc : (card : Doc) → (lang : Name) → Outcome
+  localizedDoc card lang = withPatch (start card) (find (patchAt lang) card)
+
+  -- the card's own refusal comes first
+  unfoldable pub localizedJudged : (text : List ℕ) → (lang : Name) → Judged → Outcome
+  localizedJudged text lang (failed r) = denied (Given r)
+  localizedJudged text lang (passed f) = localizedDoc (docOf text f) lang
+
+  -- a text localized, for a table of so many words and an output of so many bytes
+  unfoldable pub localizedOf : (text : List ℕ) → (lang : Name) → Outcome
+  localizedOf text lang = localizedJudged text lang (judgedOf L words text)
+
+-- ---- the answer, the whole table and the whole output
+
+-- in the paper's numbers: 0, the row count and the output's length; or the refusal's number and its second number
+unfoldable pub sheetOfOutcome : Outcome → Paper
+sheetOfOutcome (done text f) = numbers 0 (size f) (length text)
+sheetOfOutcome (denied r) = refusedLocal r
+
+unfoldable pub tableOfOutcome : (words : ℕ) → Outcome → List ℕ
+tableOfOutcome words (done text f) = filled words (rowsOf f)
+tableOfOutcome words (denied r) = filled words []
+
+unfoldable pub outputOfOutcome : (room : ℕ) → Outcome → List ℕ
+outputOfOutcome room (done text f) = filled room text
+outputOfOutcome room (denied r) = filled room []

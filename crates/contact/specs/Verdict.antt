@@ -1,0 +1,70 @@
+-- What judging a text answers, and what it leaves in a lent table of so many words.
+-- Assumes nothing: these are definitions.
+use Prim.Native.Nat.{ℕ}
+use mathlib.Core.List.{List, []}
+use mathlib.Core.Bool.{cond}
+use lib.ListN.{getD}
+use lib.Dec.{eqb}
+use Rattle.text.specs.Limits.{Limits}
+use Rattle.laws.specs.Lists.{filled}
+use Rattle.text.specs.Tree.{Forest, size, rowsOf, startsOf}
+use Rattle.text.specs.Reader.{Read, good, bad}
+use Rattle.text.specs.Sheet.{Paper, numbers, refused}
+use Rattle.text.specs.Whole.{wholeOf}
+use Rattle.text.specs.Doc.{docOf}
+use Rattle.contact.specs.Judge.{Breach, nothing, found, cardBreach}
+use Rattle.contact.specs.declared.Fault.{Fault}
+use Rattle.contact.specs.declared.Fault.the-variants.{Kind, Missing, Value, Rule}
+use Rattle.contact.specs.declared.CardRefusal.{CardRefusal}
+use Rattle.contact.specs.declared.CardRefusal.the-variants.{Text, Card}
+use Rattle.contact.specs.declared.Verdict.{Verdict}
+use Rattle.contact.specs.declared.Verdict.the-variants.{Passed, Failed}
+
+-- ---- the sheet's lines 11 to 14
+
+unfoldable pub refusedFault : Fault → Paper
+refusedFault (Kind p) = numbers 11 p 0
+refusedFault (Missing p) = numbers 12 p 0
+refusedFault (Value p) = numbers 13 p 0
+refusedFault (Rule p) = numbers 14 p 0
+
+unfoldable pub refusedCard : CardRefusal → Paper
+refusedCard (Text r) = refused r
+refusedCard (Card f) = refusedFault f
+
+unfoldable pub paperOfVerdict : Verdict → Paper
+paperOfVerdict (Passed n) = numbers 0 n 0
+paperOfVerdict (Failed r) = refusedCard r
+
+-- ---- judging
+
+-- the tree of a card that passes, or the refusal
+pub data Judged : Type 0 where
+  passed : Forest → Judged
+  failed : CardRefusal → Judged
+
+unfoldable pub faultOf : (number place : ℕ) → Fault
+faultOf number p = cond (eqb number 11) (Kind p) (cond (eqb number 12) (Missing p) (cond (eqb number 13) (Value p) (Rule p)))
+
+-- the place of a breach is where the value of its row starts
+unfoldable pub placed : Forest → Breach → Judged
+placed f nothing = passed f
+placed f (found row number) = failed (Card (faultOf number (getD (startsOf f) row 0)))
+
+unfoldable pub judgedRead : List ℕ → Read → Judged
+judgedRead t (bad r) = failed (Text r)
+judgedRead t (good f to) = placed f (cardBreach (docOf t f))
+
+-- a text judged for a table of so many words: 1 to 7 come first, then 11 to 14
+unfoldable pub judgedOf : Limits → (words : ℕ) → List ℕ → Judged
+judgedOf L words t = judgedRead t (wholeOf L words t)
+
+-- the answer in the paper's numbers: 0 and the row count, or the refusal's two numbers; this is the line that the program prints
+unfoldable pub sheetOfJudged : Judged → Paper
+sheetOfJudged (passed f) = numbers 0 (size f) 0
+sheetOfJudged (failed r) = refusedCard r
+
+-- the whole table: the rows and zero after them; after a refusal zero
+unfoldable pub tableOfJudged : (words : ℕ) → Judged → List ℕ
+tableOfJudged words (passed f) = filled words (rowsOf f)
+tableOfJudged words (failed r) = filled words []
