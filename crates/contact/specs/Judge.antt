@@ -62,7 +62,7 @@ rowNumber ty key d =
 
 -- ---- what stands below
 
--- the type of a member of that name, and whether its key is allowed (13 is on the member's value)
+-- the type of a member of that name
 abbrev pub memberType : Ty → Name → Ty
 memberType any n = any
 memberType (simple l) n = any
@@ -70,16 +70,17 @@ memberType (objectOf o) n = typeIn (properties o) n
 memberType (listOf ty) n = ty
 memberType (mapOf keys ty) n = ty
 
-abbrev pub keyIn : Keys → Name → Bool
-keyIn free n = true
-keyIn ids n = isId n
+-- Is the key of an entry allowed (13 is on the entry's value)? The test has the keys before it too, the nearest first.
+abbrev pub keyIn : Keys → (earlier : List Name) → Name → Bool
+keyIn free earlier n = true
+keyIn ids earlier n = isId n
 
-abbrev pub keyFits : Ty → Name → Bool
-keyFits any n = true
-keyFits (simple l) n = true
-keyFits (objectOf o) n = true
-keyFits (listOf ty) n = true
-keyFits (mapOf keys ty) n = keyIn keys n
+abbrev pub keyFits : Ty → (earlier : List Name) → Name → Bool
+keyFits any earlier n = true
+keyFits (simple l) earlier n = true
+keyFits (objectOf o) earlier n = true
+keyFits (listOf ty) earlier n = true
+keyFits (mapOf keys ty) earlier n = keyIn keys earlier n
 
 -- ---- the first breach
 
@@ -99,15 +100,15 @@ unfoldable mutual
   -- a value of a type, on a row
   pub breachOf : Ty → (key : Bool) → (row : ℕ) → Doc → Breach
   breachOf ty key row (scalar kind token) = onRow (rowNumber ty key (scalar kind token)) row nothing
-  breachOf ty key row (array ms) = let inside = breachAmong ty (row + 1) ms in onRow (rowNumber ty key (array ms)) row inside
-  breachOf ty key row (object ms) = let inside = breachAmong ty (row + 1) ms in onRow (rowNumber ty key (object ms)) row inside
+  breachOf ty key row (array ms) = let inside = breachAmong ty [] (row + 1) ms in onRow (rowNumber ty key (array ms)) row inside
+  breachOf ty key row (object ms) = let inside = breachAmong ty [] (row + 1) ms in onRow (rowNumber ty key (object ms)) row inside
 
-  -- the members of a value of a type, the first of which is on a row
-  pub breachAmong : Ty → (row : ℕ) → Members → Breach
-  breachAmong ty row empty = nothing
-  breachAmong ty row (member n label d ms) =
-      let after = breachAmong ty (row + countOf d) ms in
-      orElse (breachOf (memberType ty n) (keyFits ty n) row d) after
+  -- the members of a value of a type after those of the earlier names, the first of them on a row
+  pub breachAmong : Ty → (earlier : List Name) → (row : ℕ) → Members → Breach
+  breachAmong ty earlier row empty = nothing
+  breachAmong ty earlier row (member n label d ms) =
+      let after = breachAmong ty (n ∷ earlier) (row + countOf d) ms in
+      orElse (breachOf (memberType ty n) (keyFits ty earlier n) row d) after
 
 -- a whole card
 abbrev pub cardBreach : Doc → Breach
