@@ -2,9 +2,11 @@ pub mod Limits
 pub mod Text
 pub mod Chars
 pub mod Strings
+pub mod Spelling
 pub mod Sheet
 pub mod Tokens
 pub mod Tree
+pub mod Standing
 pub mod Reader
 pub mod Whole
 pub mod Doc
