@@ -7,3 +7,6 @@ pub mod Verdict
 pub mod Pointer
 pub mod Patch
 pub mod Localize
+pub mod Likeness
+pub mod Entries
+pub mod Demand

@@ -1,0 +1,2 @@
+-- The theorems over the definitions of specs/, by subject.
+pub mod Patching
