@@ -11,3 +11,10 @@ pub mod Single
 pub mod Reorder
 pub mod Distinct
 pub mod Ascending
+pub mod Apart
+pub mod Tilde
+pub mod Ways
+pub mod Found
+pub mod Refused
+pub mod Public
+pub mod Demand

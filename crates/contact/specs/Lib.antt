@@ -9,4 +9,5 @@ pub mod Patch
 pub mod Localize
 pub mod Likeness
 pub mod Entries
+pub mod Conditions
 pub mod Demand
