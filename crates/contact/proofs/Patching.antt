@@ -1,5 +1,6 @@
 -- How a localization is applied, over documents: each file says what it proves.
 pub mod Names
+pub mod Pointers
 pub mod Seek
 pub mod Applied
 pub mod Entries
@@ -18,3 +19,5 @@ pub mod Found
 pub mod Refused
 pub mod Public
 pub mod Demand
+pub mod Weigh
+pub mod Room

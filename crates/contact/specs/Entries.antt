@@ -1,11 +1,12 @@
 -- What the theorems on localizing say of entries and pointers: prefixes, what a pointer names, enters or covers, entries in another order.
 -- Assumes nothing: these are definitions.
-use Prim.Native.Nat.{ℕ}
+use Prim.Native.Nat.{ℕ, _≤_}
 use mathlib.Core.Path.{_≡_}
 use mathlib.Core.Logic.{_≢_}
 use mathlib.Core.Bool.{true}
 use mathlib.Core.List.{List, [], _∷_, _++_}
 use mathlib.Core.Option.{Option, none, some}
+use lib.ListN.{length}
 use Rattle.laws.specs.Order.{before}
 use Rattle.text.specs.Doc.{Name, Doc, Members, empty, member, Property, property}
 use Rattle.text.specs.Writing.{spelled}
@@ -105,3 +106,10 @@ Above n (member m label d ms) = (before n m ≡ true) × Above n ms
 abbrev pub Ascending : Members → Type 0
 Ascending empty = Unit {0}
 Ascending (member n label d ms) = Above n ms × Ascending ms
+
+-- ---- names as written
+
+-- each name is written at least as long as its shortest spelling, as every name that a text has
+abbrev pub LongEnough : Members → Type 0
+LongEnough empty = Unit {0}
+LongEnough (member n label d ms) = (length (spelled n) ≤ length label) × LongEnough ms

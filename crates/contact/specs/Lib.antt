@@ -5,6 +5,7 @@ pub mod Rules
 pub mod Judge
 pub mod Verdict
 pub mod Pointer
+pub mod PointerText
 pub mod Patch
 pub mod Localize
 pub mod Likeness
