@@ -21,3 +21,4 @@ pub mod Public
 pub mod Demand
 pub mod Weigh
 pub mod Room
+pub mod Contract

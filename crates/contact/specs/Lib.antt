@@ -12,3 +12,5 @@ pub mod Likeness
 pub mod Entries
 pub mod Conditions
 pub mod Demand
+pub mod Contract
+pub mod LocalizeSpecimens
