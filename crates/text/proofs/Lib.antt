@@ -2,3 +2,4 @@
 pub mod Walks
 pub mod Laws
 pub mod Spelling
+pub mod StringSpecimens

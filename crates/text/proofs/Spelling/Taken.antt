@@ -12,7 +12,7 @@ use lib.ListN.{length, drop, length-append}
 use borrow.Author.Tests.{lt-ltb, le-ltb, ne-eqb}
 use Rattle.laws.proofs.Splits.{there, first-there, beyond}
 use Rattle.text.specs.Text.{byteAt}
-use Rattle.text.specs.Chars.{tailAt, rawAt, lowAt, pairAt, unitAt, onHex, escapeAt, stepBy, stepAt, hex4At}
+use Rattle.text.specs.Chars.{checkedAt, seq3, seq4, tailAt, rawAt, lowAt, pairAt, unitAt, onHex, escapeAt, stepBy, stepAt, hex4At}
 use Rattle.text.specs.Strings.{utf8}
 use Rattle.text.specs.Spelling.{Good, Unescaped, FourDigits, Short, Spell, raw, short, unit, pair}
 use Rattle.text.specs.declared.Hex.the-variants.{Unit}
@@ -23,6 +23,11 @@ use Rattle.text.proofs.Spelling.Digits.{short-letter, short-some, four-
 -- ---- raw characters ----
 
 module _ (t : List ℕ) (i : ℕ) where
+  -- a byte of 128 or more begins a raw character
+  high-step : (b : ℕ) → byteAt t i ≡ b → 128 ≤ b → b < 256 → stepAt t i ≡ rawAt t i b
+  unfolding stepBy
+  high-step b p lo hi = simp (p, ne-eqb b 34 (omega arith), ne-eqb b 92 (omega arith), le-ltb b 32 (omega arith), le-ltb b 128 lo, lt-ltb b 256 hi)
+
   raw-step : (c : ℕ) → Good c → Unescaped c → (r : List ℕ) → drop i t ≡ utf8 c ++ r → stepAt t i ≡ Char c (length (utf8 c))
   unfolding stepBy rawAt tailAt
   raw-step c g u r =
@@ -35,73 +40,32 @@ module _ (t : List ℕ) (i : ℕ) where
       let b1 : ℕ = 128 + c % 64 in
       let p0 : byteAt t i ≡ b = first-there t i b (b1 ∷ r) e 256 in
       let p1 : byteAt t (i + 1) ≡ b1 = there t i (b ∷ b1 ∷ []) r e 1 256 (omega arith) in
-      simp (
-        p0,
-        p1,
-        ne-eqb b 34 (omega arith),
-        ne-eqb b 92 (omega arith),
-        le-ltb b 32 (omega arith),
-        le-ltb b 128 (omega arith),
-        lt-ltb b 256 (omega arith),
-        le-ltb b 192 (omega arith),
-        lt-ltb b 224 (omega arith),
-        tail-bits (c % 64) (omega arith),
-        joined2 c lo hi,
-        good-checked i c 2 g,
-      ))
+      high-step b p0 (omega arith) (omega arith)
+      ∙ simp (p1, le-ltb b 192 (omega arith), lt-ltb b 224 (omega arith), tail-bits (c % 64) (omega arith), joined2 c lo hi, good-checked i c 2 g))
       (λ lo hi e.
       let b : ℕ = 224 + c / 4096 % 16 in
-      let b1 : ℕ = 128 + c / 64 % 64 in
-      let b2 : ℕ = 128 + c % 64 in
-      let p0 : byteAt t i ≡ b = first-there t i b (b1 ∷ b2 ∷ r) e 256 in
-      let p1 : byteAt t (i + 1) ≡ b1 = there t i (b ∷ b1 ∷ b2 ∷ []) r e 1 256 (omega arith) in
-      let p2 : byteAt t (i + 2) ≡ b2 = there t i (b ∷ b1 ∷ b2 ∷ []) r e 2 256 (omega arith) in
-      simp (
-        p0,
-        p1,
-        p2,
-        ne-eqb b 34 (omega arith),
-        ne-eqb b 92 (omega arith),
-        le-ltb b 32 (omega arith),
-        le-ltb b 128 (omega arith),
-        lt-ltb b 256 (omega arith),
-        le-ltb b 192 (omega arith),
-        le-ltb b 224 (omega arith),
-        lt-ltb b 240 (omega arith),
-        tail-bits (c / 64 % 64) (omega arith),
-        tail-bits (c % 64) (omega arith),
-        joined3 c lo hi,
-        good-checked i c 3 g,
-      ))
+      let x : ℕ = c / 64 % 64 in
+      let y : ℕ = c % 64 in
+      let w : List ℕ = b ∷ (128 + x) ∷ (128 + y) ∷ [] in
+      let p0 : byteAt t i ≡ b = first-there t i b ((128 + x) ∷ (128 + y) ∷ r) e 256 in
+      let p1 : byteAt t (i + 1) ≡ 128 + x = there t i w r e 1 256 (omega arith) in
+      let p2 : byteAt t (i + 2) ≡ 128 + y = there t i w r e 2 256 (omega arith) in
+      let first : rawAt t i b ≡ checkedAt i (seq3 b (tailAt t (i + 1)) (tailAt t (i + 2))) 3 = simp (le-ltb b 192 (omega arith), le-ltb b 224 (omega arith), lt-ltb b 240 (omega arith)) in
+      high-step b p0 (omega arith) (omega arith) ∙ first ∙ simp (p1, p2, tail-bits x (omega arith), tail-bits y (omega arith), joined3 c lo hi, good-checked i c 3 g))
       (λ lo e.
       let b : ℕ = 240 + c / 262144 % 8 in
-      let b1 : ℕ = 128 + c / 4096 % 64 in
-      let b2 : ℕ = 128 + c / 64 % 64 in
-      let b3 : ℕ = 128 + c % 64 in
-      let p0 : byteAt t i ≡ b = first-there t i b (b1 ∷ b2 ∷ b3 ∷ r) e 256 in
-      let p1 : byteAt t (i + 1) ≡ b1 = there t i (b ∷ b1 ∷ b2 ∷ b3 ∷ []) r e 1 256 (omega arith) in
-      let p2 : byteAt t (i + 2) ≡ b2 = there t i (b ∷ b1 ∷ b2 ∷ b3 ∷ []) r e 2 256 (omega arith) in
-      let p3 : byteAt t (i + 3) ≡ b3 = there t i (b ∷ b1 ∷ b2 ∷ b3 ∷ []) r e 3 256 (omega arith) in
-      simp (
-        p0,
-        p1,
-        p2,
-        p3,
-        ne-eqb b 34 (omega arith),
-        ne-eqb b 92 (omega arith),
-        le-ltb b 32 (omega arith),
-        le-ltb b 128 (omega arith),
-        lt-ltb b 256 (omega arith),
-        le-ltb b 192 (omega arith),
-        le-ltb b 224 (omega arith),
-        le-ltb b 240 (omega arith),
-        lt-ltb b 248 (omega arith),
-        tail-bits (c / 4096 % 64) (omega arith),
-        tail-bits (c / 64 % 64) (omega arith),
-        tail-bits (c % 64) (omega arith),
-        joined4 c lo (g .scalar .in-range),
-        good-checked i c 4 g,
-      ))
+      let x : ℕ = c / 4096 % 64 in
+      let y : ℕ = c / 64 % 64 in
+      let z : ℕ = c % 64 in
+      let w : List ℕ = b ∷ (128 + x) ∷ (128 + y) ∷ (128 + z) ∷ [] in
+      let p0 : byteAt t i ≡ b = first-there t i b ((128 + x) ∷ (128 + y) ∷ (128 + z) ∷ r) e 256 in
+      let p1 : byteAt t (i + 1) ≡ 128 + x = there t i w r e 1 256 (omega arith) in
+      let p2 : byteAt t (i + 2) ≡ 128 + y = there t i w r e 2 256 (omega arith) in
+      let p3 : byteAt t (i + 3) ≡ 128 + z = there t i w r e 3 256 (omega arith) in
+      let first : rawAt t i b ≡ checkedAt i (seq4 b (tailAt t (i + 1)) (tailAt t (i + 2)) (tailAt t (i + 3))) 4 =
+      simp (le-ltb b 192 (omega arith), le-ltb b 224 (omega arith), le-ltb b 240 (omega arith), lt-ltb b 248 (omega arith)) in
+      high-step b p0 (omega arith) (omega arith) ∙ first
+      ∙ simp (p1, p2, p3, tail-bits x (omega arith), tail-bits y (omega arith), tail-bits z (omega arith), joined4 c lo (g .scalar .in-range), good-checked i c 4 g))
 
   -- ---- escapes ----
 
