@@ -44,9 +44,9 @@ unfolding orderOf
 returns c =
     rw (
       ← c .before .before .before .before .before .before .loop .inv,
-      ← c .before .before .before .before .before .next-byte .ensures,
+      ← c .before .before .before .before .before .next-byte .ensures .0,
       c .before .before .before .enum-told .given .1,
-      ← c .before .before .next-byte2 .ensures,
+      ← c .before .before .next-byte2 .ensures .0,
       c .enum-told2 .given .1,
     )
 
@@ -55,9 +55,9 @@ unfolding orderOf
 returns-2 c =
     rw (
       ← c .before .before .before .before .before .before .loop .inv,
-      ← c .before .before .before .before .before .next-byte .ensures,
+      ← c .before .before .before .before .before .next-byte .ensures .0,
       c .before .before .before .enum-told .given .1,
-      ← c .before .before .next-byte2 .ensures,
+      ← c .before .before .next-byte2 .ensures .0,
       c .enum-told3 .given .1,
     )
 
@@ -75,9 +75,9 @@ unfolding orderOf
 returns-3 c =
     rw (
       ← c .before .before .before .before .before .before .before .loop .inv,
-      ← c .before .before .before .before .before .before .next-byte .ensures,
+      ← c .before .before .before .before .before .before .next-byte .ensures .0,
       c .before .before .before .before .p .given .1,
-      ← c .before .before .next-byte3 .ensures,
+      ← c .before .before .next-byte3 .ensures .0,
       c .enum-told4 .given .1,
     )
 
@@ -89,9 +89,9 @@ unfolding orderOf
 returns-4 c =
     rw (
       ← c .before .before .before .before .before .before .before .before .before .loop .inv,
-      ← c .before .before .before .before .before .before .before .before .next-byte .ensures,
+      ← c .before .before .before .before .before .before .before .before .next-byte .ensures .0,
       c .before .before .before .before .before .before .p .given .1,
-      ← c .before .before .before .before .next-byte3 .ensures,
+      ← c .before .before .before .before .next-byte3 .ensures .0,
       c .before .before .q .given .1,
     )
     (search picks)
@@ -101,9 +101,9 @@ unfolding orderOf
 returns-5 c =
     rw (
       ← c .before .before .before .before .before .before .before .before .before .before .loop .inv,
-      ← c .before .before .before .before .before .before .before .before .before .next-byte .ensures,
+      ← c .before .before .before .before .before .before .before .before .before .next-byte .ensures .0,
       c .before .before .before .before .before .before .before .p .given .1,
-      ← c .before .before .before .before .before .next-byte3 .ensures,
+      ← c .before .before .before .before .before .next-byte3 .ensures .0,
       c .before .before .before .q .given .1,
     )
     (search picks)
@@ -112,16 +112,16 @@ loop-less : tie.Need-loop-less Inv-loop μ-loop
 loop-less c =
     let a = now (c .before .before .before .before .before .before .before .before .before .before .before .before .before .args .a) in
     let x = c .before .before .before .before .before .before .before .before .before .before .loop .x in
-    omega (arith, ap length (handed a x (c .before .before .before .before .before .before .before .before .before .next-byte .ensures) (c .before .before .before .before .before .before .before .p .given .1)))
+    omega (arith, ap length (handed a x (c .before .before .before .before .before .before .before .before .before .next-byte .ensures .0) (c .before .before .before .before .before .before .before .p .given .1)))
 
 loop-again : tie.Need-loop-again Inv-loop μ-loop
 unfolding orderOf
 loop-again c =
     rw (
       ← c .before .before .before .before .before .before .before .before .before .before .loop .inv,
-      ← c .before .before .before .before .before .before .before .before .before .next-byte .ensures,
+      ← c .before .before .before .before .before .before .before .before .before .next-byte .ensures .0,
       c .before .before .before .before .before .before .before .p .given .1,
-      ← c .before .before .before .before .before .next-byte3 .ensures,
+      ← c .before .before .before .before .before .next-byte3 .ensures .0,
       c .before .before .before .q .given .1,
     )
     (search picks)

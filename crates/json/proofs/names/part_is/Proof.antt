@@ -42,7 +42,7 @@ returns c =
     let eb = drop-of-length-le l (ended l i (omega (arith, c .before .before .before .before .before .before .shared-slice-known2 .given i)) (cc)) in
     rw (
       ← c .before .before .before .before .before .loop .inv .0,
-      ← c .before .before .before .next-byte .ensures,
+      ← c .before .before .before .next-byte .ensures .0,
       c .before .enum-told .given .1,
       eb,
     )
@@ -55,7 +55,7 @@ returns-2 c =
     let eb = drop-byte l i (inside l i (omega arith)) in
     rw (
       ← c .before .before .before .before .before .loop .inv .0,
-      ← c .before .before .before .next-byte .ensures,
+      ← c .before .before .before .next-byte .ensures .0,
       c .before .enum-told .given .1,
       eb,
     )
@@ -73,7 +73,7 @@ returns-3 c =
     let ne : (c .before .before .p .given .0 .0 ≡ getD l i 256 → ⊥) = omega arith in
     rw (
       ← c .before .before .before .before .before .before .loop .inv .0,
-      ← c .before .before .before .before .next-byte .ensures,
+      ← c .before .before .before .before .next-byte .ensures .0,
       c .before .before .p .given .1,
     )
     (sym (absent l i _ _ ne))
@@ -89,7 +89,7 @@ loop-less : tie.Need-loop-less Inv-loop μ-loop
 loop-less c =
     let a = now (c .before .before .before .before .before .before .before .before .before .args .a) in
     let x = c .before .before .before .before .before .before .loop .x in
-    omega (arith, ap length (handed a x (c .before .before .before .before .next-byte .ensures) (c .before .before .p .given .1)))
+    omega (arith, ap length (handed a x (c .before .before .before .before .next-byte .ensures .0) (c .before .before .p .given .1)))
 
 loop-again : tie.Need-loop-again Inv-loop μ-loop
 loop-again c =
@@ -98,7 +98,7 @@ loop-again c =
     let h : i < length l = inside l i (omega arith) in (
       rw (
         ← c .before .before .before .before .before .before .loop .inv .0,
-        ← c .before .before .before .before .next-byte .ensures,
+        ← c .before .before .before .before .next-byte .ensures .0,
         c .before .before .p .given .1,
         drop-byte l i h,
       )
