@@ -6,13 +6,24 @@ ghost use mathlib.Core.Path.{_≡_};
 ghost use Prim.Native.Nat.{ℕ};
 ghost use mathlib.Core.List.{List, _++_};
 ghost use Rattle.text.specs.Strings.{utf8, decodeFrom};
-ghost use Rattle.json.specs.Cursors.{rest, unread, firstOf, freshOf, nextOf};
+ghost use Rattle.json.specs.Cursors.{cursor, rest, unread, firstOf, freshOf, nextOf};
 
 // A place in a string's inner bytes, and the continuation bytes (at most three) of the code point `code` that are still to be handed out.
 pub struct Cursor {
     pub at: usize,
     pub code: u32,
     pub left: u8,
+}
+
+// A cursor at the start of a string's inner bytes.
+pub fn start() -> Cursor
+    ensures { λ r. ⌜ r ≡ cursor 0 0 0 ⌝ }
+{
+    Cursor {
+        at: 0,
+        code: 0,
+        left: 0,
+    }
 }
 
 pub enum Next {

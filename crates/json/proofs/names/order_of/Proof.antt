@@ -20,9 +20,15 @@ Inv-loop a b x₀ y₀ x y = orderOf (rest a x) (rest b y) ≡ orderOf (decode a
 abbrev μ-loop : tie.MeasureT-loop
 μ-loop a b x₀ y₀ x y = length (rest a x)
 
+start-requires : tie.Need-start-requires Inv-loop μ-loop
+start-requires c κs = search needs
+
+start-requires-2 : tie.Need-start-requires-2 Inv-loop μ-loop
+start-requires-2 c κs = search needs
+
 loop-holds : tie.Need-loop-holds Inv-loop μ-loop
 unfolding conts
-loop-holds c = refl
+loop-holds c = rw (c .before .start .ensures, c .start2 .ensures) refl
 
 next-byte-requires : tie.Need-next-byte-requires Inv-loop μ-loop
 next-byte-requires c κs = search needs
@@ -110,7 +116,7 @@ returns-5 c =
 
 loop-less : tie.Need-loop-less Inv-loop μ-loop
 loop-less c =
-    let a = now (c .before .before .before .before .before .before .before .before .before .before .before .before .before .args .a) in
+    let a = now (c .before .before .before .before .before .before .before .before .before .before .before .before .before .before .before .args .a) in
     let x = c .before .before .before .before .before .before .before .before .before .before .loop .x in
     omega (arith, ap length (handed a x (c .before .before .before .before .before .before .before .before .before .next-byte .ensures .0) (c .before .before .before .before .before .before .before .p .given .1)))
 
@@ -132,6 +138,8 @@ order-of-spec =
     (tie.spec
     Inv-loop
     μ-loop
+    start-requires
+    start-requires-2
     loop-holds
     next-byte-requires
     enum-told
