@@ -12,3 +12,4 @@ pub mod Reader
 pub mod Whole
 pub mod Doc
 pub mod Writing
+pub mod Fewer
