@@ -3,3 +3,4 @@ pub mod Walks
 pub mod Laws
 pub mod Standing
 pub mod Fewer
+pub mod Induction
