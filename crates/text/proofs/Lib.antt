@@ -4,3 +4,4 @@ pub mod Laws
 pub mod Standing
 pub mod Fewer
 pub mod Induction
+pub mod Documents
