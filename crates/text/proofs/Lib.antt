@@ -5,3 +5,5 @@ pub mod Standing
 pub mod Fewer
 pub mod Induction
 pub mod Documents
+pub mod Spelling
+pub mod StringSpecimens

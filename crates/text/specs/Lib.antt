@@ -3,6 +3,7 @@ pub mod Text
 pub mod Chars
 pub mod Strings
 pub mod Spelling
+pub mod Broken
 pub mod Sheet
 pub mod Tokens
 pub mod Tree
