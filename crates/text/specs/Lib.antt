@@ -7,6 +7,7 @@ pub mod Sheet
 pub mod Tokens
 pub mod Tree
 pub mod Standing
+pub mod Firsts
 pub mod Reader
 pub mod Whole
 pub mod Doc
