@@ -2,3 +2,4 @@
 pub mod Walks
 pub mod Laws
 pub mod Standing
+pub mod TokenEnds
