@@ -7,3 +7,4 @@ pub mod Induction
 pub mod Documents
 pub mod Spelling
 pub mod StringSpecimens
+pub mod TokenEnds
