@@ -8,3 +8,5 @@ pub mod Documents
 pub mod Spelling
 pub mod StringSpecimens
 pub mod TokenEnds
+pub mod TokenBytes
+pub mod Placing

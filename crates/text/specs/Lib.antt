@@ -13,5 +13,6 @@ pub mod Reader
 pub mod Whole
 pub mod Doc
 pub mod Distinct
+pub mod Placed
 pub mod Writing
 pub mod Fewer
