@@ -9,6 +9,7 @@ pub mod Untouched
 pub mod Effect
 pub mod Same
 pub mod Single
+pub mod Layout
 pub mod Reorder
 pub mod Distinct
 pub mod Ascending

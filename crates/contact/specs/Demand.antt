@@ -4,18 +4,19 @@ use Prim.Native.Nat.{ℕ}
 use mathlib.Core.Path.{_≡_}
 use mathlib.Core.Logic.{_≢_, _↔_}
 use mathlib.Core.List.{List}
-use mathlib.Core.Option.{some}
+use mathlib.Core.Option.{none, some}
 use Rattle.text.specs.Limits.{Limits}
 use Rattle.text.specs.Text.{bytes}
 use Rattle.text.specs.Tree.{Forest}
-use Rattle.text.specs.Doc.{Name, Doc, object, Members, member, docOf}
+use Rattle.text.specs.Doc.{Name, Doc, object, Members, member, property, docOf}
+use Rattle.text.specs.Distinct.{Distinct, DistinctMembers}
 use Rattle.text.specs.Writing.{written}
 use Rattle.contact.specs.Verdict.{passed, failed, judgedOf}
-use Rattle.contact.specs.Pointer.{Pointer, lastPart, find}
+use Rattle.contact.specs.Pointer.{Pointer, last, lastPart, find}
 use Rattle.contact.specs.Patch.{Change, Entry, entriesOf, run}
 use Rattle.contact.specs.Localize.{refusedLocal, done, denied, start, localizedDoc, localizedOf}
-use Rattle.contact.specs.Likeness.{Same, Distinct, DistinctMembers, Reordered}
-use Rattle.contact.specs.Entries.{Perm, Has, valued, Clear, Shuffled}
+use Rattle.contact.specs.Likeness.{Same, Reordered}
+use Rattle.contact.specs.Entries.{Perm, Has, valued, Clear, Shuffled, Laid, NotOver, LaidAt}
 use Rattle.contact.specs.Conditions.{PatchOf, Smallest, Accepted}
 use Rattle.contact.specs.declared.CardRefusal.{CardRefusal}
 use Rattle.contact.specs.declared.LocalRefusal.{LocalRefusal}
@@ -58,6 +59,9 @@ pub record Patched (d : Doc) (ms : Members) (x : Doc) : Type 0 where
   pub effects : (p : Pointer) (c : Change) → Has p c (entriesOf ms) → find p x ≡ valued (lastPart p) c (find p d)
   -- a property that no pointer names, enters or covers: its name as written and its value
   pub keeps : (p : Pointer) → Clear p (entriesOf ms) → find p x ≡ find p d
+  -- members keep their places, and added ones follow in ascending order of name: in the card itself, and in each object that is not replaced as a whole
+  pub root : (os : Members) → d ≡ object os → (ns : Members) × (x ≡ object ns) × Laid os os ns
+  pub below : (p : Pointer) (label : List ℕ) (os : Members) → NotOver p (entriesOf ms) → find p d ≡ some (property label (object os)) → LaidAt p label os x
 
 -- what was written is the text of a card that is patched so
 pub record PatchedText (card : Doc) (lang : Name) (text : List ℕ) : Type 0 where
@@ -66,6 +70,8 @@ pub record PatchedText (card : Doc) (lang : Name) (text : List ℕ) : Type 0 whe
   pub result : Doc
   pub writes : text ≡ written result
   pub patched : Patched (start card) members result
+  -- which has no localizations: the card had none at the start, and no entry sets them
+  pub unlocalized : find (last (bytes "localizations")) result ≡ none
 
 -- ---- the demand
 

@@ -8,11 +8,11 @@ use mathlib.Core.List.{List, [], _∷_, _++_}
 use mathlib.Core.Option.{Option, none, some}
 use lib.ListN.{length}
 use Rattle.laws.specs.Order.{before}
-use Rattle.text.specs.Doc.{Name, Doc, Members, empty, member, Property, property}
+use Rattle.text.specs.Doc.{Name, Doc, object, Members, empty, member, Property, property, seek}
+use Rattle.text.specs.Distinct.{Distinct}
 use Rattle.text.specs.Writing.{spelled}
-use Rattle.contact.specs.Pointer.{Pointer, last, down, parts}
+use Rattle.contact.specs.Pointer.{Pointer, last, down, parts, find}
 use Rattle.contact.specs.Patch.{Change, remove, set, Entry, entry, arrives, walk}
-use Rattle.contact.specs.Likeness.{Distinct}
 
 -- ---- pointers
 
@@ -106,6 +106,31 @@ Above n (member m label d ms) = (before n m ≡ true) × Above n ms
 abbrev pub Ascending : Members → Type 0
 Ascending empty = Unit {0}
 Ascending (member n label d ms) = Above n ms × Ascending ms
+
+-- ---- where members stand
+
+-- added members: none of them was in the object, and each has its shortest spelling
+abbrev pub New : Members → Members → Type 0
+New all empty = Unit {0}
+New all (member n label d ns) = (seek n all ≡ none) × (label ≡ spelled n) × New all ns
+
+-- The members of an object as they were and as they are: one that stays keeps its place and its name as written, whatever its value; those that
+-- were added follow, in ascending order of name. `all` are the members of the object as it was.
+pub data Laid (all : Members) : Members → Members → Type 0 where
+  stays : {n : Name} {label : List ℕ} {d e : Doc} {ms ns : Members} → Laid all ms ns → Laid all (member n label d ms) (member n label e ns)
+  goes : {n : Name} {label : List ℕ} {d : Doc} {ms ns : Members} → Laid all ms ns → Laid all (member n label d ms) ns
+  adds : {ns : Members} → Ascending ns → New all ns → Laid all empty ns
+
+-- no entry's pointer names or covers p: what is at p is not replaced as a whole
+abbrev pub NotOver : Pointer → List Entry → Type 0
+NotOver p [] = Unit {0}
+NotOver p (entry q c ∷ es) = (¬ Prefix q p) × NotOver p es
+
+-- the object at p, which had the members ms, has its members so in x
+pub record LaidAt (p : Pointer) (label : List ℕ) (ms : Members) (x : Doc) : Type 0 where
+  pub members : Members
+  pub found : find p x ≡ some (property label (object members))
+  pub laid : Laid ms ms members
 
 -- ---- names as written
 

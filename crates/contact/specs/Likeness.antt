@@ -5,7 +5,7 @@ use Prim.Native.Nat.{ℕ}
 use mathlib.Core.Path.{_≡_}
 use mathlib.Core.List.{List}
 use mathlib.Core.Option.{Option, none, some}
-use Rattle.text.specs.Doc.{Name, Doc, scalar, array, object, Members, empty, member, Property, seek}
+use Rattle.text.specs.Doc.{Name, Doc, scalar, array, object, Members, empty, member, Property}
 use Rattle.contact.specs.Pointer.{Pointer, find}
 
 -- ---- by looking: every pointer finds nothing in both, or in both a property that is written with the same name and has the same kind and token,
@@ -36,23 +36,6 @@ look p d = seen (find p d)
 pub record Same (d e : Doc) : Type 0 where
   pub root : shape d ≡ shape e
   pub below : (p : Pointer) → look p d ≡ look p e
-
--- ---- no two members of one object have one name, at any depth, also inside arrays
-
-abbrev mutual
-  pub Distinct : Doc → Type 0
-  Distinct (scalar kind token) = Unit {0}
-  Distinct (array ms) = DistinctEntries ms
-  Distinct (object ms) = DistinctMembers ms
-
-  -- the entries of an array have no names
-  pub DistinctEntries : Members → Type 0
-  DistinctEntries empty = Unit {0}
-  DistinctEntries (member n label d ms) = Distinct d × DistinctEntries ms
-
-  pub DistinctMembers : Members → Type 0
-  DistinctMembers empty = Unit {0}
-  DistinctMembers (member n label d ms) = (seek n ms ≡ none) × Distinct d × DistinctMembers ms
 
 -- ---- by matching: each member of the one is a member of the other, and none is left over
 

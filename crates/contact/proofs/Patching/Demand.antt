@@ -1,31 +1,36 @@
 -- Demand 3, of the definitions (specs/Demand.antt), from the theorems of the files beside this one; and of two texts that pass: their order of
 -- entries and their white space don't count (`order-of-texts`).
 -- Assumes nothing.
-use mathlib.Core.Bool.{Bool, false, _||_}
-use mathlib.Core.List.{List}
-use mathlib.Core.Option.{Option, some}
+use mathlib.Core.Bool.{Bool, false, _||_, true≢false}
+use mathlib.Core.List.{List, [], _∷_}
+use mathlib.Core.Option.{Option, none, some}
 use mathlib.Core.Path.{_≡_, refl, sym, ap, _∙_}
 use Prim.Native.Nat.{ℕ}
+use Rattle.laws.proofs.Orders.{same-refl}
+use Rattle.laws.specs.Order.{same}
 use Rattle.text.specs.Limits.{Limits}
+use Rattle.text.specs.Text.{bytes}
 use Rattle.text.specs.Tree.{Forest}
-use Rattle.text.specs.Doc.{Name, Doc, object, Members, member, Property, property, seek, docOf}
+use Rattle.text.specs.Doc.{Name, Doc, object, Members, member, Property, property, seek, docOf, scalar, array}
 use Rattle.contact.specs.Verdict.{passed, judgedOf}
-use Rattle.contact.specs.Pointer.{last, badTilde, find, within}
-use Rattle.contact.specs.Patch.{Entry, entriesOf, anyBadKey, anyClash, anyWalk, isInArray, isNoObject, without, applied}
+use Rattle.contact.specs.Pointer.{last, badTilde, find, within, Pointer, down, firstPart}
+use Rattle.contact.specs.Patch.{Entry, entriesOf, anyBadKey, anyClash, anyWalk, isInArray, isNoObject, without, applied, entry, added, kept, anyOwn}
 use Rattle.contact.specs.Localize.{done, start, byEntries, inPatch, withPatch, localizedDoc, localizedOf}
-use Rattle.contact.specs.Entries.{Perm, stay, skip, swap, then, Shuffled, asIs, keepFirst, swapFirst, andOn, DistinctValues, NoClash, ParentsThere}
-use Rattle.contact.specs.Conditions.{clashing, enteringArray, losingWay, Accepted}
-use Rattle.contact.specs.declared.LocalRefusal.the-variants.{Clash, InArray, NoObject}
+use Rattle.contact.specs.Entries.{Perm, stay, skip, swap, then, Shuffled, asIs, keepFirst, swapFirst, andOn, DistinctValues, NoClash, ParentsThere, Apart, ApartFrom}
+use Rattle.contact.specs.Conditions.{clashing, enteringArray, losingWay, Accepted, ownLocalizations}
+use Rattle.contact.specs.declared.LocalRefusal.the-variants.{Clash, InArray, NoObject, OwnLocalizations}
 use Rattle.contact.specs.Demand.{Rearranged, rearranged, AtMember, thisOne, laterOne, InMember, inMember, OrderOnly, Ends, Patched, PatchedText, Demand}
-use Rattle.contact.proofs.Patching.Names.{byTest, same-no, same-refl}
+use Rattle.contact.proofs.Patching.Names.{byTest, same-no, same-yes}
 use Rattle.contact.proofs.Patching.Order.{any-order}
 use Rattle.contact.proofs.Patching.Untouched.{untouched}
+use Rattle.contact.proofs.Patching.Seek.{seek-without-same}
+use Rattle.contact.proofs.Patching.Layout.{laid-root, laid-below}
 use Rattle.contact.proofs.Patching.Effect.{effect}
 use Rattle.contact.proofs.Patching.Single.{in-any-order}
 use Rattle.contact.proofs.Patching.Reorder.{same-reordered}
 use Rattle.contact.proofs.Patching.Distinct.{distinct-run, distinct-applied, perm-values, entries-values}
-use Rattle.contact.proofs.Patching.Apart.{swap-or, clear-apart, from-anyClash, from-anyWalk, perm-anyClash, perm-anyWalk, perm-anyOwn}
-use Rattle.contact.proofs.Patching.Found.{clash-found, array-found, lost-found}
+use Rattle.contact.proofs.Patching.Apart.{swap-or, clear-apart, from-anyClash, from-anyWalk, perm-anyClash, perm-anyWalk, perm-anyOwn, or-false}
+use Rattle.contact.proofs.Patching.Found.{clash-found, array-found, lost-found, own-found}
 use Rattle.contact.proofs.Patching.Refused.{refused-iff, accepted-iff}
 use Rattle.contact.proofs.Patching.Public.{passed-so, given-iff}
 
@@ -64,6 +69,25 @@ at-both (laterOne h x) =
 at-rest : {n : Name} {R : Doc → Doc → Type 0} {ms ns : Members} → AtMember n R ms ns → without n ms ≡ without n ns
 at-rest {n} (thisOne r) = simp (same-refl n)
 at-rest (laterOne {m = m} {label = label} {d = d} h x) = simp (same-no h) (ap (member m label d) (at-rest x))
+
+-- ---- no localizations are left
+
+abbrev localizations : Name
+localizations = bytes "localizations"
+
+first-apart : (p : Pointer) → same (firstPart p) localizations ≡ false → Apart (last localizations) p
+first-apart (last n) h = λ e. true≢false (sym (same-yes (sym e)) ∙ h)
+first-apart (down n p) h = λ e. true≢false (sym (same-yes (sym e)) ∙ h)
+
+own-apart : (es : List Entry) → anyOwn es ≡ false → ApartFrom (last localizations) es
+own-apart [] h = tt
+own-apart (entry p c ∷ es) h =
+    let x = or-false (same (firstPart p) localizations) (anyOwn es) h in (first-apart p (x .0), own-apart es (x .1))
+
+start-has-none : (card : Doc) → find (last localizations) (start card) ≡ none
+start-has-none (scalar k t) = refl
+start-has-none (array xs) = refl
+start-has-none (object ms) = seek-without-same localizations ms
 
 module _ (L : Limits) (words room : ℕ) where
   -- the tests come out the same; and if no two pointers clash, so does the document
@@ -129,6 +153,12 @@ module _ (L : Limits) (words room : ℕ) where
         (λ b. let r = lost-found (start card) (a .members) b in absurd (a .unbroken 26 NoObject (losingWay (a .patch) (r .there) (r .so))))
         (λ b. b)
 
+    none-own : anyOwn (entriesOf (a .members)) ≡ false
+    none-own =
+        byTest (anyOwn (entriesOf (a .members)))
+        (λ b. let r = own-found (a .members) b in absurd (a .unbroken 23 OwnLocalizations (ownLocalizations (a .patch) (r .there) (r .so))))
+        (λ b. b)
+
     parents : ParentsThere (entriesOf (a .members)) (start card)
     parents = from-anyWalk (entriesOf (a .members)) (start card) no-array none-lost
 
@@ -149,6 +179,8 @@ module _ (L : Limits) (words room : ℕ) where
         distinct = λ h k. distinct-applied d es nc (entries-values ms k) h;
         effects = λ p c h. effect p c d es nc pt h;
         keeps = λ p h. untouched p d es nc (clear-apart p es h);
+        root = λ os e. (kept os es (added os es), ap (λ (y : Doc). applied y es) e, laid-root os es nc);
+        below = λ p label os h e. laid-below p d es label os nc h e;
       }
 
   written-so : (card : Doc) (lang : Name) (text : List ℕ) (f : Forest) → localizedDoc L words room card lang ≡ done text f → PatchedText card lang text
@@ -160,6 +192,9 @@ module _ (L : Limits) (words room : ℕ) where
         result = applied (start card) (entriesOf (a .members));
         writes = a .writes;
         patched = patched-so (start card) (a .members) (no-clash card lang text f a) (parents card lang text f a);
+        unlocalized =
+            untouched (last localizations) (start card) (entriesOf (a .members)) (no-clash card lang text f a) (own-apart (entriesOf (a .members)) (none-own card lang text f a))
+            ∙ start-has-none card;
       }
 
   pub demand : Demand L words room

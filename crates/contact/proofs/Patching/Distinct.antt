@@ -6,14 +6,15 @@ use mathlib.Core.Path.{_≡_, refl, sym, ap, _∙_, subst}
 use Prim.Native.Nat.{ℕ}
 use lib.Dec.{eqb}
 use Rattle.laws.specs.Order.{same, before}
+use Rattle.laws.proofs.Orders.{same-refl}
 use Rattle.text.specs.Text.{bytes}
 use Rattle.text.specs.Doc.{Name, Doc, scalar, array, object, Members, empty, member, Property, property, seek}
+use Rattle.text.specs.Distinct.{Distinct, DistinctMembers}
 use Rattle.contact.specs.Pointer.{Pointer, last, down, within, find}
 use Rattle.contact.specs.Patch.{Change, remove, set, Entry, entry, changeOf, entriesOf, Walk, arrives, inArray, noObject, walk, write, without, put, alter, changed, whenArrived, andThen, run, mine, under, insert, fresh, added, keep, applied, kept}
 use Rattle.contact.specs.Localize.{start}
-use Rattle.contact.specs.Likeness.{Distinct, DistinctMembers}
 use Rattle.contact.specs.Entries.{NoClash, DistinctChange, DistinctValues, Perm, stay, skip, swap, then}
-use Rattle.contact.proofs.Patching.Names.{same-refl, same-yes, same-no, byName, byTest}
+use Rattle.contact.proofs.Patching.Names.{same-yes, same-no, byName, byTest}
 use Rattle.contact.proofs.Patching.Seek.{seek-write-other, seek-without-other, seek-alter-other}
 use Rattle.contact.proofs.Patching.Applied.{seek-insert-other, said, mine-none, added-old, added-new, orMore, seek-kept}
 use Rattle.contact.proofs.Patching.Entries.{under-noclash}

@@ -7,11 +7,13 @@ use mathlib.Core.Option.{Option, none, some, Option·none-ne-some, Option·some-
 use mathlib.Core.Path.{_≡_, refl, sym, ap, _∙_, subst}
 use Prim.Native.Nat.{ℕ}
 use Rattle.laws.specs.Order.{same}
+use Rattle.laws.proofs.Orders.{same-refl}
 use Rattle.text.specs.Doc.{Name, Doc, scalar, array, object, Members, empty, member, Property, property, seek}
+use Rattle.text.specs.Distinct.{Distinct, DistinctMembers}
 use Rattle.contact.specs.Pointer.{Pointer, last, down, within, find}
-use Rattle.contact.specs.Likeness.{Shape, aScalar, anArray, anObject, shape, Look, absent, there, seen, look, Same, Distinct, DistinctMembers, Taken, atHead, inTail, Reordered, scalars, arrays, objects, Matched, nothing, match}
+use Rattle.contact.specs.Likeness.{Shape, aScalar, anArray, anObject, shape, Look, absent, there, seen, look, Same, Taken, atHead, inTail, Reordered, scalars, arrays, objects, Matched, nothing, match}
 use Rattle.contact.proofs.Patching.Same.{likeness-refl, Alike, neither, both, same-object, alike}
-use Rattle.contact.proofs.Patching.Names.{same-refl, same-yes, same-no, byName}
+use Rattle.contact.proofs.Patching.Names.{same-yes, same-no, byName}
 
 -- ---- a member that is taken out
 

@@ -9,11 +9,11 @@ use native.Mathlib.Omega.{arith}
 use lib.Dec.{eqb, ltb}
 use lib.ListN.{length, length-append}
 use Rattle.text.specs.Doc.{Name, Doc, scalar, array, object, Members, empty, member, countOf, countAll}
+use Rattle.text.specs.Distinct.{Distinct}
 use Rattle.text.specs.Writing.{written, writtenMembers, shortOf, spelledByte, spelledBytes, spelled}
 use Rattle.contact.specs.Pointer.{Pointer, last, down, lastPart, push, split, plain, plainParts, pointerOf}
 use Rattle.contact.specs.Patch.{entriesOf, applied}
 use Rattle.contact.specs.Localize.{start}
-use Rattle.contact.specs.Likeness.{Distinct}
 use Rattle.contact.specs.Entries.{NoClash, ParentsThere, LongEnough}
 use Rattle.contact.specs.Conditions.{PatchOf}
 use Rattle.contact.proofs.Patching.Names.{byTest}

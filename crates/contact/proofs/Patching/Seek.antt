@@ -3,11 +3,12 @@
 use mathlib.Core.Logic.{_≢_}
 use mathlib.Core.Option.{Option, none, some, Option·map, Option·none-ne-some}
 use mathlib.Core.Path.{_≡_, refl, sym, ap, _∙_}
+use Rattle.laws.proofs.Orders.{same-refl}
 use Rattle.text.specs.Doc.{Name, Doc, scalar, array, object, Members, empty, member, Property, property, seek}
 use Rattle.contact.specs.Pointer.{Pointer, last, down, within, find}
 use Rattle.contact.specs.Patch.{Change, remove, set, write, without, put, alter, changed}
 use Rattle.contact.specs.Entries.{labelOf, valued}
-use Rattle.contact.proofs.Patching.Names.{same-refl, same-yes, same-no, byName}
+use Rattle.contact.proofs.Patching.Names.{same-yes, same-no, byName}
 
 seek-write-same : (n : Name) (v : Doc) (ms : Members) → seek n (write n v ms) ≡ some (property (labelOf n (seek n ms)) v)
 seek-write-same n v empty = simp same-refl
@@ -21,7 +22,7 @@ seek-write-other n k v (member m t d ms) h =
     (λ e. simp (same-yes e, same-no (λ (p : m ≡ k). h (sym e ∙ p))))
     (λ ne. simp (same-no ne, seek-write-other n k v ms h))
 
-seek-without-same : (n : Name) (ms : Members) → seek n (without n ms) ≡ none
+pub seek-without-same : (n : Name) (ms : Members) → seek n (without n ms) ≡ none
 seek-without-same n empty = refl
 seek-without-same n (member m t d ms) =
     byName m n (λ e. simp (same-yes e) (seek-without-same n ms)) (λ ne. simp (same-no ne) (seek-without-same n ms))

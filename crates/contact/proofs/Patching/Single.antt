@@ -4,6 +4,7 @@
 use mathlib.Core.List.{List, [], _∷_}
 use mathlib.Core.Option.{Option, none, some, Option·map}
 use mathlib.Core.Path.{_≡_, refl, ap, _∙_}
+use Rattle.laws.proofs.Orders.{same-refl}
 use Rattle.text.specs.Doc.{Doc, scalar, array, object, Property, seek}
 use Rattle.contact.specs.Pointer.{Pointer, last, down}
 use Rattle.contact.specs.Patch.{Change, Entry, entry, onward, walk, put, alter, changed, under, applied}
@@ -11,7 +12,7 @@ use Rattle.contact.specs.Demand.{Ends}
 use Rattle.contact.specs.Likeness.{Same}
 use Rattle.contact.specs.Entries.{Apart, ApartFrom, NoClash, ParentsThere, valued, Perm}
 use Rattle.contact.proofs.Patching.Same.{likeness-refl, likeness-trans, same-object, alike-refl, alike, alike-over}
-use Rattle.contact.proofs.Patching.Names.{same-refl, same-no, byName}
+use Rattle.contact.proofs.Patching.Names.{same-no, byName}
 use Rattle.contact.proofs.Patching.Seek.{over, seek-put-same, seek-put-other, seek-alter-same, seek-alter-other}
 use Rattle.contact.proofs.Patching.Applied.{mine-none, seek-applied}
 use Rattle.contact.proofs.Patching.Entries.{perm-noclash, perm-parents, under-apart, under-noclash}

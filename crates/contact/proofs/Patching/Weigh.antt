@@ -9,11 +9,12 @@ use native.Mathlib.Omega.{arith}
 use lib.Dec.{eqb}
 use Rattle.text.specs.Text.{bytes}
 use Rattle.text.specs.Doc.{Name, Doc, scalar, array, object, Members, empty, member, Property, property, seek}
+use Rattle.text.specs.Distinct.{Distinct}
 use Rattle.text.specs.Writing.{spelled}
 use Rattle.contact.specs.Pointer.{Pointer, last, down, lastPart, pointerOf, within, find}
 use Rattle.contact.specs.Patch.{Change, remove, set, Entry, entry, changeOf, entriesOf, Walk, arrives, inArray, noObject, walk, write, without, put, alter, changed, whenArrived, andThen, run, applied}
 use Rattle.contact.specs.Localize.{start, patchAt}
-use Rattle.contact.specs.Likeness.{Distinct, Taken, atHead, inTail, Reordered, scalars, arrays, objects, Matched, nothing, match}
+use Rattle.contact.specs.Likeness.{Taken, atHead, inTail, Reordered, scalars, arrays, objects, Matched, nothing, match}
 use Rattle.contact.specs.Entries.{NoClash, ParentsThere, DistinctValues}
 use Rattle.contact.specs.Conditions.{PatchOf}
 use Rattle.contact.specs.Demand.{Ends}
