@@ -4,3 +4,4 @@ pub mod Splits
 pub mod Picks
 pub mod Branches
 pub mod Orders
+pub mod Parts
