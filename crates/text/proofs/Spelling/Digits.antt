@@ -6,9 +6,9 @@
 use mathlib.Core.Path.{_≡_, refl, sym, subst, _∙_}
 use mathlib.Core.List.{List, [], _∷_, _++_}
 use mathlib.Core.Bool.{cond}
-use Prim.Native.Nat.{ℕ, _+_, _-_, _*_, _%_, _≤_, _<_}
+use Prim.Native.Nat.{ℕ, zero, suc, _+_, _-_, _*_, _%_, _≤_, _<_}
 use native.Mathlib.Omega.{arith}
-use lib.ListN.{length, drop}
+use lib.ListN.{length, getD, drop}
 use lib.Dec.{eqb}
 use borrow.Author.Tests.{lt-ltb, le-ltb, ne-eqb}
 use Rattle.laws.proofs.Branches.{if-less, if-equal}
@@ -35,9 +35,10 @@ short-letter line-feed = refl
 short-letter carriage-return = refl
 short-letter tab = refl
 
--- a letter stands for some character, and is no u
+-- a letter stands for some character of ASCII, and is no u
 pub record Letter (b c : ℕ) : Type 0 where
   pub some : 0 < c
+  pub ascii : c < 128
   pub byte : b < 256
   pub other : b ≡ 117 → ⊥
 
@@ -207,3 +208,13 @@ module _ (t : List ℕ) (j : ℕ) where
       let u4 : drop (j + 3) t ≡ d ∷ drop (j + 4) t = next-byte t (j + 3) (j + 4) d (drop (j + 4) t) refl (g .byte) (omega arith) refl in
       let value : digitOf a * 4096 + digitOf b * 256 + digitOf c * 16 + digitOf d ≡ digitOf a % 16 * 4096 + digitOf b % 16 * 256 + digitOf c % 16 * 16 + digitOf d % 16 = omega arith in
       record { digits = a ∷ b ∷ c ∷ d ∷ []; rest = drop (j + 4) t; split = cc; value = subst (FourDigits (a ∷ b ∷ c ∷ d ∷ [])) value (Rules.four p q r s) }))))
+
+-- ---- each of some digits is one ----
+
+pub four-digits : {w : List ℕ} {u : ℕ} → FourDigits w u → HexDigits w
+four-digits (Rules.four p q r s) = more p (more q (more r (more s none)))
+
+pub each-digit : {w : List ℕ} → HexDigits w → (k : ℕ) → k < length w → (v : ℕ) × HexDigit (getD w k 256) v
+each-digit none k h = absurd (omega arith)
+each-digit (more {v = v} d r) zero h = (v, d)
+each-digit (more d r) (suc k) h = each-digit r k (omega arith)

@@ -1,27 +1,25 @@
--- Where a string ends:
---     ended-spells, spells-ended     a string that is read from i on ends at e exactly if its bytes up to the quote before e spell some code points
---     closed                         the same for bytes that spell, a quote, and a rest
---     through                        reading goes through what spells: from its first place on it gives what it gives behind it
+-- Reading a string goes through what spells, and stops behind it:
+--     through              from the first place of bytes that spell it answers what it answers from the place behind them
+--     closed, closed-at    bytes that spell, and a quote: the string ends behind the quote
+--     stops                from any place on, bytes that spell stand up to some place, and no character there: what stands there answers
 -- Assumes nothing.
-use mathlib.Core.Path.{_≡_, refl, sym, ap, subst, _∙_}
+use mathlib.Core.Path.{_≡_, refl, sym, ap, _∙_}
 use mathlib.Core.List.{List, [], _∷_, _++_, append-assoc}
-use Prim.Native.Nat.{ℕ, zero, suc, _+_, _-_, _≤_, _<_}
+use Prim.Native.Nat.{ℕ, zero, suc, _+_, _-_, _<_}
 use native.Mathlib.Nat.{add-zero}
 use native.Mathlib.Omega.{arith}
 use lib.ListN.{length, drop, length-append}
-use Rattle.laws.specs.Lists.{partOf}
-use Rattle.laws.proofs.Places.{inside}
-use Rattle.laws.proofs.Splits.{first-there, beyond, part-there, there-part, length-part, at-seam}
+use Rattle.laws.proofs.Splits.{first-there, beyond, at-seam}
 use Rattle.text.specs.Text.{byteAt}
 use Rattle.text.specs.Chars.{stepAt, stepBy}
 use Rattle.text.specs.Strings.{onStep, stringEnd}
 use Rattle.text.specs.Spelling.{Spells, none, more}
 use Rattle.text.specs.declared.Step.{Step}
 use Rattle.text.specs.declared.Step.the-variants.{Close, Char, Bad2, Bad3}
-use Rattle.text.specs.declared.Token.the-variants.{End, No2, No3}
+use Rattle.text.specs.declared.Token.the-variants.{End}
 use Rattle.text.proofs.Walks.{end-at, char-inside}
 use Rattle.text.proofs.Spelling.Taken.{spelled-step}
-use Rattle.text.proofs.Spelling.Steps.{CharAt, StandsAt, stands-at}
+use Rattle.text.proofs.Spelling.Steps.{CharAt}
 use Rattle.text.proofs.Spelling.Characters.{char-at}
 
 -- ---- what spells is read through ----
@@ -69,7 +67,7 @@ spells-more t i q {c} {n} a s =
     let e2 : drop i t ≡ w ++ u ++ s .rest = a .split ∙ rw (← e1, s .split, append-assoc) in
     record { bytes = w ++ u; rest = s .rest; codes = c ∷ s .codes; split = e2; place = omega (arith, length-append w u); spelled = more (a .spelled) (s .spelled) }
 
-abbrev NoChar : Step → Type 0
+abbrev pub NoChar : Step → Type 0
 NoChar Close = Prim.Unit {0}
 NoChar (Char c n) = ⊥
 NoChar (Bad2 p) = Prim.Unit {0}
@@ -111,46 +109,3 @@ stops-in (suc f) t i h = go (stepAt t i) refl (λ j l. stops-in f t j l)
 
 pub stops : (t : List ℕ) (i : ℕ) → Stops t i
 stops t i = stops-in (suc (length t - i)) t i (omega arith)
-
--- ---- a string that ends ----
-
--- the bytes from i up to a quote spell some code points, and e is the place behind the quote
-pub record Closed (t : List ℕ) (i e : ℕ) : Type 0 where
-  pub after : i < e
-  pub within-text : e ≤ length t
-  pub quote : byteAt t (e - 1) ≡ 34
-  pub codes : List ℕ
-  pub spelled : Spells (partOf t i (e - 1)) codes
-
-closed-part : (t : List ℕ) (i q : ℕ) → SpellsTo t i q → byteAt t q ≡ 34 → Closed t i (q + 1)
-closed-part t i q s h =
-    let p = s .place in
-    let l = inside t q (omega arith) in
-    let last : q + 1 - 1 ≡ q = omega arith in
-    let part : partOf t i q ≡ s .bytes = rw p at (part-there t i (s .bytes) (s .rest) (s .split) (omega arith)) in
-    record { after = omega arith; within-text = omega arith; quote = rw last h; codes = s .codes; spelled = rw (last, part) (s .spelled) }
-
-pub ended-spells : (t : List ℕ) (i e : ℕ) → stringEnd t i ≡ End e → Closed t i e
-ended-spells t i e q = go (s .step) (s .here) (s .no-char) (s .answer)
-  where
-    s : Stops t i
-    s = stops t i
-
-    go : (k : Step) → stepAt t (s .at) ≡ k → NoChar k → stringEnd t i ≡ onStep (stringEnd t) (s .at) k → Closed t i e
-    go Close h n a =
-        let r : End (s .at + 1) ≡ End e = sym a ∙ q in
-        let k : s .at + 1 ≡ e = cc in
-        subst (Closed t i) k (closed-part t i (s .at) (s .spells) (subst (StandsAt t (s .at)) h (stands-at t (s .at))))
-    go (Char c m) h n a = absurd n
-    go (Bad2 p) h n a = let r : No2 p ≡ End e = sym a ∙ q in let z : _≡_ {A = ℕ} 0 1 = cc in absurd (omega arith)
-    go (Bad3 p) h n a = let r : No3 p ≡ End e = sym a ∙ q in let z : _≡_ {A = ℕ} 0 1 = cc in absurd (omega arith)
-
-pub spells-ended : (t : List ℕ) (i e : ℕ) → Closed t i e → stringEnd t i ≡ End e
-spells-ended t i e c =
-    let a = c .after in
-    let b = c .within-text in
-    let split : drop i t ≡ partOf t i (e - 1) ++ drop (e - 1) t = there-part t i (e - 1) (omega arith) (omega arith) in
-    let size : length (partOf t i (e - 1)) ≡ e - 1 - i = length-part t i (e - 1) (omega arith) (omega arith) in
-    let place : i + length (partOf t i (e - 1)) ≡ e - 1 = omega arith in
-    let last : e - 1 + 1 ≡ e = omega arith in
-    through t i (c .spelled) (drop (e - 1) t) split ∙ ap (stringEnd t) place ∙ quote-ends t (e - 1) (c .quote) ∙ ap End last

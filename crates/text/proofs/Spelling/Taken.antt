@@ -1,5 +1,6 @@
 -- A character that is spelled is taken: where the bytes from a place on begin with a spelling of c, the step there is c, as long as the spelling.
 --     spelled-step         for any text and place
+--     high-step            a byte of 128 or more begins a raw character
 --     backslash-step       a backslash begins an escape
 -- Assumes nothing.
 use mathlib.Core.Path.{_≡_, ap, _∙_}
@@ -24,7 +25,7 @@ use Rattle.text.proofs.Spelling.Digits.{short-letter, short-some, four-
 
 module _ (t : List ℕ) (i : ℕ) where
   -- a byte of 128 or more begins a raw character
-  high-step : (b : ℕ) → byteAt t i ≡ b → 128 ≤ b → b < 256 → stepAt t i ≡ rawAt t i b
+  pub high-step : (b : ℕ) → byteAt t i ≡ b → 128 ≤ b → b < 256 → stepAt t i ≡ rawAt t i b
   unfolding stepBy
   high-step b p lo hi = simp (p, ne-eqb b 34 (omega arith), ne-eqb b 92 (omega arith), le-ltb b 32 (omega arith), le-ltb b 128 lo, lt-ltb b 256 hi)
 
