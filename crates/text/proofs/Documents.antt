@@ -1,7 +1,7 @@
 -- From a text's tree to its document (specs/Doc.antt): what a tree's values are in it, so that rows can be read for a document.
 --     doc-first, doc-kind, doc-token, doc-below, members-first      the parts of a value are those of the first value of the tree
 --     content-part, label-part                                      the content of a string and the name as written are parts of the text
---     count-members, count-doc, count-root                                 a document has as many values as the tree
+--     count-members, count-doc, count-root                          a document has as many values as the tree
 --     distinct-names                                                where a repeated name is refused, the names of an accepted text are distinct
 -- Assumes nothing.
 use Prim.Native.Nat.{ℕ, suc, _+_, _-_, _≤_, _<_}
@@ -216,7 +216,8 @@ none-distinct : (b : Bracket) → DistinctIn b empty
 none-distinct square = tt
 none-distinct curly = tt
 
-distinct-rules : (L : Limits) (t : List ℕ) → Rules L t (λ depth ns ne at f to. One L t ns ne f) (λ b depth edge at f. L .unique ≡ true → DistinctIn b (membersOf t f))
+distinct-rules : (L : Limits) (t : List ℕ)
+    → Rules L t (λ depth ns ne at f to. One L t ns ne f) (λ b depth edge at f. L .unique ≡ true → DistinctIn b (membersOf t f))
 unfolding membersOf docOf
 distinct-rules L t =
     record {

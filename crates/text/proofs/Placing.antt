@@ -120,7 +120,8 @@ bracket-kind square = omega arith
 bracket-kind curly = omega arith
 
 module _ (L : Limits) (t : List ℕ) where
-  token-seated : (ns ne at kind to : ℕ) → ScalarKind kind → kindBy (byteAt t at) ≡ kind → tokenAt t kind at ≡ End to → Seated t ns ne at (leaf kind ns ne at to none) to
+  token-seated : (ns ne at kind to : ℕ) → ScalarKind kind → kindBy (byteAt t at) ≡ kind → tokenAt t kind at ≡ End to
+      → Seated t ns ne at (leaf kind ns ne at to none) to
   token-seated ns ne at kind to s k e =
       let span = token-ends t kind at to (s .least) k e in
       let here : to ≤ to = omega arith in

@@ -152,7 +152,8 @@ pub whole-good : (L : Limits) (words : ℕ) (t : List ℕ) (f : Forest) (to : �
 unfolding wholeOf fitOf
 whole-good L words t f to e = go (readOf L t) refl e
   where
-    fit : (g : Forest) (end : ℕ) → readOf L t ≡ good g end → (x : Bool) → ltb words (L .words * size g) ≡ x → cond x (bad (Small (size g))) (good g end) ≡ good f to → Fits L words t f to
+    fit : (g : Forest) (end : ℕ) → readOf L t ≡ good g end → (x : Bool) → ltb words (L .words * size g) ≡ x
+        → cond x (bad (Small (size g))) (good g end) ≡ good f to → Fits L words t f to
     fit g end h true l p = let z : _≡_ {A = ℕ} 0 1 = cc in absurd (omega arith)
     fit g end h false l p =
         let same : g ≡ f = cc in

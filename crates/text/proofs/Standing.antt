@@ -298,15 +298,18 @@ module _ {A : Type 0} (P : Forest → Type 0) (keep : (ws : Forest) → Some ws 
     pub keeps-here : (vs : Forest) → P vs → StandsTo t from end vs → at < end → (ws : Forest) × Some ws × P ws × StandsTo t at end ws × (f vs ≡ f ws)
     keeps-here vs p s lt = let (ws, q, h, e) = g vs p s in (ws, some-at ws h lt, q, h, e)
 
-    pub keeps-on : at < end → ((ws : Forest) → Some ws → P ws → StandsTo t at end ws → f ws ≡ f (restAt ws)) → (n : ℕ) → n ≡ getD t (at * rowWords + 5) 0 → Keeping (at + 1 + n)
+    pub keeps-on : at < end → ((ws : Forest) → Some ws → P ws → StandsTo t at end ws → f ws ≡ f (restAt ws)) → (n : ℕ)
+        → n ≡ getD t (at * rowWords + 5) 0 → Keeping (at + 1 + n)
     keeps-on lt step n e vs p s =
         let (ws, z, q, h, x) = keeps-here vs p s lt in
         (restAt ws, keep ws z q, rw (e ∙ row-at ws z (h .stands) .below) (after ws z h), x ∙ step ws z q h)
 
-    pub keeps-hit : at < end → (r : A) → ((ws : Forest) → Some ws → P ws → StandsTo t at end ws → r ≡ f ws) → (vs : Forest) → P vs → StandsTo t from end vs → r ≡ f vs
+    pub keeps-hit : at < end → (r : A) → ((ws : Forest) → Some ws → P ws → StandsTo t at end ws → r ≡ f ws) → (vs : Forest) → P vs
+        → StandsTo t from end vs → r ≡ f vs
     keeps-hit lt r this vs p s = let (ws, z, q, h, x) = keeps-here vs p s lt in this ws z q h ∙ sym x
 
-    pub keeps-any : at < end → (Q : A → Type 0) → ((ws : Forest) → Some ws → P ws → StandsTo t at end ws → Q (f ws)) → (vs : Forest) → P vs → StandsTo t from end vs → Q (f vs)
+    pub keeps-any : at < end → (Q : A → Type 0) → ((ws : Forest) → Some ws → P ws → StandsTo t at end ws → Q (f ws)) → (vs : Forest) → P vs
+        → StandsTo t from end vs → Q (f vs)
     keeps-any lt Q this vs p s = let (ws, z, q, h, x) = keeps-here vs p s lt in rw x (this ws z q h)
 
     pub keeps-ended : end ≤ at → (vs : Forest) → P vs → StandsTo t from end vs → f none ≡ f vs

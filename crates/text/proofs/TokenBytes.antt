@@ -23,7 +23,7 @@ use Rattle.text.specs.Placed.{Quoted, isNumeric, Numeral, TokenIn, null,
 use Rattle.text.specs.declared.Token.{Token}
 use Rattle.text.specs.declared.Token.the-variants.{End, No2, No3}
 use Rattle.text.proofs.TokenEnds.{Span, run-on, run-end, run-byte, token-span}
-use Rattle.text.proofs.Spelling.Ends.{ended-spells}
+use Rattle.text.proofs.Spelling.Answers.{ended-spells}
 
 -- ---- the kind of a first byte ----
 
@@ -83,7 +83,8 @@ word-bytes t [] i to k e =
     record { end = omega arith; is = rw (← same) (part-none t i (omega arith)) }
 word-bytes t (b ∷ bs) i to k e = go (eqb (byteAt t i) b) refl e (word-bytes t bs (i + 1) to k)
   where
-    go : (x : Bool) → eqb (byteAt t i) b ≡ x → cond x (wordAt t bs (i + 1)) (No2 i) ≡ End to → (wordAt t bs (i + 1) ≡ End to → Word t bs (i + 1) to) → Word t (b ∷ bs) i to
+    go : (x : Bool) → eqb (byteAt t i) b ≡ x → cond x (wordAt t bs (i + 1)) (No2 i) ≡ End to → (wordAt t bs (i + 1) ≡ End to → Word t bs (i + 1) to)
+        → Word t (b ∷ bs) i to
     go true q r more =
         let w = more r in
         let first = eqb-true (byteAt t i) b q in
