@@ -19,7 +19,11 @@ pub mod Ways
 pub mod Found
 pub mod Refused
 pub mod Public
+pub mod Fine
 pub mod Demand
 pub mod Weigh
+pub mod Parts
+pub mod Every
 pub mod Room
 pub mod Contract
+pub mod Again

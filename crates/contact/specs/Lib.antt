@@ -14,3 +14,4 @@ pub mod Conditions
 pub mod Demand
 pub mod Contract
 pub mod LocalizeSpecimens
+pub mod Again

@@ -12,3 +12,5 @@ pub mod TokenBytes
 pub mod Placing
 pub mod Outcomes
 pub mod Promise
+pub mod NewNames
+pub mod Labels

@@ -14,11 +14,10 @@ use Rattle.text.specs.Tree.{Forest}
 use Rattle.text.specs.Doc.{Name, Doc, object, Members, member, Property, property, seek, docOf, scalar, array}
 use Rattle.contact.specs.Verdict.{passed, judgedOf}
 use Rattle.contact.specs.Pointer.{last, badTilde, find, within, Pointer, down, firstPart}
-use Rattle.contact.specs.Patch.{Entry, entriesOf, anyBadKey, anyClash, anyWalk, isInArray, isNoObject, without, applied, entry, added, kept, anyOwn}
+use Rattle.contact.specs.Patch.{Entry, entriesOf, anyBadKey, anyClash, isInArray, isNoObject, without, applied, entry, added, kept, anyOwn}
 use Rattle.contact.specs.Localize.{done, start, byEntries, inPatch, withPatch, localizedDoc, localizedOf}
 use Rattle.contact.specs.Entries.{Perm, stay, skip, swap, then, Shuffled, asIs, keepFirst, swapFirst, andOn, DistinctValues, NoClash, ParentsThere, Apart, ApartFrom}
-use Rattle.contact.specs.Conditions.{clashing, enteringArray, losingWay, Accepted, ownLocalizations}
-use Rattle.contact.specs.declared.LocalRefusal.the-variants.{Clash, InArray, NoObject, OwnLocalizations}
+use Rattle.contact.specs.Conditions.{Accepted}
 use Rattle.contact.specs.Demand.{Rearranged, rearranged, AtMember, thisOne, laterOne, InMember, inMember, OrderOnly, Ends, Patched, PatchedText, Demand}
 use Rattle.contact.proofs.Patching.Names.{byTest, same-no, same-yes}
 use Rattle.contact.proofs.Patching.Order.{any-order}
@@ -29,8 +28,8 @@ use Rattle.contact.proofs.Patching.Effect.{effect}
 use Rattle.contact.proofs.Patching.Single.{in-any-order}
 use Rattle.contact.proofs.Patching.Reorder.{same-reordered}
 use Rattle.contact.proofs.Patching.Distinct.{distinct-run, distinct-applied, perm-values, entries-values}
-use Rattle.contact.proofs.Patching.Apart.{swap-or, clear-apart, from-anyClash, from-anyWalk, perm-anyClash, perm-anyWalk, perm-anyOwn, or-false}
-use Rattle.contact.proofs.Patching.Found.{clash-found, array-found, lost-found, own-found}
+use Rattle.contact.proofs.Patching.Apart.{swap-or, clear-apart, from-anyClash, perm-anyClash, perm-anyWalk, perm-anyOwn, or-false}
+use Rattle.contact.proofs.Patching.Fine.{Fine, fine}
 use Rattle.contact.proofs.Patching.Refused.{refused-iff, accepted-iff}
 use Rattle.contact.proofs.Patching.Public.{passed-so, given-iff}
 
@@ -134,34 +133,6 @@ module _ (L : Limits) (words room : ℕ) where
 
   -- ---- what an accepted localization has written
 
-  module _ (card : Doc) (lang : Name) (text : List ℕ) (f : Forest) (a : Accepted L words room card lang text f) where
-    no-clash : NoClash (entriesOf (a .members))
-    no-clash =
-        byTest (anyClash (entriesOf (a .members)))
-        (λ b. let r = clash-found (a .members) b in absurd (a .unbroken 24 Clash (clashing (a .patch) (r .there) (r .so))))
-        (λ b. from-anyClash (entriesOf (a .members)) b)
-
-    no-array : anyWalk isInArray (entriesOf (a .members)) (start card) ≡ false
-    no-array =
-        byTest (anyWalk isInArray (entriesOf (a .members)) (start card))
-        (λ b. let r = array-found (start card) (a .members) b in absurd (a .unbroken 25 InArray (enteringArray (a .patch) (r .there) (r .so))))
-        (λ b. b)
-
-    none-lost : anyWalk isNoObject (entriesOf (a .members)) (start card) ≡ false
-    none-lost =
-        byTest (anyWalk isNoObject (entriesOf (a .members)) (start card))
-        (λ b. let r = lost-found (start card) (a .members) b in absurd (a .unbroken 26 NoObject (losingWay (a .patch) (r .there) (r .so))))
-        (λ b. b)
-
-    none-own : anyOwn (entriesOf (a .members)) ≡ false
-    none-own =
-        byTest (anyOwn (entriesOf (a .members)))
-        (λ b. let r = own-found (a .members) b in absurd (a .unbroken 23 OwnLocalizations (ownLocalizations (a .patch) (r .there) (r .so))))
-        (λ b. b)
-
-    parents : ParentsThere (entriesOf (a .members)) (start card)
-    parents = from-anyWalk (entriesOf (a .members)) (start card) no-array none-lost
-
   -- entries of which no condition is broken
   pub patched-so : (d : Doc) (ms : Members) → NoClash (entriesOf ms) → ParentsThere (entriesOf ms) d → Patched d ms (applied d (entriesOf ms))
   patched-so d ms nc pt =
@@ -186,14 +157,15 @@ module _ (L : Limits) (words room : ℕ) where
   written-so : (card : Doc) (lang : Name) (text : List ℕ) (f : Forest) → localizedDoc L words room card lang ≡ done text f → PatchedText card lang text
   written-so card lang text f e =
       let a : Accepted L words room card lang text f = accepted-iff L words room card lang text f .0 e in
+      let h : Fine card (a .members) = fine L words room card lang (a .members) (a .patch) (λ m q l. a .unbroken m q) in
       record {
         members = a .members;
         patch = a .patch;
         result = applied (start card) (entriesOf (a .members));
         writes = a .writes;
-        patched = patched-so (start card) (a .members) (no-clash card lang text f a) (parents card lang text f a);
+        patched = patched-so (start card) (a .members) (h .noClash) (h .parents);
         unlocalized =
-            untouched (last localizations) (start card) (entriesOf (a .members)) (no-clash card lang text f a) (own-apart (entriesOf (a .members)) (none-own card lang text f a))
+            untouched (last localizations) (start card) (entriesOf (a .members)) (h .noClash) (own-apart (entriesOf (a .members)) (h .noneOwn))
             ∙ start-has-none card;
       }
 
