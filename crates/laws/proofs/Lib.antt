@@ -5,3 +5,4 @@ pub mod Splits
 pub mod Picks
 pub mod Branches
 pub mod Orders
+pub mod Parts
