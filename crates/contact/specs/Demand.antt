@@ -12,7 +12,7 @@ use Rattle.text.specs.Doc.{Name, Doc, object, Members, member, property, docOf}
 use Rattle.text.specs.Distinct.{Distinct, DistinctMembers}
 use Rattle.text.specs.Writing.{written}
 use Rattle.contact.specs.Verdict.{passed, failed, judgedOf}
-use Rattle.contact.specs.Pointer.{Pointer, last, lastPart, find}
+use Rattle.contact.specs.Pointer.{Pointer, last, firstPart, lastPart, find}
 use Rattle.contact.specs.Patch.{Change, Entry, entriesOf, run}
 use Rattle.contact.specs.Localize.{refusedLocal, done, denied, start, localizedDoc, localizedOf}
 use Rattle.contact.specs.Likeness.{Same, Reordered}
@@ -70,6 +70,8 @@ pub record PatchedText (card : Doc) (lang : Name) (text : List ℕ) : Type 0 whe
   pub result : Doc
   pub writes : text ≡ written result
   pub patched : Patched (start card) members result
+  -- where the starting point is the card but for its localizations
+  pub started : (p : Pointer) → firstPart p ≢ bytes "localizations" → find p (start card) ≡ find p card
   -- which has no localizations: the card had none at the start, and no entry sets them
   pub unlocalized : find (last (bytes "localizations")) result ≡ none
 
@@ -84,6 +86,9 @@ module _ (L : Limits) (words room : ℕ) where
         → localizedOf L words room text lang ≡ localizedDoc L words room (docOf text f) lang
     -- the entries of the PatchObject in another order: the outcome is the same, also a refusal
     pub order : (card other : Doc) (lang : Name) → OrderOnly lang card other → localizedDoc L words room card lang ≡ localizedDoc L words room other lang
+    -- the same of two texts that pass, whatever their white space
+    pub order-of-texts : (t u : List ℕ) (lang : Name) (f g : Forest) → judgedOf L words t ≡ passed f → judgedOf L words u ≡ passed g
+        → OrderOnly lang (docOf t f) (docOf u g) → localizedOf L words room t lang ≡ localizedOf L words room u lang
     -- refused by the broken condition of smallest number, and accepted if none is broken
     pub refused : (card : Doc) (lang : Name) (r : LocalRefusal)
         → (localizedDoc L words room card lang ≡ denied r) ↔ Smallest L words room card lang (refusedLocal r .number) r

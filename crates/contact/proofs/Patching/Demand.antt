@@ -4,6 +4,7 @@
 use mathlib.Core.Bool.{Bool, false, _||_, true≢false}
 use mathlib.Core.List.{List, [], _∷_}
 use mathlib.Core.Option.{Option, none, some}
+use mathlib.Core.Logic.{_≢_}
 use mathlib.Core.Path.{_≡_, refl, sym, ap, _∙_}
 use Prim.Native.Nat.{ℕ}
 use Rattle.laws.proofs.Orders.{same-refl}
@@ -22,7 +23,7 @@ use Rattle.contact.specs.Demand.{Rearranged, rearranged, AtMember, thisO
 use Rattle.contact.proofs.Patching.Names.{byTest, same-no, same-yes}
 use Rattle.contact.proofs.Patching.Order.{any-order}
 use Rattle.contact.proofs.Patching.Untouched.{untouched}
-use Rattle.contact.proofs.Patching.Seek.{seek-without-same}
+use Rattle.contact.proofs.Patching.Seek.{seek-without-same, seek-without-other}
 use Rattle.contact.proofs.Patching.Layout.{laid-root, laid-below}
 use Rattle.contact.proofs.Patching.Effect.{effect}
 use Rattle.contact.proofs.Patching.Single.{in-any-order}
@@ -87,6 +88,14 @@ start-has-none : (card : Doc) → find (last localizations) (start card) ≡ non
 start-has-none (scalar k t) = refl
 start-has-none (array xs) = refl
 start-has-none (object ms) = seek-without-same localizations ms
+
+start-else : (card : Doc) (p : Pointer) → firstPart p ≢ localizations → find p (start card) ≡ find p card
+start-else (scalar k t) (last n) h = refl
+start-else (scalar k t) (down n p) h = refl
+start-else (array xs) (last n) h = refl
+start-else (array xs) (down n p) h = refl
+start-else (object ms) (last n) h = seek-without-other localizations n ms (λ e. h (sym e))
+start-else (object ms) (down n p) h = ap (within (find p)) (seek-without-other localizations n ms (λ e. h (sym e)))
 
 module _ (L : Limits) (words room : ℕ) where
   -- the tests come out the same; and if no two pointers clash, so does the document
@@ -164,6 +173,7 @@ module _ (L : Limits) (words room : ℕ) where
         result = applied (start card) (entriesOf (a .members));
         writes = a .writes;
         patched = patched-so (start card) (a .members) (h .noClash) (h .parents);
+        started = start-else card;
         unlocalized =
             untouched (last localizations) (start card) (entriesOf (a .members)) (h .noClash) (own-apart (entriesOf (a .members)) (h .noneOwn))
             ∙ start-has-none card;
@@ -174,6 +184,7 @@ module _ (L : Limits) (words room : ℕ) where
     given = λ text lang. given-iff L words room text lang;
     passes = λ text lang. passed-so L words room text lang;
     order = card-order;
+    order-of-texts = order-of-texts;
     refused = λ card lang. refused-iff L words room card lang;
     accepted = λ card lang. accepted-iff L words room card lang;
     written-so = written-so;
