@@ -6,3 +6,4 @@ pub mod Picks
 pub mod Branches
 pub mod Orders
 pub mod Parts
+pub mod Bools

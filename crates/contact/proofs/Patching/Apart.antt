@@ -10,6 +10,7 @@ use mathlib.Core.Bool.{Bool, true, false, _||_, true≢false}
 use mathlib.Core.List.{List, [], _∷_, _++_, append-nil, head-eq-of-cons-eq, tail-eq-of-cons-eq}
 use mathlib.Core.Logic.{_↔_, _⊎_, inl, inr}
 use mathlib.Core.Path.{_≡_, refl, sym, ap, ap₂, _∙_}
+use Rattle.laws.proofs.Bools.{byTest, or-false, both-false, swap-or}
 use Rattle.laws.specs.Order.{same}
 use Rattle.laws.proofs.Orders.{same-eq}
 use Rattle.text.specs.Text.{bytes}
@@ -17,7 +18,7 @@ use Rattle.text.specs.Doc.{Name, Doc}
 use Rattle.contact.specs.Pointer.{Pointer, last, down, parts, firstPart, clash}
 use Rattle.contact.specs.Patch.{Entry, entry, Walk, arrives, inArray, noObject, walk, anyOwn, clashWith, anyClash, isInArray, isNoObject, anyWalk}
 use Rattle.contact.specs.Entries.{Prefix, Names, Covers, Clear, Apart, ApartFrom, NoClash, ParentsThere, Perm, stay, skip, swap, then}
-use Rattle.contact.proofs.Patching.Names.{same-yes, same-no, byName, byTest}
+use Rattle.contact.proofs.Patching.Names.{same-yes, same-no, byName}
 use Rattle.contact.proofs.Patching.Entries.{apart-sym}
 
 -- ---- `Apart` in words
@@ -51,13 +52,6 @@ clear-apart p (entry q c ∷ es) h =
     (not-apart p q (not-prefix q p (λ e. h .0 (sym e)) (h .1)) (not-prefix p q (h .0) (h .2)), clear-apart p es (h .3))
 
 -- ---- the tests
-
-pub or-false : (a b : Bool) → (a || b) ≡ false → (a ≡ false) × (b ≡ false)
-or-false true b e = absurd (true≢false e)
-or-false false b e = (refl, e)
-
-pub both-false : (a b : Bool) → a ≡ false → b ≡ false → (a || b) ≡ false
-both-false a b e f = rw (e, f)
 
 pub clash-apart : (p q : Pointer) → clash p q ≡ false → Apart p q
 clash-apart (last n) (last m) h = λ e. true≢false (sym (same-yes e) ∙ h)
@@ -131,12 +125,6 @@ to-anyWalk f a [] d h = refl
 to-anyWalk f a (entry p c ∷ es) d h = both-false (f (walk p d)) (anyWalk f es d) (ap f (h .0) ∙ a) (to-anyWalk f a es d (h .1))
 
 -- ---- the tests come out the same in any order
-
-pub swap-or : (a b c d : Bool) → ((a || b) || (c || d)) ≡ ((a || c) || (b || d))
-swap-or true b c d = refl
-swap-or false true true d = refl
-swap-or false true false d = refl
-swap-or false false c d = refl
 
 pub clash-sym : (p q : Pointer) → clash p q ≡ clash q p
 clash-sym p q =

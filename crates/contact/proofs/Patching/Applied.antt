@@ -5,6 +5,7 @@ use mathlib.Core.Logic.{_≢_}
 use mathlib.Core.Option.{Option, none, some, Option·map, Option·some-ne-none}
 use mathlib.Core.Path.{_≡_, refl, sym, ap, _∙_}
 use Prim.Native.Nat.{ℕ}
+use Rattle.laws.proofs.Bools.{byTest}
 use Rattle.laws.specs.Order.{before}
 use Rattle.laws.proofs.Orders.{same-refl}
 use Rattle.text.specs.Doc.{Name, Doc, Members, empty, member, Property, property, seek}
@@ -12,7 +13,7 @@ use Rattle.text.specs.Writing.{spelled}
 use Rattle.contact.specs.Pointer.{last, down}
 use Rattle.contact.specs.Patch.{Change, remove, set, Entry, entry, mine, under, insert, fresh, added, keep, applied, kept}
 use Rattle.contact.specs.Entries.{ApartFrom, NoClash, valued}
-use Rattle.contact.proofs.Patching.Names.{same-yes, same-no, byName, byTest}
+use Rattle.contact.proofs.Patching.Names.{same-yes, same-no, byName}
 use Rattle.contact.proofs.Patching.Seek.{over}
 
 -- ---- added members

@@ -4,13 +4,14 @@ use mathlib.Core.Bool.{true}
 use mathlib.Core.List.{List, [], _∷_}
 use mathlib.Core.Option.{Option, none, some, Option·some-ne-none}
 use mathlib.Core.Path.{_≡_, refl, sym, ap, _∙_}
+use Rattle.laws.proofs.Bools.{byTest}
 use Rattle.laws.specs.Order.{before}
 use Rattle.laws.proofs.Orders.{before-trans}
 use Rattle.text.specs.Doc.{Name, Doc, Members, empty, member, Property, property, seek}
 use Rattle.contact.specs.Pointer.{last, down}
 use Rattle.contact.specs.Patch.{remove, set, Entry, entry, insert, fresh, added}
 use Rattle.contact.specs.Entries.{NoClash, Above, Ascending}
-use Rattle.contact.proofs.Patching.Names.{same-yes, same-no, byName, byTest, before-total}
+use Rattle.contact.proofs.Patching.Names.{same-yes, same-no, byName, before-total}
 use Rattle.contact.proofs.Patching.Applied.{said, mine-none, added-new}
 
 above-further : (k n : Name) (ms : Members) → before k n ≡ true → Above n ms → Above k ms

@@ -7,6 +7,7 @@ use mathlib.Core.Option.{Option, none, some}
 use mathlib.Core.Logic.{_≢_}
 use mathlib.Core.Path.{_≡_, refl, sym, ap, _∙_}
 use Prim.Native.Nat.{ℕ}
+use Rattle.laws.proofs.Bools.{byTest, or-false, swap-or}
 use Rattle.laws.proofs.Orders.{same-refl}
 use Rattle.laws.specs.Order.{same}
 use Rattle.text.specs.Limits.{Limits}
@@ -20,7 +21,7 @@ use Rattle.contact.specs.Localize.{done, start, byEntries, inPatch, with
 use Rattle.contact.specs.Entries.{Perm, stay, skip, swap, then, Shuffled, asIs, keepFirst, swapFirst, andOn, DistinctValues, NoClash, ParentsThere, Apart, ApartFrom}
 use Rattle.contact.specs.Conditions.{Accepted}
 use Rattle.contact.specs.Demand.{Rearranged, rearranged, AtMember, thisOne, laterOne, InMember, inMember, OrderOnly, Ends, Patched, PatchedText, Demand}
-use Rattle.contact.proofs.Patching.Names.{byTest, same-no, same-yes}
+use Rattle.contact.proofs.Patching.Names.{same-no, same-yes}
 use Rattle.contact.proofs.Patching.Order.{any-order}
 use Rattle.contact.proofs.Patching.Untouched.{untouched}
 use Rattle.contact.proofs.Patching.Seek.{seek-without-same, seek-without-other}
@@ -29,7 +30,7 @@ use Rattle.contact.proofs.Patching.Effect.{effect}
 use Rattle.contact.proofs.Patching.Single.{in-any-order}
 use Rattle.contact.proofs.Patching.Reorder.{same-reordered}
 use Rattle.contact.proofs.Patching.Distinct.{distinct-run, distinct-applied, perm-values, entries-values}
-use Rattle.contact.proofs.Patching.Apart.{swap-or, clear-apart, from-anyClash, perm-anyClash, perm-anyWalk, perm-anyOwn, or-false}
+use Rattle.contact.proofs.Patching.Apart.{clear-apart, from-anyClash, perm-anyClash, perm-anyWalk, perm-anyOwn}
 use Rattle.contact.proofs.Patching.Fine.{Fine, fine}
 use Rattle.contact.proofs.Patching.Refused.{refused-iff, accepted-iff}
 use Rattle.contact.proofs.Patching.Public.{passed-so, given-iff}

@@ -5,17 +5,18 @@ use mathlib.Core.Option.{Option, none, some, Option·none-ne-some, Option·some-
 use mathlib.Core.Path.{_≡_, refl, sym, ap, _∙_, subst}
 use Prim.Native.Nat.{ℕ}
 use lib.Dec.{eqb}
+use Rattle.laws.proofs.Bools.{byTest}
 use Rattle.laws.specs.Order.{same, before}
 use Rattle.laws.proofs.Orders.{same-refl}
 use Rattle.text.specs.Text.{bytes}
 use Rattle.text.specs.Doc.{Name, Doc, scalar, array, object, Members, empty, member, Property, property, seek}
 use Rattle.text.specs.Distinct.{Distinct, DistinctMembers}
-use Rattle.contact.specs.Pointer.{Pointer, last, down, within, find}
+use Rattle.contact.specs.Pointer.{Pointer, last, down, find}
 use Rattle.contact.specs.Patch.{Change, remove, set, Entry, entry, changeOf, entriesOf, Walk, arrives, inArray, noObject, walk, write, without, put, alter, changed, whenArrived, andThen, run, mine, under, insert, fresh, added, keep, applied, kept}
 use Rattle.contact.specs.Localize.{start}
 use Rattle.contact.specs.Entries.{NoClash, DistinctChange, DistinctValues, Perm, stay, skip, swap, then}
-use Rattle.contact.proofs.Patching.Names.{same-yes, same-no, byName, byTest}
-use Rattle.contact.proofs.Patching.Seek.{seek-write-other, seek-without-other, seek-alter-other}
+use Rattle.contact.proofs.Patching.Names.{same-yes, same-no, byName}
+use Rattle.contact.proofs.Patching.Seek.{seek-write-other, seek-without-other, seek-alter-other, find-has}
 use Rattle.contact.proofs.Patching.Applied.{seek-insert-other, said, mine-none, added-old, added-new, orMore, seek-kept}
 use Rattle.contact.proofs.Patching.Entries.{under-noclash}
 
@@ -167,14 +168,4 @@ seek-distinct n (member m t d ms) s h e =
     (λ ne. seek-distinct n ms s (h .2) (simp (same-no ne) at e))
 
 pub find-distinct : (p : Pointer) (d : Doc) (s : Property) → Distinct d → find p d ≡ some s → Distinct (s .content)
-find-distinct (last n) (scalar kind token) s h e = absurd (Option·none-ne-some s e)
-find-distinct (last n) (array xs) s h e = absurd (Option·none-ne-some s e)
-find-distinct (last n) (object ms) s h e = seek-distinct n ms s h e
-find-distinct (down n p) (scalar kind token) s h e = absurd (Option·none-ne-some s e)
-find-distinct (down n p) (array xs) s h e = absurd (Option·none-ne-some s e)
-find-distinct (down n p) (object ms) s h e = go (seek n ms) refl e (λ d. find-distinct p d s)
-  where
-    go : (o : Option Property) → seek n ms ≡ o → within (find p) o ≡ some s
-        → ((d : Doc) → Distinct d → find p d ≡ some s → Distinct (s .content)) → Distinct (s .content)
-    go none k q ih = absurd (Option·none-ne-some s q)
-    go (some r) k q ih = ih (r .content) (seek-distinct n ms r h k) q
+find-distinct p d s h e = find-has Distinct seek-distinct p d s h e

@@ -4,13 +4,14 @@ use mathlib.Core.Bool.{true≢false}
 use mathlib.Core.List.{List}
 use mathlib.Core.Option.{Option, none, some, Option·map}
 use mathlib.Core.Path.{_≡_, ap, _∙_}
+use Rattle.laws.proofs.Bools.{byTest}
 use Rattle.laws.specs.Order.{same}
 use Rattle.laws.proofs.Orders.{same-refl}
 use Rattle.text.specs.Doc.{Name, Doc, scalar, array, object, Property, seek}
 use Rattle.contact.specs.Pointer.{Pointer, last, down, lastPart, within, find}
 use Rattle.contact.specs.Patch.{Change, Entry, entry, arrives, onward, walk, isInArray, isNoObject, mine, under, applied}
 use Rattle.contact.specs.Entries.{Apart, ApartFrom, NoClash, ParentsThere, Has, now, past, valued}
-use Rattle.contact.proofs.Patching.Names.{same-no, byTest}
+use Rattle.contact.proofs.Patching.Names.{same-no}
 use Rattle.contact.proofs.Patching.Seek.{over}
 use Rattle.contact.proofs.Patching.Applied.{seek-applied}
 use Rattle.contact.proofs.Patching.Entries.{under-noclash}

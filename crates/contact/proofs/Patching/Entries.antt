@@ -5,13 +5,14 @@ use mathlib.Core.List.{List, [], _∷_}
 use mathlib.Core.Logic.{_≢_}
 use mathlib.Core.Option.{Option, some}
 use mathlib.Core.Path.{_≡_, refl, sym, ap, _∙_}
+use Rattle.laws.proofs.Bools.{byTest}
 use Rattle.laws.specs.Order.{same}
 use Rattle.laws.proofs.Orders.{same-eq}
 use Rattle.text.specs.Doc.{Name, Doc}
 use Rattle.contact.specs.Pointer.{Pointer, last, down}
 use Rattle.contact.specs.Patch.{Change, Entry, entry, mine, under}
 use Rattle.contact.specs.Entries.{Apart, ApartFrom, NoClash, ParentsThere, Perm, stay, skip, swap, then}
-use Rattle.contact.proofs.Patching.Names.{same-yes, same-no, byName, byTest}
+use Rattle.contact.proofs.Patching.Names.{same-yes, same-no, byName}
 
 pub apart-sym : (p q : Pointer) → Apart p q → Apart q p
 apart-sym (last n) (last m) h = λ e. h (sym e)

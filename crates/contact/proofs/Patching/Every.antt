@@ -3,21 +3,23 @@
 -- Assumes nothing.
 use mathlib.Core.List.{List, [], _∷_}
 use mathlib.Core.Option.{Option, none, some, Option·none-ne-some, Option·some-injective}
-use mathlib.Core.Path.{_≡_, refl, subst}
+use mathlib.Core.Path.{_≡_, subst}
 use Prim.Native.Nat.{ℕ}
 use lib.Dec.{eqb}
+use Rattle.laws.proofs.Bools.{byTest}
 use Rattle.laws.specs.Order.{same, before}
 use Rattle.text.specs.Text.{bytes}
 use Rattle.text.specs.Doc.{Name, Doc, scalar, array, object, Members, empty, member, Property, property, seek}
 use Rattle.text.specs.Writing.{spelled}
 use Rattle.text.specs.Labels.{Labelled, Every, EveryMember}
 use Rattle.text.proofs.NewNames.{label-shortest}
-use Rattle.contact.specs.Pointer.{Pointer, last, down, lastPart, pointerOf, within, find}
+use Rattle.contact.specs.Pointer.{Pointer, last, down, lastPart, pointerOf, find}
 use Rattle.contact.specs.Patch.{Change, remove, set, Entry, entry, changeOf, entriesOf, without, mine, under, insert, fresh, added, keep, applied, kept}
 use Rattle.contact.specs.Localize.{start, patchAt}
 use Rattle.contact.specs.Entries.{LongEnough}
 use Rattle.contact.specs.Conditions.{PatchOf}
-use Rattle.contact.proofs.Patching.Names.{byName, byTest, same-yes, same-no}
+use Rattle.contact.proofs.Patching.Names.{byName, same-yes, same-no}
+use Rattle.contact.proofs.Patching.Seek.{find-has}
 use Rattle.contact.proofs.Patching.Parts.{part-said}
 
 module _ (N : Name → List ℕ → Type 0) (T : ℕ → List ℕ → Type 0) where
@@ -111,17 +113,7 @@ module _ (N : Name → List ℕ → Type 0) (T : ℕ → List ℕ → Type 0) wh
       (λ ne. seek-every n ms s (h .2) (simp (same-no ne) at e))
 
   find-every : (p : Pointer) (d : Doc) (s : Property) → Every N T d → find p d ≡ some s → Every N T (s .content)
-  find-every (last n) (scalar kind token) s h e = absurd (Option·none-ne-some s e)
-  find-every (last n) (array xs) s h e = absurd (Option·none-ne-some s e)
-  find-every (last n) (object ms) s h e = seek-every n ms s h e
-  find-every (down n p) (scalar kind token) s h e = absurd (Option·none-ne-some s e)
-  find-every (down n p) (array xs) s h e = absurd (Option·none-ne-some s e)
-  find-every (down n p) (object ms) s h e = go (seek n ms) refl e (λ d. find-every p d s)
-    where
-      go : (o : Option Property) → seek n ms ≡ o → within (find p) o ≡ some s
-          → ((d : Doc) → Every N T d → find p d ≡ some s → Every N T (s .content)) → Every N T (s .content)
-      go none k q ih = absurd (Option·none-ne-some s q)
-      go (some r) k q ih = ih (r .content) (seek-every n ms r h k) q
+  find-every p d s h e = find-has (Every N T) seek-every p d s h e
 
   -- ---- the theorem
 

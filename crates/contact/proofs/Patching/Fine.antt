@@ -4,6 +4,7 @@ use mathlib.Core.Path.{_≡_}
 use mathlib.Core.Bool.{false}
 use Prim.Native.Nat.{ℕ, _<_}
 use native.Mathlib.Omega.{arith}
+use Rattle.laws.proofs.Bools.{byTest}
 use Rattle.text.specs.Limits.{Limits}
 use Rattle.text.specs.Doc.{Name, Doc, Members}
 use Rattle.contact.specs.Patch.{entriesOf, anyOwn, anyClash, anyWalk, isInArray, isNoObject}
@@ -12,7 +13,6 @@ use Rattle.contact.specs.Entries.{NoClash, ParentsThere}
 use Rattle.contact.specs.Conditions.{PatchOf, Broken, ownLocalizations, clashing, enteringArray, losingWay}
 use Rattle.contact.specs.declared.LocalRefusal.{LocalRefusal}
 use Rattle.contact.specs.declared.LocalRefusal.the-variants.{OwnLocalizations, Clash, InArray, NoObject}
-use Rattle.contact.proofs.Patching.Names.{byTest}
 use Rattle.contact.proofs.Patching.Apart.{from-anyClash, from-anyWalk}
 use Rattle.contact.proofs.Patching.Found.{own-found, array-found, lost-found, clash-found}
 

@@ -5,29 +5,19 @@ use mathlib.Core.Bool.{Bool, true, false, _||_, true≢false}
 use mathlib.Core.Logic.{_↔_, _⊎_}
 use mathlib.Core.List.{List}
 use Prim.Native.Nat.{ℕ}
+use Rattle.laws.proofs.Bools.{or-either, or-left, or-right}
 use Rattle.laws.specs.Order.{same}
 use Rattle.laws.proofs.Orders.{same-eq}
 use Rattle.text.specs.Text.{bytes}
 use Rattle.text.specs.Doc.{Name, Doc, Members, empty, member}
 use Rattle.contact.specs.Pointer.{Pointer, pointerOf, firstPart, badTilde, clash}
-use Rattle.contact.specs.Patch.{Walk, arrives, inArray, noObject, walk, entriesOf, anyBadKey, anyOwn, clashWith, anyClash, isInArray, isNoObject, anyWalk}
+use Rattle.contact.specs.Patch.{Walk, walk, entriesOf, anyBadKey, anyOwn, clashWith, anyClash, isInArray, isNoObject, anyWalk}
 use Rattle.contact.specs.Entries.{Prefix}
 use Rattle.contact.specs.Conditions.{LooseTilde, HasKey, first, later, HasKeys, firstOf, laterOn, EntersArray, LosesWay}
 use Rattle.contact.proofs.Patching.Names.{same-yes}
 use Rattle.contact.proofs.Patching.Apart.{clash-iff}
 use Rattle.contact.proofs.Patching.Tilde.{tilde-iff}
-use Rattle.contact.proofs.Patching.Ways.{array-iff, lost-iff}
-
-or-either : {G : Type 0} (a b : Bool) → (a || b) ≡ true → (a ≡ true → G) → (b ≡ true → G) → G
-or-either true b e f g = f refl
-or-either false b e f g = g e
-
-or-left : (a b : Bool) → a ≡ true → (a || b) ≡ true
-or-left a b e = rw e
-
-or-right : (a b : Bool) → b ≡ true → (a || b) ≡ true
-or-right true b e = refl
-or-right false b e = e
+use Rattle.contact.proofs.Patching.Ways.{array-test, lost-test}
 
 -- ---- one key
 
@@ -68,28 +58,8 @@ walk-key : (is : Walk → Bool) (x : Doc) (ms : Members) → anyWalk is (entries
 walk-key is x empty = refl
 walk-key is x (member key label d ms) = ap (λ (b : Bool). is (walk (pointerOf key) x) || b) (walk-key is x ms)
 
-in-array : (w : Walk) → (isInArray w ≡ true) ↔ (w ≡ inArray)
-in-array arrives = (λ e. absurd (true≢false (sym e)), λ e. ap isInArray e)
-in-array inArray = (λ e. refl, λ e. refl)
-in-array noObject = (λ e. absurd (true≢false (sym e)), λ e. ap isInArray e)
-
-no-object : (w : Walk) → (isNoObject w ≡ true) ↔ (w ≡ noObject)
-no-object arrives = (λ e. absurd (true≢false (sym e)), λ e. ap isNoObject e)
-no-object inArray = (λ e. absurd (true≢false (sym e)), λ e. ap isNoObject e)
-no-object noObject = (λ e. refl, λ e. refl)
-
 own-iff : (key : Name) → (same (firstPart (pointerOf key)) (bytes "localizations") ≡ true) ↔ (firstPart (pointerOf key) ≡ bytes "localizations")
 own-iff key = (λ e. same-eq (firstPart (pointerOf key)) (bytes "localizations") e, λ e. same-yes e)
-
-enters-iff : (x : Doc) (key : Name) → (isInArray (walk (pointerOf key) x) ≡ true) ↔ EntersArray (pointerOf key) x
-enters-iff x key =
-    let w : Walk = walk (pointerOf key) x in
-    (λ e. array-iff (pointerOf key) x .0 (in-array w .0 e), λ h. in-array w .1 (array-iff (pointerOf key) x .1 h))
-
-loses-iff : (x : Doc) (key : Name) → (isNoObject (walk (pointerOf key) x) ≡ true) ↔ LosesWay (pointerOf key) x
-loses-iff x key =
-    let w : Walk = walk (pointerOf key) x in
-    (λ e. lost-iff (pointerOf key) x .0 (no-object w .0 e), λ h. no-object w .1 (lost-iff (pointerOf key) x .1 h))
 
 pub bad-key-found : (ms : Members) → anyBadKey ms ≡ true → Found LooseTilde ms
 bad-key-found ms e = key-found badTilde LooseTilde tilde-iff ms (sym (bad-key ms) ∙ e)
@@ -107,22 +77,26 @@ own-found ms e = key-found (λ key. same (firstPart (pointerOf key)) (bytes "loc
 pub own-finds : {key : Name} (ms : Members) → HasKey key ms → IsOwn key → anyOwn (entriesOf ms) ≡ true
 own-finds ms x h = own-key ms ∙ key-finds (λ key. same (firstPart (pointerOf key)) (bytes "localizations")) IsOwn own-iff x h
 
+-- a test of the walk that tells whether T holds of the pointer
+module _ (is : Walk → Bool) (T : Pointer → Doc → Type 0) (iff : (p : Pointer) (x : Doc) → (is (walk p x) ≡ true) ↔ T p x) (x : Doc) where
+  walk-found : (ms : Members) → anyWalk is (entriesOf ms) x ≡ true → Found (λ key. T (pointerOf key) x) ms
+  walk-found ms e = key-found (λ key. is (walk (pointerOf key) x)) (λ key. T (pointerOf key) x) (λ key. iff (pointerOf key) x) ms (sym (walk-key is x ms) ∙ e)
+
+  walk-finds : {key : Name} (ms : Members) → HasKey key ms → T (pointerOf key) x → anyWalk is (entriesOf ms) x ≡ true
+  walk-finds ms k h = walk-key is x ms ∙ key-finds (λ key. is (walk (pointerOf key) x)) (λ key. T (pointerOf key) x) (λ key. iff (pointerOf key) x) k h
+
 module _ (x : Doc) where
   pub array-found : (ms : Members) → anyWalk isInArray (entriesOf ms) x ≡ true → Found (λ key. EntersArray (pointerOf key) x) ms
-  array-found ms e =
-      key-found (λ key. isInArray (walk (pointerOf key) x)) (λ key. EntersArray (pointerOf key) x) (enters-iff x) ms (sym (walk-key isInArray x ms) ∙ e)
+  array-found ms e = walk-found isInArray EntersArray array-test x ms e
 
   pub array-finds : {key : Name} (ms : Members) → HasKey key ms → EntersArray (pointerOf key) x → anyWalk isInArray (entriesOf ms) x ≡ true
-  array-finds ms k h =
-      walk-key isInArray x ms ∙ key-finds (λ key. isInArray (walk (pointerOf key) x)) (λ key. EntersArray (pointerOf key) x) (enters-iff x) k h
+  array-finds ms k h = walk-finds isInArray EntersArray array-test x ms k h
 
   pub lost-found : (ms : Members) → anyWalk isNoObject (entriesOf ms) x ≡ true → Found (λ key. LosesWay (pointerOf key) x) ms
-  lost-found ms e =
-      key-found (λ key. isNoObject (walk (pointerOf key) x)) (λ key. LosesWay (pointerOf key) x) (loses-iff x) ms (sym (walk-key isNoObject x ms) ∙ e)
+  lost-found ms e = walk-found isNoObject LosesWay lost-test x ms e
 
   pub lost-finds : {key : Name} (ms : Members) → HasKey key ms → LosesWay (pointerOf key) x → anyWalk isNoObject (entriesOf ms) x ≡ true
-  lost-finds ms k h =
-      walk-key isNoObject x ms ∙ key-finds (λ key. isNoObject (walk (pointerOf key) x)) (λ key. LosesWay (pointerOf key) x) (loses-iff x) k h
+  lost-finds ms k h = walk-finds isNoObject LosesWay lost-test x ms k h
 
 -- ---- two keys
 

@@ -4,12 +4,13 @@ use mathlib.Core.List.{List, [], _∷_}
 use mathlib.Core.Option.{Option, none, some, Option·none-ne-some}
 use mathlib.Core.Path.{_≡_, refl, sym, ap, ap₂, _∙_}
 use Prim.Native.Nat.{ℕ}
+use Rattle.laws.proofs.Bools.{byTest}
 use Rattle.laws.specs.Order.{before}
 use Rattle.text.specs.Doc.{Name, Doc, scalar, array, object, Members, empty, member, Property, property, seek}
 use Rattle.contact.specs.Pointer.{Pointer, last, down, parts, within, find}
 use Rattle.contact.specs.Patch.{Change, remove, set, Entry, entry, mine, under, insert, fresh, added, keep, applied, kept}
 use Rattle.contact.specs.Entries.{NoClash, New, Laid, stays, goes, adds, NotOver, LaidAt}
-use Rattle.contact.proofs.Patching.Names.{byName, byTest, same-yes, same-no}
+use Rattle.contact.proofs.Patching.Names.{byName, same-yes, same-no}
 use Rattle.contact.proofs.Patching.Applied.{seek-applied}
 use Rattle.contact.proofs.Patching.Entries.{under-noclash}
 use Rattle.contact.proofs.Patching.Ascending.{added-ascending}

@@ -1,29 +1,21 @@
--- Names are told apart by `same`; the case splits that the files beside this one use; and `before` is total.
+-- Names are told apart by `same`, and `before` is total; `byName` is the case split of the files beside this one.
 -- Assumes nothing.
 use mathlib.Core.Path.{_≡_, refl, sym, _∙_}
 use mathlib.Core.Bool.{Bool, true, false, true≢false}
 use mathlib.Core.Logic.{_≢_, _⊎_, inl, inr, ⊎-elim}
+use Rattle.laws.proofs.Bools.{byTest}
 use Rattle.laws.specs.Order.{same, before}
 use Rattle.laws.proofs.Orders.{eq-same, same-eq, OneOf, first, second, third, one-of-three}
 use Rattle.text.specs.Doc.{Name}
-
--- a test, kept with its value
-pub is : (b : Bool) → (b ≡ true) ⊎ (b ≡ false)
-is true = inl refl
-is false = inr refl
-
-pub byTest : {G : Type 0} (b : Bool) → (b ≡ true → G) → (b ≡ false → G) → G
-byTest b f g = ⊎-elim f g (is b)
 
 pub same-yes : {a b : Name} → a ≡ b → same a b ≡ true
 same-yes {a} {b} e = eq-same a b e
 
 pub same-no : {a b : Name} → a ≢ b → same a b ≡ false
-same-no {a} {b} h = ⊎-elim (λ e. absurd (h (same-eq a b e))) (λ e. e) (is (same a b))
+same-no {a} {b} h = byTest (same a b) (λ e. absurd (h (same-eq a b e))) (λ e. e)
 
 pub same? : (a b : Name) → (a ≡ b) ⊎ (a ≢ b)
-same? a b =
-    ⊎-elim (λ e. inl (same-eq a b e)) (λ (e : same a b ≡ false). inr (λ p. true≢false (sym (same-yes p) ∙ e))) (is (same a b))
+same? a b = byTest (same a b) (λ e. inl (same-eq a b e)) (λ e. inr (λ p. true≢false (sym (same-yes p) ∙ e)))
 
 -- by whether the two are one name
 pub byName : {G : Type 0} (a b : Name) → (a ≡ b → G) → (a ≢ b → G) → G

@@ -5,13 +5,14 @@ use mathlib.Core.List.{List}
 use mathlib.Core.Logic.{_≢_}
 use mathlib.Core.Option.{Option, none, some}
 use mathlib.Core.Path.{_≡_, refl, sym, ap, _∙_}
+use Rattle.laws.proofs.Bools.{byTest}
 use Rattle.laws.specs.Order.{before}
 use Rattle.laws.proofs.Orders.{before-asym, before-trans}
 use Rattle.text.specs.Doc.{Name, Doc, scalar, array, object, Members, empty, member, Property, seek}
 use Rattle.contact.specs.Pointer.{last, down}
 use Rattle.contact.specs.Patch.{remove, set, Entry, entry, under, insert, fresh, added, keep, applied, kept}
 use Rattle.contact.specs.Entries.{NoClash, Perm, stay, skip, swap, then}
-use Rattle.contact.proofs.Patching.Names.{byTest, before-total}
+use Rattle.contact.proofs.Patching.Names.{before-total}
 use Rattle.contact.proofs.Patching.Entries.{perm-noclash, perm-mine, perm-under, under-noclash}
 
 -- ---- two members inserted in either order

@@ -6,6 +6,7 @@ use Prim.Native.Nat.{ℕ, _<_}
 use native.Mathlib.Omega.{arith}
 use lib.Dec.{eqb}
 use borrow.Author.Tests.{eqb-true, eqb-false, ne-eqb}
+use Rattle.laws.proofs.Bools.{byTest}
 use Rattle.text.specs.Doc.{Name}
 use Rattle.text.specs.Strings.{utf8}
 use Rattle.text.specs.Spelling.{Good, utf8s}
@@ -15,7 +16,6 @@ use Rattle.text.proofs.Spelling.Codes.{ascii-good, by-utf8, one-byte}
 use Rattle.text.proofs.Spelling.Encoding.{AllGood, spells-good}
 use Rattle.text.proofs.NewNames.{new-label}
 use Rattle.contact.specs.Pointer.{Pointer, last, down, lastPart, push, split, plain, plainParts, pointerOf}
-use Rattle.contact.proofs.Patching.Names.{byTest}
 use Rattle.contact.proofs.Patching.Pointers.{plain-byte, plain-loose}
 
 -- a name that is the UTF-8 of code points that a string may hold

@@ -1,16 +1,16 @@
 -- A key without a loose `~` is the text of one pointer, which `pointerOf` finds: `pointer-iff`. Two keys of one pointer are one key: `one-key`.
 -- Assumes nothing.
 use mathlib.Core.Path.{_≡_, refl, sym, ap, ap₂, _∙_}
-use mathlib.Core.Bool.{Bool, true, false, not, _&&_, _||_, true≢false}
+use mathlib.Core.Bool.{false, not, _&&_, true≢false}
 use mathlib.Core.Logic.{_↔_, _≢_}
 use mathlib.Core.List.{List, [], _∷_, _++_}
 use Prim.Native.Nat.{ℕ}
 use lib.Dec.{eqb}
 use borrow.Author.Tests.{eqb-true, eqb-false, ne-eqb}
+use Rattle.laws.proofs.Bools.{byTest, or-false}
 use Rattle.text.specs.Doc.{Name}
 use Rattle.contact.specs.Pointer.{Pointer, last, down, push, split, plain, plainParts, pointerOf, zeroOrOne, badTilde}
 use Rattle.contact.specs.PointerText.{PartText, none, byte, tilde, slash, PointerText, one, more}
-use Rattle.contact.proofs.Patching.Names.{byTest}
 
 -- ---- a part
 
@@ -110,12 +110,8 @@ begin-slash : (b c : ℕ) (bs : List ℕ) → b ≡ 126 → c ≡ 49 → Written
 unfolding Written
 begin-slash b c bs e f x = rw (e, f, plain-slash (split bs)) (push-slash x)
 
-or-false : (a b : Bool) → (a || b) ≡ false → b ≡ false
-or-false true b e = absurd (true≢false e)
-or-false false b e = e
-
 after : (b : ℕ) (bs : List ℕ) → badTilde (b ∷ bs) ≡ false → badTilde bs ≡ false
-after b bs h = or-false (eqb b 126 && not (zeroOrOne bs)) (badTilde bs) h
+after b bs h = or-false (eqb b 126 && not (zeroOrOne bs)) (badTilde bs) h .1
 
 written : (key : Name) → badTilde key ≡ false → Written key
 unfolding Written

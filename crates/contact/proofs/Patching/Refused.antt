@@ -12,6 +12,7 @@ use native.Mathlib.Omega.{arith}
 use lib.ListN.{length}
 use lib.Dec.{ltb}
 use borrow.Author.Tests.{ltb-true, ltb-false}
+use Rattle.laws.proofs.Bools.{byTest}
 use Rattle.text.specs.Limits.{Limits}
 use Rattle.text.specs.Tree.{Forest}
 use Rattle.text.specs.Doc.{Name, Doc, scalar, array, object, Members, Property, property}
@@ -23,7 +24,6 @@ use Rattle.contact.specs.Localize.{refusedLocal, Outcome, done, denied, 
 use Rattle.contact.specs.Conditions.{HasKey, HasKeys, PatchOf, Broken, noLanguage, badKey, ownLocalizations, clashing, enteringArray, losingWay, short, unfit, Smallest, Accepted}
 use Rattle.contact.specs.declared.LocalRefusal.{LocalRefusal}
 use Rattle.contact.specs.declared.LocalRefusal.the-variants.{NoLanguage, Short}
-use Rattle.contact.proofs.Patching.Names.{byTest}
 use Rattle.contact.proofs.Patching.Found.{bad-key-found, bad-key-finds, own-found, own-finds, array-found, array-finds, lost-found, lost-finds, clash-found, clash-finds}
 
 -- a language has one PatchObject

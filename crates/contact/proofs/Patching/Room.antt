@@ -8,6 +8,7 @@ use Prim.Native.Nat.{ℕ, suc, _+_, max, _≤_}
 use native.Mathlib.Omega.{arith}
 use lib.Dec.{eqb, ltb}
 use lib.ListN.{length, length-append}
+use Rattle.laws.proofs.Bools.{byTest}
 use Rattle.text.specs.Doc.{Name, Doc, scalar, array, object, Members, empty, member, countOf, countAll}
 use Rattle.text.specs.Distinct.{Distinct}
 use Rattle.text.specs.Writing.{written, writtenMembers, shortOf, spelledByte, spelledBytes, spelled}
@@ -16,7 +17,6 @@ use Rattle.contact.specs.Patch.{entriesOf, applied}
 use Rattle.contact.specs.Localize.{start}
 use Rattle.contact.specs.Entries.{NoClash, ParentsThere, LongEnough}
 use Rattle.contact.specs.Conditions.{PatchOf}
-use Rattle.contact.proofs.Patching.Names.{byTest}
 use Rattle.contact.proofs.Patching.Pointers.{plain-byte, plain-loose}
 use Rattle.contact.proofs.Patching.Weigh.{Scale, weight, sum, KeysCover, weighs-less}
 

@@ -77,3 +77,17 @@ find-set (down n p) v (object ms) s h =
         → within (find p) (Option·map (over (changed p (set v))) o) ≡ some (property (s .label) v)
     go none e ih = absurd (Option·none-ne-some s e)
     go (some r) e ih = ih (r .content) e
+
+-- what every member's value has if its object has it, a value that is found has
+pub find-has : (P : Doc → Type 0) → ((n : Name) (ms : Members) (s : Property) → P (object ms) → seek n ms ≡ some s → P (s .content))
+    → (p : Pointer) (d : Doc) (s : Property) → P d → find p d ≡ some s → P (s .content)
+find-has P k (last n) (scalar kind token) s h e = absurd (Option·none-ne-some s e)
+find-has P k (last n) (array xs) s h e = absurd (Option·none-ne-some s e)
+find-has P k (last n) (object ms) s h e = k n ms s h e
+find-has P k (down n p) (scalar kind token) s h e = absurd (Option·none-ne-some s e)
+find-has P k (down n p) (array xs) s h e = absurd (Option·none-ne-some s e)
+find-has P k (down n p) (object ms) s h e = go (seek n ms) refl e (λ d. find-has P k p d s)
+  where
+    go : (o : Option Property) → seek n ms ≡ o → within (find p) o ≡ some s → ((d : Doc) → P d → find p d ≡ some s → P (s .content)) → P (s .content)
+    go none q r ih = absurd (Option·none-ne-some s r)
+    go (some x) q r ih = ih (x .content) (k n ms x h q) r

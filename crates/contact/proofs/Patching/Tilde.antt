@@ -1,16 +1,16 @@
 -- 22 in words: `badTilde` finds a `~` that neither `0` nor `1` follows, exactly if there is one.
 -- Assumes nothing.
 use mathlib.Core.Path.{_≡_, refl, sym, ap, _∙_}
-use mathlib.Core.Bool.{Bool, true, false, not, _&&_, _||_, true≢false}
+use mathlib.Core.Bool.{true, false, not, _&&_, true≢false}
 use mathlib.Core.Logic.{_↔_}
 use mathlib.Core.List.{List, [], _∷_, _++_}
 use Prim.Native.Nat.{ℕ}
 use lib.Dec.{eqb}
 use borrow.Author.Tests.{eqb-true}
+use Rattle.laws.proofs.Bools.{byTest, or-right}
 use Rattle.text.specs.Doc.{Name}
 use Rattle.contact.specs.Pointer.{zeroOrOne, badTilde}
 use Rattle.contact.specs.Conditions.{LooseTilde}
-use Rattle.contact.proofs.Patching.Names.{byTest}
 
 -- what follows a loose `~`
 loose-not : (bs rest : List ℕ) → zeroOrOne bs ≡ false → ((bs ≡ 48 ∷ rest) → ⊥) × ((bs ≡ 49 ∷ rest) → ⊥)
@@ -43,13 +43,9 @@ found (b ∷ bs) h =
     (λ z. here b bs (eqb-true b 126 y) z))
     (λ y. absurd (true≢false (sym (simp (x, y) at h)))))
 
-or-right : (a : Bool) → (a || true) ≡ true
-or-right true = refl
-or-right false = refl
-
 there : (front behind : List ℕ) → zeroOrOne behind ≡ false → badTilde (front ++ (126 ∷ behind)) ≡ true
 there [] behind h = rw h
-there (b ∷ front) behind h = rw (there front behind h) (or-right (eqb b 126 && not (zeroOrOne (front ++ (126 ∷ behind)))))
+there (b ∷ front) behind h = or-right (eqb b 126 && not (zeroOrOne (front ++ (126 ∷ behind)))) (badTilde (front ++ (126 ∷ behind))) (there front behind h)
 
 pub tilde-iff : (key : Name) → (badTilde key ≡ true) ↔ LooseTilde key
 tilde-iff key = (found key, λ h. ap badTilde (h .stands) ∙ there (h .front) (h .behind) (not-loose (h .behind) (h .loose)))

@@ -1,7 +1,7 @@
 -- 25 and 26 in words: where the walk along a pointer ends.
 -- Assumes nothing.
 use mathlib.Core.Path.{_≡_, refl, sym, ap, _∙_}
-use mathlib.Core.Bool.{true≢false}
+use mathlib.Core.Bool.{true, true≢false}
 use mathlib.Core.Logic.{_↔_}
 use mathlib.Core.List.{List, [], _∷_, _++_, head-eq-of-cons-eq, tail-eq-of-cons-eq}
 use mathlib.Core.Option.{Option, none, some}
@@ -9,7 +9,7 @@ use Prim.Native.Nat.{ℕ}
 use native.Mathlib.Omega.{arith}
 use Rattle.text.specs.Doc.{Name, Doc, scalar, array, object, Members, Property, seek}
 use Rattle.contact.specs.Pointer.{Pointer, last, down, parts}
-use Rattle.contact.specs.Patch.{inArray, noObject, onward, walk, isInArray, isNoObject}
+use Rattle.contact.specs.Patch.{Walk, arrives, inArray, noObject, onward, walk, isInArray, isNoObject}
 use Rattle.contact.specs.Conditions.{Leads, here, into, Reaches, EntersArray, reached, LosesWay, atScalar, lacking}
 
 -- ---- a part further
@@ -107,3 +107,20 @@ array-iff p d = (to-array p d, from-array p d)
 
 pub lost-iff : (p : Pointer) (d : Doc) → (walk p d ≡ noObject) ↔ LosesWay p d
 lost-iff p d = (to-lost p d, from-lost p d)
+
+-- the same, by the tests
+in-array : (w : Walk) → isInArray w ≡ true → w ≡ inArray
+in-array arrives e = absurd (true≢false (sym e))
+in-array inArray e = refl
+in-array noObject e = absurd (true≢false (sym e))
+
+no-object : (w : Walk) → isNoObject w ≡ true → w ≡ noObject
+no-object arrives e = absurd (true≢false (sym e))
+no-object inArray e = absurd (true≢false (sym e))
+no-object noObject e = refl
+
+pub array-test : (p : Pointer) (d : Doc) → (isInArray (walk p d) ≡ true) ↔ EntersArray p d
+array-test p d = (λ e. to-array p d (in-array (walk p d) e), λ h. ap isInArray (from-array p d h))
+
+pub lost-test : (p : Pointer) (d : Doc) → (isNoObject (walk p d) ≡ true) ↔ LosesWay p d
+lost-test p d = (λ e. to-lost p d (no-object (walk p d) e), λ h. ap isNoObject (from-lost p d h))

@@ -7,6 +7,7 @@ use mathlib.Core.Path.{_≡_, refl, ap}
 use Prim.Native.Nat.{ℕ, _+_, _≤_, _<_}
 use native.Mathlib.Omega.{arith}
 use lib.Dec.{eqb}
+use Rattle.laws.proofs.Bools.{byTest}
 use Rattle.text.specs.Text.{bytes}
 use Rattle.text.specs.Doc.{Name, Doc, scalar, array, object, Members, empty, member, Property, property, seek}
 use Rattle.text.specs.Distinct.{Distinct}
@@ -18,7 +19,7 @@ use Rattle.contact.specs.Likeness.{Taken, atHead, inTail, Reordered, sca
 use Rattle.contact.specs.Entries.{NoClash, ParentsThere, DistinctValues}
 use Rattle.contact.specs.Conditions.{PatchOf}
 use Rattle.contact.specs.Demand.{Ends}
-use Rattle.contact.proofs.Patching.Names.{byName, byTest, same-yes, same-no}
+use Rattle.contact.proofs.Patching.Names.{byName, same-yes, same-no}
 use Rattle.contact.proofs.Patching.Single.{one-at-a-time}
 use Rattle.contact.proofs.Patching.Reorder.{same-reordered}
 use Rattle.contact.proofs.Patching.Distinct.{distinct-run, distinct-applied, entries-values, distinct-start, find-distinct}
