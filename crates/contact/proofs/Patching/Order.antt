@@ -1,4 +1,4 @@
--- Theorem (a): the entries in another order give the same document, to the byte.
+-- The entries in another order give the same document, to the byte: `any-order`.
 -- Assumes nothing.
 use mathlib.Core.Bool.{true≢false}
 use mathlib.Core.List.{List}

@@ -2,11 +2,11 @@
 -- Assumes nothing.
 use mathlib.Core.Logic.{_≢_}
 use mathlib.Core.Option.{Option, none, some, Option·map, Option·none-ne-some}
-use mathlib.Core.Path.{_≡_, refl, sym, ap, _∙_}
+use mathlib.Core.Path.{_≡_, refl, sym, _∙_}
 use Rattle.laws.proofs.Orders.{same-refl}
 use Rattle.text.specs.Doc.{Name, Doc, scalar, array, object, Members, empty, member, Property, property, seek}
 use Rattle.contact.specs.Pointer.{Pointer, last, down, within, find}
-use Rattle.contact.specs.Patch.{Change, remove, set, write, without, put, alter, changed}
+use Rattle.contact.specs.Patch.{Change, remove, set, write, without, put, alter}
 use Rattle.contact.specs.Entries.{labelOf, valued}
 use Rattle.contact.proofs.Patching.Names.{same-yes, same-no, byName}
 
@@ -57,26 +57,6 @@ seek-alter-other n k f (member m t d ms) h =
     byName m n
     (λ e. simp (same-yes e, same-no (λ (p : m ≡ k). h (sym e ∙ p))))
     (λ ne. simp (same-no ne, seek-alter-other n k f ms h))
-
-pub without-alter : (n : Name) (f : Doc → Doc) (ms : Members) → without n (alter n f ms) ≡ without n ms
-without-alter n f empty = refl
-without-alter n f (member m t d ms) =
-    byName m n (λ e. simp (same-yes e)) (λ ne. simp (same-no ne) (ap (member m t d) (without-alter n f ms)))
-
--- what is set where a property was is found there
-pub find-set : (p : Pointer) (v : Doc) (d : Doc) (s : Property) → find p d ≡ some s → find p (changed p (set v) d) ≡ some (property (s .label) v)
-find-set (last n) v (scalar kind token) s h = absurd (Option·none-ne-some s h)
-find-set (last n) v (array xs) s h = absurd (Option·none-ne-some s h)
-find-set (last n) v (object ms) s h = seek-put-same n (set v) ms ∙ simp h
-find-set (down n p) v (scalar kind token) s h = absurd (Option·none-ne-some s h)
-find-set (down n p) v (array xs) s h = absurd (Option·none-ne-some s h)
-find-set (down n p) v (object ms) s h =
-    ap (within (find p)) (seek-alter-same n (changed p (set v)) ms) ∙ go (seek n ms) h (λ d. find-set p v d s)
-  where
-    go : (o : Option Property) → within (find p) o ≡ some s → ((d : Doc) → find p d ≡ some s → find p (changed p (set v) d) ≡ some (property (s .label) v))
-        → within (find p) (Option·map (over (changed p (set v))) o) ≡ some (property (s .label) v)
-    go none e ih = absurd (Option·none-ne-some s e)
-    go (some r) e ih = ih (r .content) e
 
 -- what every member's value has if its object has it, a value that is found has
 pub find-has : (P : Doc → Type 0) → ((n : Name) (ms : Members) (s : Property) → P (object ms) → seek n ms ≡ some s → P (s .content))

@@ -1,5 +1,5 @@
--- Theorem (b): the entries one at a time, in any order: each step finds its parent, and the end is the card that was written,
--- member order not counted.
+-- The entries one at a time, in any order: each step finds its parent, and the end is the card that was written, member order not counted:
+-- `in-any-order`.
 -- Assumes nothing.
 use mathlib.Core.List.{List, [], _∷_}
 use mathlib.Core.Option.{Option, none, some, Option·map}

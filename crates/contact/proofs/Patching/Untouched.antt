@@ -1,4 +1,4 @@
--- Theorem (c): a property that no pointer names, enters or covers stays as it was.
+-- A property that no pointer names, enters or covers stays as it was: `untouched`.
 -- Assumes nothing.
 use mathlib.Core.List.{List, [], _∷_}
 use mathlib.Core.Option.{Option, none, some, Option·map}
