@@ -7,3 +7,4 @@ pub mod Verdict
 pub mod Pointer
 pub mod Patch
 pub mod Localize
+pub mod Leaves

@@ -1,0 +1,3 @@
+-- The theorems on judging and localizing.
+pub mod Leaves
+pub mod Times
