@@ -8,3 +8,6 @@ pub mod Pointer
 pub mod Patch
 pub mod Localize
 pub mod Leaves
+pub mod Kinds
+pub mod Between
+pub mod Breaks
