@@ -4,3 +4,4 @@ pub mod Times
 pub mod Table
 pub mod Between
 pub mod Rows
+pub mod Breaches

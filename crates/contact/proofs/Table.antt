@@ -78,11 +78,11 @@ fits-test ty k = swap (suits ty k) asked (asks-test ty k)
 -- ---- lines of the table
 
 -- what a list of lines says of a name: the first line of that name, or none
-data Typed (ks : List Known) (n : Name) : Ty → Type 0 where
+pub data Typed (ks : List Known) (n : Name) : Ty → Type 0 where
   line : (k : Known) → In k ks → k .spelling ≡ n → Typed ks n (k .type)
   no-line : ((k : Known) → In k ks → ¬ (k .spelling ≡ n)) → Typed ks n any
 
-type-in : (ks : List Known) (n : Name) → Typed ks n (typeIn ks n)
+pub type-in : (ks : List Known) (n : Name) → Typed ks n (typeIn ks n)
 unfolding typeIn
 type-in [] n = no-line (λ k i. absurd (not-nil i))
 type-in (k ∷ ks) n = next (bytes-same n (k .spelling)) (type-in ks n)
@@ -133,7 +133,7 @@ one-line (l ∷ ls) e k j i i′ s =
     go un further (inr p) (inl q) = absurd (not-among (l .spelling) ls un k p (s ∙ ap (λ (x : Known). x .spelling) q))
     go un further (inr p) (inr q) = further p q s
 
-line-of : (o : ObjectType) {n : Name} {ty : Ty} → Typed (properties o) n ty → (k : Known) → In k (properties o) → k .spelling ≡ n → ty ≡ k .type
+pub line-of : (o : ObjectType) {n : Name} {ty : Ty} → Typed (properties o) n ty → (k : Known) → In k (properties o) → k .spelling ≡ n → ty ≡ k .type
 line-of o (line j i e) k i′ e′ = ap (λ (x : Known). x .type) (one-line (properties o) (names-apart o) j k i i′ (e ∙ sym e′))
 line-of o (no-line f) k i e = absurd (f k i e)
 
