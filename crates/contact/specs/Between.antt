@@ -7,7 +7,7 @@ use mathlib.Core.List.{List, [], _∷_}
 use Rattle.laws.specs.Each.{Each, Some, Neighbours}
 use Rattle.text.specs.Text.{bytes}
 use Rattle.text.specs.Strings.{contentOf}
-use Rattle.text.specs.Doc.{Name, Doc, scalar, array, object, Members, empty, member, kindOf, below}
+use Rattle.text.specs.Doc.{Name, Doc, scalar, object, Members, empty, member, kindOf, below}
 use Rattle.contact.specs.Schema.{ObjectType, card, name, address}
 use Rattle.contact.specs.Kinds.{Tabled}
 

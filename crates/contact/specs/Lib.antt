@@ -11,3 +11,4 @@ pub mod Leaves
 pub mod Kinds
 pub mod Between
 pub mod Breaks
+pub mod Judging
