@@ -281,3 +281,7 @@ first-breach whole =
     (λ r m b. record { type = b .type; under = b .under; value = b .value; stands = inside-at (b .within) root; broken = b .breaks })
     (λ r m b. record { type = b .type; under = b .under; value = b .value; within = at-inside (b .stands); breaks = b .broken })
     (value-least (objectOf card) B.nothing true 0 whole (fails (λ h. elim h [ ])))
+
+-- a row that breaks something is a row of the document
+pub broken-row : {whole : Doc} {row number : ℕ} → RowBreaks whole row number → row < countOf whole
+broken-row b = let h = inside-rows (at-inside (b .stands)) in omega arith

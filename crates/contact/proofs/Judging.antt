@@ -29,6 +29,7 @@ use Rattle.contact.specs.declared.Verdict.the-variants.{Passed, Failed}
 use Rattle.contact.proofs.Leaves.{id-test, count-test}
 use Rattle.contact.proofs.Times.{time-test}
 use Rattle.contact.proofs.Between.{between-test}
+use Rattle.contact.proofs.Starts.{broken-start}
 use Rattle.contact.proofs.Breaches.{Least, unbroken, at-first, first-breach}
 
 -- ---- what the search of a card finds
@@ -173,6 +174,7 @@ judging = record {
     λ h. subst₂ (Says L words t) (sym (h .0)) (sym (h .1)) (sayings L words t (judged L words t) refl),
     said L words t,
   );
+  place = λ L words t f to row number e h. broken-start L words t e (h .broken);
   one-answer = one-answer;
   one-outcome = λ L t lent a b x y h k. (one-answer a b (h .answered ∙ sym (k .answered)), h .table ∙ sym (k .table));
 }

@@ -1,6 +1,6 @@
 -- What is shown of judging, as one statement: `Judging`. proofs/Judging.antt proves it.
 -- Assumes nothing: these are definitions.
-use Prim.Native.Nat.{ℕ}
+use Prim.Native.Nat.{ℕ, _<_}
 use mathlib.Core.Path.{_≡_}
 use mathlib.Core.Bool.{true}
 use mathlib.Core.List.{List, []}
@@ -57,6 +57,9 @@ pub record Judging : Type 0 where
   -- the answer and the table are those that the papers say, and no others
   pub answer : (L : Limits) (words : ℕ) (t : List ℕ) (p : Paper) (table : List ℕ)
       → ((p ≡ sheetOfJudged (judgedOf L words t)) × (table ≡ tableOfJudged words (judgedOf L words t))) ↔ Says L words t p table
+  -- the place of a refusal is where a value of the text starts
+  pub place : (L : Limits) (words : ℕ) (t : List ℕ) (f : Forest) (to row number : ℕ) → wholeOf L words t ≡ good f to
+      → First (docOf t f) row number → row < length (startsOf f)
   -- an answer's numbers tell the answer
   pub one-answer : (a b : Verdict) → paperOfVerdict a ≡ paperOfVerdict b → a ≡ b
   -- two outcomes that the contract allows are equal

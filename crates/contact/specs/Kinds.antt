@@ -3,6 +3,7 @@
 -- Assumes nothing: these are definitions.
 use Prim.Native.Nat.{ℕ}
 use mathlib.Core.Path.{_≡_}
+use mathlib.Core.List.{List·Memᴰ as In}
 use Rattle.text.specs.Doc.{Name}
 use Rattle.contact.specs.Schema.{ObjectType, anyString, exactly, flag, yes, count, time, Keys, Ty, any, simple, objectOf, listOf, mapOf, Known, properties}
 
