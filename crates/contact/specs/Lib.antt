@@ -12,3 +12,4 @@ pub mod Kinds
 pub mod Between
 pub mod Breaks
 pub mod Judging
+pub mod JudgeSpecimens
