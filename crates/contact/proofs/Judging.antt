@@ -1,6 +1,6 @@
 -- `Judging` holds: the theorems of judging put together.
 -- Assumes nothing.
-use Prim.Native.Nat.{ℕ, _≤_}
+use Prim.Native.Nat.{ℕ, _≤_, _<_}
 use mathlib.Core.Path.{_≡_, refl, sym, ap, ap₂, subst, subst₂, _∙_}
 use mathlib.Core.Bool.{cond}
 use mathlib.Core.List.{List}
@@ -8,8 +8,9 @@ use native.Mathlib.Omega.{arith}
 use lib.ListN.{getD}
 use lib.Dec.{eqb}
 use Rattle.laws.proofs.Decides.{iff}
+use Rattle.text.proofs.Promise.{promised, whole-good, count-root}
 use Rattle.text.specs.Limits.{Limits}
-use Rattle.text.specs.Tree.{Forest, startsOf}
+use Rattle.text.specs.Tree.{Forest, size, startsOf}
 use Rattle.text.specs.Reader.{Read, good, bad}
 use Rattle.text.specs.Sheet.{Paper, numbers, refused}
 use Rattle.text.specs.Whole.{wholeOf}
@@ -29,8 +30,7 @@ use Rattle.contact.specs.declared.Verdict.the-variants.{Passed, Failed}
 use Rattle.contact.proofs.Leaves.{id-test, count-test}
 use Rattle.contact.proofs.Times.{time-test}
 use Rattle.contact.proofs.Between.{between-test}
-use Rattle.contact.proofs.Starts.{broken-start}
-use Rattle.contact.proofs.Breaches.{Least, unbroken, at-first, first-breach}
+use Rattle.contact.proofs.Breaches.{broken-row, Least, unbroken, at-first, first-breach}
 
 -- ---- what the search of a card finds
 
@@ -124,6 +124,12 @@ module _ (L : Limits) (words : ℕ) (t : List ℕ) where
       let n = first-found (first-breach (docOf t f)) h in
       (rw (e, n) (sym (fault-number (getD (startsOf f) row 0) (h .broken .broken))), rw (e, n))
 
+  -- ---- the row of a refusal
+
+  its-row : {f : Forest} {to row n : ℕ} → wholeOf L words t ≡ good f to → First (docOf t f) row n → row < size f
+  its-row {f} {to} e h =
+      let p = promised L t f to (whole-good L words t f to e .read) in omega (arith, count-root t f (p .some) (p .alone), broken-row (h .broken))
+
 -- ---- an answer's numbers tell the answer
 
 -- the answer of a number and a second number
@@ -138,10 +144,10 @@ refusalOf n s =
     (cond (eqb n 7) (Text (Small s))
     (cond (eqb n 11) (Card (Kind s)) (cond (eqb n 12) (Card (Missing s)) (cond (eqb n 13) (Card (Value s)) (Card (Rule s)))))))))))
 
-abbrev answerOf : Paper → Verdict
-answerOf p = cond (eqb (p .number) 0) (Passed (p .second)) (Failed (refusalOf (p .number) (p .second)))
+abbrev verdictOf : Paper → Verdict
+verdictOf p = cond (eqb (p .number) 0) (Passed (p .second)) (Failed (refusalOf (p .number) (p .second)))
 
-answer-back : (a : Verdict) → answerOf (paperOfVerdict a) ≡ a
+answer-back : (a : Verdict) → verdictOf (paperOfVerdict a) ≡ a
 unfolding paperOfVerdict refusedCard refusedFault refused
 answer-back (Passed n) = refl
 answer-back (Failed (Text TooLong)) = refl
@@ -157,7 +163,7 @@ answer-back (Failed (Card (Value p))) = refl
 answer-back (Failed (Card (Rule p))) = refl
 
 pub one-answer : (a b : Verdict) → paperOfVerdict a ≡ paperOfVerdict b → a ≡ b
-one-answer a b e = sym (answer-back a) ∙ ap answerOf e ∙ answer-back b
+one-answer a b e = sym (answer-back a) ∙ ap verdictOf e ∙ answer-back b
 
 -- ---- all of it
 
@@ -174,7 +180,7 @@ judging = record {
     λ h. subst₂ (Says L words t) (sym (h .0)) (sym (h .1)) (sayings L words t (judged L words t) refl),
     said L words t,
   );
-  place = λ L words t f to row number e h. broken-start L words t e (h .broken);
+  place = λ L words t f to row number e h. its-row L words t e h;
   one-answer = one-answer;
   one-outcome = λ L t lent a b x y h k. (one-answer a b (h .answered ∙ sym (k .answered)), h .table ∙ sym (k .table));
 }

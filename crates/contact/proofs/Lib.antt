@@ -5,5 +5,4 @@ pub mod Table
 pub mod Between
 pub mod Rows
 pub mod Breaches
-pub mod Starts
 pub mod Judging

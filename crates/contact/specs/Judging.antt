@@ -57,9 +57,9 @@ pub record Judging : Type 0 where
   -- the answer and the table are those that the papers say, and no others
   pub answer : (L : Limits) (words : ℕ) (t : List ℕ) (p : Paper) (table : List ℕ)
       → ((p ≡ sheetOfJudged (judgedOf L words t)) × (table ≡ tableOfJudged words (judgedOf L words t))) ↔ Says L words t p table
-  -- the place of a refusal is where a value of the text starts
+  -- the row of a refusal is one of the text's rows, so that its place is where a value starts
   pub place : (L : Limits) (words : ℕ) (t : List ℕ) (f : Forest) (to row number : ℕ) → wholeOf L words t ≡ good f to
-      → First (docOf t f) row number → row < length (startsOf f)
+      → First (docOf t f) row number → row < size f
   -- an answer's numbers tell the answer
   pub one-answer : (a b : Verdict) → paperOfVerdict a ≡ paperOfVerdict b → a ≡ b
   -- two outcomes that the contract allows are equal

@@ -3,11 +3,17 @@ pub mod Text
 pub mod Chars
 pub mod Strings
 pub mod Spelling
+pub mod Broken
 pub mod Sheet
 pub mod Tokens
 pub mod Tree
 pub mod Standing
+pub mod Firsts
 pub mod Reader
 pub mod Whole
 pub mod Doc
+pub mod Distinct
+pub mod Placed
+pub mod Promised
 pub mod Writing
+pub mod Fewer
