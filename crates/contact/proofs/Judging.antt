@@ -1,5 +1,14 @@
--- `Judging` holds: the theorems of judging put together.
+-- `Judging` (specs/Judging.antt) holds: the theorems of judging put together.
+--     Leaves, Times     the tests of single values
+--     Table, Between    kinds and types by the table; the rules between members
+--     Rows, Breaches    the number of one row; the first breach of a card
 -- Assumes nothing.
+pub mod Leaves
+pub mod Times
+pub mod Table
+pub mod Between
+pub mod Rows
+pub mod Breaches
 use Prim.Native.Nat.{ℕ, _≤_, _<_}
 use mathlib.Core.Path.{_≡_, refl, sym, ap, ap₂, subst, subst₂, _∙_}
 use mathlib.Core.Bool.{cond}
@@ -27,10 +36,10 @@ use Rattle.contact.specs.declared.CardRefusal.{CardRefusal}
 use Rattle.contact.specs.declared.CardRefusal.the-variants.{Text, Card}
 use Rattle.contact.specs.declared.Verdict.{Verdict}
 use Rattle.contact.specs.declared.Verdict.the-variants.{Passed, Failed}
-use Rattle.contact.proofs.Leaves.{id-test, count-test}
-use Rattle.contact.proofs.Times.{time-test}
-use Rattle.contact.proofs.Between.{between-test}
-use Rattle.contact.proofs.Breaches.{broken-row, Least, unbroken, at-first, first-breach}
+use Rattle.contact.proofs.Judging.Leaves.{id-test, count-test}
+use Rattle.contact.proofs.Judging.Times.{leap-test, day-test, time-test}
+use Rattle.contact.proofs.Judging.Between.{between-test}
+use Rattle.contact.proofs.Judging.Breaches.{broken-row, Least, unbroken, at-first, first-breach}
 
 -- ---- what the search of a card finds
 
@@ -116,7 +125,8 @@ module _ (L : Limits) (words : ℕ) (t : List ℕ) where
   sayings (kept k) e = passes e k
   sayings (broken {f = f} {row = row} h) e = rw (fault-number (getD (startsOf f) row 0) (h .broken .broken)) (breaks-first e h)
 
-  said : {p : Paper} {table : List ℕ} → Says L words t p table → (p ≡ sheetOfJudged (judgedOf L words t)) × (table ≡ tableOfJudged words (judgedOf L words t))
+  said : {p : Paper} {table : List ℕ} → Says L words t p table
+      → (p ≡ sheetOfJudged (judgedOf L words t)) × (table ≡ tableOfJudged words (judgedOf L words t))
   unfolding judgedOf judgedRead placed sheetOfJudged tableOfJudged refusedCard
   said (unread e) = (rw e, rw e)
   said (passes {f = f} e k) = let n = kept-none (first-breach (docOf t f)) k in (rw (e, n), rw (e, n))
@@ -171,6 +181,8 @@ pub judging : Judging
 judging = record {
   ids = λ n. iff (id-test n);
   counts = λ low high token. iff (count-test low high token);
+  leap-years = λ y. iff (leap-test y);
+  days = λ y m d. iff (day-test y m d);
   times = λ t. iff (time-test t);
   rules = λ o ms. iff (between-test o ms);
   keeps = λ d. (none-kept (first-breach d), kept-none (first-breach d));

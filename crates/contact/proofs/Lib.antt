@@ -1,8 +1,2 @@
--- The theorems on judging and localizing.
-pub mod Leaves
-pub mod Times
-pub mod Table
-pub mod Between
-pub mod Rows
-pub mod Breaches
+-- The theorems over the definitions of specs/, by subject.
 pub mod Judging

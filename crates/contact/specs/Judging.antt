@@ -16,11 +16,11 @@ use Rattle.text.specs.Doc.{Name, Doc, Members, docOf}
 use Rattle.text.specs.declared.Refusal.{Refusal}
 use Rattle.contact.specs.Schema.{ObjectType}
 use Rattle.contact.specs.Values.{isId, isCount}
-use Rattle.contact.specs.Dates.{isTime}
+use Rattle.contact.specs.Dates.{isLeap, isDay, isTime}
 use Rattle.contact.specs.Rules.{breaks}
 use Rattle.contact.specs.Judge.{nothing, found, cardBreach}
 use Rattle.contact.specs.Verdict.{passed, paperOfVerdict, judgedOf, sheetOfJudged, tableOfJudged}
-use Rattle.contact.specs.Leaves.{Id, Count, UTCDateTime}
+use Rattle.contact.specs.Leaves.{Id, Count, Leap, Day, UTCDateTime}
 use Rattle.contact.specs.Between.{BreaksBetween}
 use Rattle.contact.specs.Breaks.{Keeps, First}
 use Rattle.contact.specs.declared.Verdict.{Verdict}
@@ -45,6 +45,8 @@ pub record Judging : Type 0 where
   -- the tests of single values tell just what specs/Leaves.antt says
   pub ids : (n : Name) → (isId n ≡ true) ↔ Id n
   pub counts : (low high : ℕ) (token : List ℕ) → (isCount low high token ≡ true) ↔ Count low high token
+  pub leap-years : (y : ℕ) → (isLeap y ≡ true) ↔ Leap y
+  pub days : (y m d : ℕ) → (isDay y m d ≡ true) ↔ Day y m d
   pub times : (t : List ℕ) → (isTime t ≡ true) ↔ UTCDateTime t
   -- and those of the rules between members what specs/Between.antt says
   pub rules : (o : ObjectType) (ms : Members) → (breaks o ms ≡ true) ↔ BreaksBetween o ms

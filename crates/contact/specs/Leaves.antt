@@ -1,5 +1,5 @@
--- The values that hold no others, by what they are and not by a test: Ids, unsigned integers, and times. proofs/Leaves.antt shows that the tests of
--- Values.antt and Dates.antt tell just these.
+-- The values that hold no others, by what they are and not by a test: Ids, unsigned integers, and times. The tests of Values.antt and
+-- Dates.antt tell just these (specs/Judging.antt).
 -- Assumes nothing: these are definitions.
 use Prim.Native.Nat.{ℕ, _+_, _*_, _≤_, _<_}
 use Prim.Native.Char.{Char, code}

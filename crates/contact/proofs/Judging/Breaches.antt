@@ -14,9 +14,9 @@ use Rattle.contact.specs.Judge.{memberType, keyIn, keyFits, Breach, noth
 use Rattle.contact.specs.Kinds.{Suits, unknown}
 use Rattle.contact.specs.Breaks.{Under, key, Gives, property, element, entry, Among, first, later, At, root, inside, BadKey, no-id, Breaks, RowBreaks}
 use Rattle.contact.specs.Breaks as B
-use Rattle.contact.proofs.Leaves.{id-test}
-use Rattle.contact.proofs.Table.{Typed, line, no-line, type-in, line-of}
-use Rattle.contact.proofs.Rows.{RowSays, clean, worst, row-says}
+use Rattle.contact.proofs.Judging.Leaves.{id-test}
+use Rattle.contact.proofs.Judging.Table.{Typed, line, no-line, type-in, line-of}
+use Rattle.contact.proofs.Judging.Rows.{RowSays, clean, worst, row-says}
 
 -- ---- values inside others, from the outermost on
 
@@ -106,7 +106,8 @@ record AmongBroken (ty : Ty) (passed : List Name) (row : ℕ) (ms : Members) (r 
 broken-rows : {ty : Ty} {u : Under} {row r m : ℕ} {d : Doc} → Broken ty u row d r m → (row ≤ r) × (r < row + countOf d)
 broken-rows b = inside-rows (b .within)
 
-at-row : {ty : Ty} {passed : List Name} {row row′ r m : ℕ} {n : Name} {d : Doc} → row ≡ row′ → HeadBroken ty passed n row d r m → HeadBroken ty passed n row′ d r m
+at-row : {ty : Ty} {passed : List Name} {row row′ r m : ℕ} {n : Name} {d : Doc} → row ≡ row′ → HeadBroken ty passed n row d r m
+    → HeadBroken ty passed n row′ d r m
 at-row {ty} {passed} {r = r} {m = m} {n = n} {d = d} e h = subst (λ (k : ℕ). HeadBroken ty passed n k d r m) e h
 
 -- the first of some members, or one of the others

@@ -19,7 +19,7 @@ use Rattle.contact.specs.Schema.{ObjectType, card, name, nameComponent, 
 use Rattle.contact.specs.Rules.{ifFits, present, isTrue, isString, isThisString, hasKind, isSeparator, marksOf, marks, anyMark, allMarks, adjacent, breaksCard, breaksSeparators, breaksName, breaks}
 use Rattle.contact.specs.Kinds.{Tabled}
 use Rattle.contact.specs.Between.{Has, here, later, Counts, IsString, string, Separator, separator, entries, BreaksCard, no-group, BreaksSeparators, in-a-row, unordered, default-unordered, default-alone, BreaksName, nameless, only-separators, separators, BreaksBetween, of-card, of-name, of-address}
-use Rattle.contact.proofs.Table.{table-test}
+use Rattle.contact.proofs.Judging.Table.{table-test}
 
 -- ---- members
 
@@ -162,7 +162,8 @@ card-test ms =
     parts (no-group c f) = ((_, c), λ h. f (h .0) (h .1) (h .2))
 
 -- a test on the marks of a list that counts
-listed-test : {Q : Members → Type 0} (o : ObjectType) (ms : Members) (f : List Bool → Bool) → f [] ≡ false → ((es : Members) → Decides (Q es) (f (marksOf es)))
+listed-test : {Q : Members → Type 0} (o : ObjectType) (ms : Members) (f : List Bool → Bool) → f [] ≡ false
+    → ((es : Members) → Decides (Q es) (f (marksOf es)))
     → Decides ((d : Doc) × Counts o ms "components" d × Q (below d)) (f (marks (present o (bytes "components") ms)))
 listed-test o ms f empty-fails test = such (λ x. f (marks x)) empty-fails (λ d. test (below d)) (present-is o "components" ms)
 

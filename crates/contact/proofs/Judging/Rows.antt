@@ -17,10 +17,10 @@ use Rattle.contact.specs.Kinds.{Suits}
 use Rattle.contact.specs.Between.{Has}
 use Rattle.contact.specs.Breaks.{Under, Lacks, Unallowed, other-string, not-true, no-count, no-time, BadKey, Unruly, between, Breaks, kind, missing, value, badly-keyed, rule}
 use Rattle.contact.specs.Breaks as B
-use Rattle.contact.proofs.Leaves.{count-test}
-use Rattle.contact.proofs.Times.{time-test}
-use Rattle.contact.proofs.Table.{fits-test}
-use Rattle.contact.proofs.Between.{there-test, between-test}
+use Rattle.contact.proofs.Judging.Leaves.{count-test}
+use Rattle.contact.proofs.Judging.Times.{time-test}
+use Rattle.contact.proofs.Judging.Table.{fits-test}
+use Rattle.contact.proofs.Judging.Between.{there-test, between-test}
 
 -- ---- 12
 

@@ -17,7 +17,7 @@ use Rattle.laws.proofs.Decides.{Decides, holds, fails, told, itself, test-true,
 use Rattle.contact.specs.Dates.{monthLengths, isLeap, daysOf, isDay, shaped, fractionEnds, twoAt, ends, inRange, isTime}
 use Rattle.text.specs.Text.{bytes}
 use Rattle.text.specs.Tokens.{isDigit}
-use Rattle.contact.proofs.Leaves.{digit-test, digit-of, digit-byte}
+use Rattle.contact.proofs.Judging.Leaves.{digit-test, digit-of, digit-byte}
 use Rattle.contact.specs.Leaves.{Between, Leap, fourth, century, MonthDays, january, february, leap-february, march, april, may, june, july, august, september, october, november, december, Day, digit, Two, two, Four, four, Fraction, fraction, Zone, utc, after, UTCDateTime, moment}
 
 -- ---- leap years
