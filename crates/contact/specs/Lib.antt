@@ -8,6 +8,12 @@ pub mod Pointer
 pub mod PointerText
 pub mod Patch
 pub mod Localize
+pub mod Leaves
+pub mod Kinds
+pub mod Between
+pub mod Breaks
+pub mod Judging
+pub mod JudgeSpecimens
 pub mod Likeness
 pub mod Entries
 pub mod Conditions

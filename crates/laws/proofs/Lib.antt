@@ -6,4 +6,5 @@ pub mod Picks
 pub mod Branches
 pub mod Orders
 pub mod Parts
+pub mod Decides
 pub mod Bools
