@@ -9,8 +9,6 @@ use native.Mathlib.Nat.{mul-le-mul-left}
 use native.Mathlib.Omega.{arith}
 use Rattle.text.specs.Limits.{Limits}
 use Rattle.text.specs.Tree.{Forest, size}
-use Rattle.text.specs.Reader.{Read, good, bad}
-use Rattle.text.specs.Whole.{wholeOf}
 use Rattle.text.specs.Doc.{Name, Doc, object, Members, property, docOf, countOf}
 use Rattle.text.specs.Distinct.{Distinct}
 use Rattle.text.specs.Promised.{Promised}
@@ -18,8 +16,7 @@ use Rattle.text.specs.Writing.{written}
 use Rattle.text.specs.Labels.{Labelled, Every}
 use Rattle.text.proofs.Promise.{Fits, whole-good, promised, count-root}
 use Rattle.text.proofs.Labels.{labels-said}
-use Rattle.contact.specs.Judge.{Breach, nothing, found, cardBreach}
-use Rattle.contact.specs.Verdict.{passed, placed, judgedRead, judgedOf}
+use Rattle.contact.specs.Verdict.{passed, placed, judgedOf}
 use Rattle.contact.specs.Patch.{entriesOf, applied}
 use Rattle.contact.specs.Localize.{refusedLocal, done, denied, start, patchAt, localizedOf}
 use Rattle.contact.specs.Entries.{NoClash, ParentsThere}
@@ -27,27 +24,13 @@ use Rattle.contact.specs.Conditions.{PatchOf, Broken, unfit, Smallest, A
 use Rattle.contact.specs.Again.{TokenOf, Modest, InnerOf}
 use Rattle.contact.specs.declared.CardRefusal.{CardRefusal}
 use Rattle.contact.specs.declared.LocalRefusal.the-variants.{Inner}
+use Rattle.contact.proofs.Judging.{judging}
 use Rattle.contact.proofs.Patching.Distinct.{distinct-applied, entries-values, distinct-start, find-distinct}
 use Rattle.contact.proofs.Patching.Every.{labels-stay, keys-long}
 use Rattle.contact.proofs.Patching.Room.{room-enough, values-enough}
 use Rattle.contact.proofs.Patching.Refused.{refused-iff, accepted-iff}
 use Rattle.contact.proofs.Patching.Public.{passed-so}
 use Rattle.contact.proofs.Patching.Fine.{Fine, fine}
-
--- a text that passes was read
-module _ (L : Limits) (words : ℕ) (t : List ℕ) (f : Forest) where
-  placed-passes : (g : Forest) (b : Breach) → placed g b ≡ passed f → g ≡ f
-  unfolding placed
-  placed-passes g nothing e = cc
-  placed-passes g (found row n) e = let z : _≡_ {A = ℕ} 0 1 = cc in absurd (omega arith)
-
-  passes-read : judgedOf L words t ≡ passed f → (to : ℕ) × (wholeOf L words t ≡ good f to)
-  unfolding judgedOf judgedRead
-  passes-read e = go (wholeOf L words t) refl e
-    where
-      go : (r : Read) → wholeOf L words t ≡ r → judgedRead t r ≡ passed f → (to : ℕ) × (wholeOf L words t ≡ good f to)
-      go (bad r) k h = let z : _≡_ {A = ℕ} 0 1 = cc in absurd (omega arith)
-      go (good g to) k h = let q : g ≡ f = placed-passes g (cardBreach (docOf t g)) h in (to, rw (← q) k)
 
 module _ (L : Limits) (words : ℕ) (t : List ℕ) (f : Forest) (unique : L .unique ≡ true) (pass : judgedOf L words t ≡ passed f) (lang : Name) where
   abbrev card : Doc
@@ -56,7 +39,7 @@ module _ (L : Limits) (words : ℕ) (t : List ℕ) (f : Forest) (unique : L .uni
   pub modest : (ms : Members) → PatchOf card lang ms → NoClash (entriesOf ms) → ParentsThere (entriesOf ms) (start card)
       → Modest L words t f (applied (start card) (entriesOf ms))
   modest ms patch nc pt =
-      let (to, w) = passes-read L words t f pass in
+      let (to, w, keeps) = judging .accepted L words t f .0 pass in
       let r : Fits L words t f to = whole-good L words t f to w in
       let p : Promised L t f = promised L t f to (r .read) in
       let dc : Distinct card = p .distinct unique in
