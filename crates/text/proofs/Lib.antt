@@ -10,3 +10,4 @@ pub mod StringSpecimens
 pub mod TokenEnds
 pub mod TokenBytes
 pub mod Placing
+pub mod Grammar

@@ -16,3 +16,9 @@ pub mod Distinct
 pub mod Placed
 pub mod Writing
 pub mod Fewer
+pub mod Abnf
+pub mod Grammar
+pub mod Rfc
+pub mod Seats
+pub mod Meaning
+pub mod Fault
