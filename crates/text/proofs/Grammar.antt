@@ -16,3 +16,4 @@ pub mod Arrangement
 pub mod Rules
 pub mod Wholes
 pub mod Accepted
+pub mod Refused
