@@ -99,6 +99,11 @@ module _ (L : Limits) (words room : ℕ) where
 
 -- ---- the answer, the whole table and the whole output
 
+-- the answer as it is handed out, with 28's inner place, which the paper's numbers leave out
+unfoldable pub answerOfOutcome : Outcome → Localized
+answerOfOutcome (done text f) = Written (size f) (length text)
+answerOfOutcome (denied r) = Denied r
+
 -- in the paper's numbers: 0, the row count and the output's length; or the refusal's number and its second number
 unfoldable pub sheetOfOutcome : Outcome → Paper
 sheetOfOutcome (done text f) = numbers 0 (size f) (length text)

@@ -5,3 +5,6 @@ pub mod Splits
 pub mod Picks
 pub mod Branches
 pub mod Orders
+pub mod Parts
+pub mod Decides
+pub mod Bools

@@ -1,5 +1,6 @@
 -- The theorems over the definitions of specs/, by subject.
 pub mod Walks
+pub mod Sequences
 pub mod Laws
 pub mod Standing
 pub mod Fewer
@@ -11,3 +12,7 @@ pub mod TokenEnds
 pub mod TokenBytes
 pub mod Placing
 pub mod Grammar
+pub mod Outcomes
+pub mod Promise
+pub mod NewNames
+pub mod Labels

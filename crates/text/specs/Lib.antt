@@ -14,6 +14,7 @@ pub mod Whole
 pub mod Doc
 pub mod Distinct
 pub mod Placed
+pub mod Promised
 pub mod Writing
 pub mod Fewer
 pub mod Abnf
@@ -22,3 +23,4 @@ pub mod Rfc
 pub mod Seats
 pub mod Meaning
 pub mod Fault
+pub mod Labels

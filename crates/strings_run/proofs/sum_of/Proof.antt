@@ -44,7 +44,7 @@ add-s : tie.Need-add-s Inv-loop μ-loop
 add-s c = search needs
 
 loop-less : tie.Need-loop-less Inv-loop μ-loop
-loop-less c = omega (arith, ap length (handed (now (c .before .before .before .before .before .before .args .name)) (c .before .before .before .before .loop .c) (c .before .before .before .next-byte .ensures) (c .before .b .given .1)))
+loop-less c = omega (arith, ap length (handed (now (c .before .before .before .before .before .before .args .name)) (c .before .before .before .before .loop .c) (c .before .before .before .next-byte .ensures .0) (c .before .b .given .1)))
 
 loop-again : tie.Need-loop-again Inv-loop μ-loop
 loop-again c = search needs
