@@ -11,6 +11,7 @@ pub mod StringSpecimens
 pub mod TokenEnds
 pub mod TokenBytes
 pub mod Placing
+pub mod Grammar
 pub mod Outcomes
 pub mod Promise
 pub mod NewNames
