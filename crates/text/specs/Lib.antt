@@ -7,7 +7,9 @@ pub mod Sheet
 pub mod Tokens
 pub mod Tree
 pub mod Standing
+pub mod Firsts
 pub mod Reader
 pub mod Whole
 pub mod Doc
 pub mod Writing
+pub mod Fewer

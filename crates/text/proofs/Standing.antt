@@ -1,0 +1,247 @@
+-- Values that stand in a table from a row on:
+--     rows-length                    a value takes one row, and those inside it one each
+--     row-at                         the six words of a row are those of the first value
+--     inside, after, alone           what is inside the first value stands from the next row on; what follows it, `below + 1` rows further
+--     stands-unique, value-unique    a table says which values stand in it: no two trees stand at one row and end before the same row
+--     filled-stands, table-stands    the table that reading leaves: the tree stands in it from row 0 on
+--     Going and its laws             a walk along the values that stand between two rows
+-- Assumes nothing.
+use Prim.Native.Nat.{ℕ, _<_, _≤_, _+_, _-_, _*_}
+use mathlib.Core.Path.{_≡_, refl, sym, ap, _∙_}
+use mathlib.Core.List.{List, _++_, append-assoc}
+use native.Mathlib.Omega.{arith}
+use lib.ListN.{length, getD, drop, replicate, length-append, length-drop}
+use lib.Seq.{drop-drop, drop-at, getD-drop}
+use Rattle.laws.specs.Lists.{filled}
+use Rattle.text.specs.Limits.{rowWords}
+use Rattle.text.specs.Tree.{Bracket, square, curly, kindIn, Forest, none, leaf, node, size, rowsOf}
+use Rattle.text.specs.Standing.{Stands, StandsTo}
+use Rattle.text.specs.Firsts.{Some, kindAt, nameStart, nameEnd, startAt, endAt, insideAt, belowAt, restAt, firstOf, Kinds}
+use Rattle.text.specs.Reader.{good}
+use Rattle.text.specs.Whole.{tableOf}
+
+-- ---- lengths ----
+
+pub rows-length : (f : Forest) → length (rowsOf f) ≡ rowWords * size f
+unfolding rowsOf size
+rows-length none = refl
+rows-length (leaf kind ns ne from to rest) = omega (arith, rows-length rest)
+rows-length (node b ns ne from to inside rest) = simp length-append (omega (arith, rows-length inside, rows-length rest))
+
+-- ---- the words of a row ----
+
+word : (t l : List ℕ) (n : ℕ) → drop n t ≡ l → (i : ℕ) → getD t (n + i) 0 ≡ getD l i 0
+word t l n e i = sym (getD-drop n t i 0) ∙ ap (λ (m : List ℕ). getD m i 0) e
+
+-- row k has the words of the first value, and it and those of the values below it are inside the table
+pub record RowAt (t : List ℕ) (k : ℕ) (f : Forest) : Type 0 where
+  pub kind : getD t (k * rowWords + 0) 0 ≡ kindAt f
+  pub name-start : getD t (k * rowWords + 1) 0 ≡ nameStart f
+  pub name-end : getD t (k * rowWords + 2) 0 ≡ nameEnd f
+  pub start : getD t (k * rowWords + 3) 0 ≡ startAt f
+  pub finish : getD t (k * rowWords + 4) 0 ≡ endAt f
+  pub below : getD t (k * rowWords + 5) 0 ≡ belowAt f
+  pub room : k * rowWords + 5 < length t
+  pub room-all : (k + 1 + belowAt f) * rowWords ≤ length t
+
+pub row-at : {t : List ℕ} {k : ℕ} (f : Forest) → Some f → Stands t k f → RowAt t k f
+unfolding rowsOf size
+row-at none s h = absurd s
+row-at {t} {k} (leaf kind ns ne from to rest) s h =
+    record {
+      kind = word t _ (k * rowWords) (h .is) 0;
+      name-start = word t _ (k * rowWords) (h .is) 1;
+      name-end = word t _ (k * rowWords) (h .is) 2;
+      start = word t _ (k * rowWords) (h .is) 3;
+      finish = word t _ (k * rowWords) (h .is) 4;
+      below = word t _ (k * rowWords) (h .is) 5;
+      room = omega (arith, length-drop (k * rowWords) t, ap length (h .is));
+      room-all = omega (arith, length-drop (k * rowWords) t, ap length (h .is));
+    }
+row-at {t} {k} (node b ns ne from to inside rest) s h =
+    record {
+      kind = word t _ (k * rowWords) (h .is) 0;
+      name-start = word t _ (k * rowWords) (h .is) 1;
+      name-end = word t _ (k * rowWords) (h .is) 2;
+      start = word t _ (k * rowWords) (h .is) 3;
+      finish = word t _ (k * rowWords) (h .is) 4;
+      below = word t _ (k * rowWords) (h .is) 5;
+      room = omega (arith, length-drop (k * rowWords) t, ap length (h .is));
+      room-all =
+          omega (arith, length-drop (k * rowWords) t, ap length (h .is), length-append (rowsOf inside ++ rowsOf rest) (h .rest), length-append (rowsOf inside) (rowsOf rest), rows-length inside);
+    }
+
+-- ---- inside the first value, after it, and it alone ----
+
+next-row : (t l : List ℕ) (k n : ℕ) → drop (k * rowWords) t ≡ l → drop ((k + n) * rowWords) t ≡ drop (n * rowWords) l
+next-row t l k n e =
+    let place : (k + n) * rowWords ≡ k * rowWords + n * rowWords = omega arith in
+    rw place (sym (drop-drop (n * rowWords) (k * rowWords) t) ∙ ap (λ (m : List ℕ). drop (n * rowWords) m) e)
+
+pub inside : {t : List ℕ} {k : ℕ} (f : Forest) → Some f → Stands t k f → StandsTo t (k + 1) (k + 1 + belowAt f) (insideAt f)
+unfolding rowsOf size
+inside none s h = absurd s
+inside {t} {k} (leaf kind ns ne from to rest) s h =
+    record { stands = record { rest = rowsOf rest ++ h .rest; is = next-row t _ k 1 (h .is) }; ends = refl }
+inside {t} {k} (node b ns ne from to within rest) s h =
+    record {
+      stands =
+          record { rest = rowsOf rest ++ h .rest; is = next-row t _ k 1 (h .is) ∙ append-assoc (rowsOf within) (rowsOf rest) (h .rest) };
+      ends = refl;
+    }
+
+-- what follows it
+pub next : {t : List ℕ} {k : ℕ} (f : Forest) → Some f → Stands t k f → Stands t (k + 1 + belowAt f) (restAt f)
+unfolding rowsOf size
+next none s h = absurd s
+next {t} {k} (leaf kind ns ne from to rest) s h =
+    let place : k + 1 + 0 ≡ k + 1 = omega arith in
+    record { rest = h .rest; is = rw place (next-row t _ k 1 (h .is)) }
+next {t} {k} (node b ns ne from to within rest) s h =
+    let below : drop ((k + 1) * rowWords) t ≡ rowsOf within ++ (rowsOf rest ++ h .rest) =
+    next-row t _ k 1 (h .is) ∙ append-assoc (rowsOf within) (rowsOf rest) (h .rest) in
+    record {
+      rest = h .rest;
+      is =
+          next-row t _ (k + 1) (size within) below
+          ∙ drop-at (rowsOf within) (rowsOf rest ++ h .rest) (size within * rowWords) (omega (arith, rows-length within));
+    }
+
+-- the first value alone
+pub alone : {t : List ℕ} {k : ℕ} (f : Forest) → Some f → Stands t k f → Stands t k (firstOf f)
+unfolding rowsOf
+alone none s h = absurd s
+alone (leaf kind ns ne from to rest) s h = record { rest = rowsOf rest ++ h .rest; is = h .is }
+alone (node b ns ne from to within rest) s h =
+    record { rest = rowsOf rest ++ h .rest; is = simp append-assoc (simp append-assoc at (h .is)) }
+
+-- ---- the same for values that end before a row ----
+
+pub first-and-rest : (f : Forest) → Some f → size f ≡ 1 + belowAt f + size (restAt f)
+unfolding size
+first-and-rest none s = absurd s
+first-and-rest (leaf kind ns ne from to rest) s = omega arith
+first-and-rest (node b ns ne from to within rest) s = omega arith
+
+module _ {t : List ℕ} {k end : ℕ} (f : Forest) (s : Some f) (h : StandsTo t k end f) where
+  pub after : StandsTo t (k + 1 + belowAt f) end (restAt f)
+  after = record { stands = next f s (h .stands); ends = omega (arith, first-and-rest f s, h .ends) }
+
+  pub within : k + 1 + belowAt f ≤ end
+  within = omega (arith, after .ends)
+
+-- there is a value where the rows have not ended, and none where they have
+pub some-at : {t : List ℕ} {k end : ℕ} (f : Forest) → StandsTo t k end f → k < end → Some f
+unfolding size
+some-at none h lt = absurd (omega (arith, h .ends))
+some-at (leaf kind ns ne from to rest) h lt = tt
+some-at (node b ns ne from to inside rest) h lt = tt
+
+pub none-at : {t : List ℕ} {k end : ℕ} (f : Forest) → StandsTo t k end f → end ≤ k → f ≡ none
+unfolding size
+none-at none h le = refl
+none-at (leaf kind ns ne from to rest) h le = absurd (omega (arith, h .ends))
+none-at (node b ns ne from to inside rest) h le = absurd (omega (arith, h .ends))
+
+-- ---- a table says which values stand in it ----
+
+bracket-unique : (a b : Bracket) → kindIn a ≡ kindIn b → a ≡ b
+bracket-unique square square e = refl
+bracket-unique square curly e = absurd (omega arith)
+bracket-unique curly square e = absurd (omega arith)
+bracket-unique curly curly e = refl
+
+bracket-kind : (b : Bracket) → 6 ≤ kindIn b
+bracket-kind square = omega arith
+bracket-kind curly = omega arith
+
+-- no two trees stand at one row and end before the same row
+pub stands-unique : {t : List ℕ} {k end : ℕ} (f g : Forest) → Kinds f → Kinds g → StandsTo t k end f → StandsTo t k end g → f ≡ g
+unfolding size
+stands-unique none none p q h i = refl
+stands-unique none (leaf kind ns ne from to rest) p q h i = absurd (omega (arith, h .ends, i .ends))
+stands-unique none (node b ns ne from to inside rest) p q h i = absurd (omega (arith, h .ends, i .ends))
+stands-unique (leaf kind ns ne from to rest) none p q h i = absurd (omega (arith, h .ends, i .ends))
+stands-unique (leaf kind ns ne from to rest) (leaf kind2 ns2 ne2 from2 to2 rest2) p q h i =
+    let f : Forest = leaf kind ns ne from to rest in
+    let g : Forest = leaf kind2 ns2 ne2 from2 to2 rest2 in
+    let a = row-at f tt (h .stands) in
+    let b = row-at g tt (i .stands) in
+    let r = stands-unique rest rest2 (p .1) (q .1) (after f tt h) (after g tt i) in
+    cc (a .kind, b .kind, a .name-start, b .name-start, a .name-end, b .name-end, a .start, b .start, a .finish, b .finish)
+stands-unique (leaf kind ns ne from to rest) (node b2 ns2 ne2 from2 to2 inside2 rest2) p q h i =
+    absurd (omega (arith, row-at (leaf kind ns ne from to rest) tt (h .stands) .kind, row-at (node b2 ns2 ne2 from2 to2 inside2 rest2) tt (i .stands) .kind, p .0 .most, bracket-kind b2))
+stands-unique (node b ns ne from to inside1 rest) none p q h i = absurd (omega (arith, h .ends, i .ends))
+stands-unique (node b ns ne from to inside1 rest) (leaf kind2 ns2 ne2 from2 to2 rest2) p q h i =
+    absurd (omega (arith, row-at (node b ns ne from to inside1 rest) tt (h .stands) .kind, row-at (leaf kind2 ns2 ne2 from2 to2 rest2) tt (i .stands) .kind, q .0 .most, bracket-kind b))
+stands-unique {t} {k} {end} (node b ns ne from to inside1 rest) (node b2 ns2 ne2 from2 to2 inside2 rest2) p q h i =
+    let f : Forest = node b ns ne from to inside1 rest in
+    let g : Forest = node b2 ns2 ne2 from2 to2 inside2 rest2 in
+    let a = row-at f tt (h .stands) in
+    let c = row-at g tt (i .stands) in
+    let n : size inside2 ≡ size inside1 = sym (c .below) ∙ a .below in
+    let br : b ≡ b2 = bracket-unique b b2 (sym (a .kind) ∙ c .kind) in
+    let u = stands-unique inside1 inside2 (p .0) (q .0) (inside f tt (h .stands)) (rw n at (inside g tt (i .stands))) in
+    let r = stands-unique rest rest2 (p .1) (q .1) (after f tt h) (rw n at (after g tt i)) in
+    cc (a .name-start, c .name-start, a .name-end, c .name-end, a .start, c .start, a .finish, c .finish)
+
+first-kinds : (f : Forest) → Kinds f → Kinds (firstOf f)
+first-kinds none p = tt
+first-kinds (leaf kind ns ne from to rest) p = (p .0, tt)
+first-kinds (node b ns ne from to inside rest) p = (p .0, tt)
+
+pub first-size : (f : Forest) → Some f → size (firstOf f) ≡ 1 + belowAt f
+unfolding size
+first-size none s = absurd s
+first-size (leaf kind ns ne from to rest) s = omega arith
+first-size (node b ns ne from to inside rest) s = omega arith
+
+-- and no two values, whatever follows them
+pub value-unique : {t : List ℕ} {k : ℕ} (f g : Forest) → Some f → Some g → Kinds f → Kinds g → Stands t k f → Stands t k g → firstOf f ≡ firstOf g
+value-unique {t} {k} f g p q x y h i =
+    let n : k + size (firstOf g) ≡ k + size (firstOf f) = omega (arith, row-at f p h .below, row-at g q i .below, first-size f p, first-size g q) in
+    stands-unique (firstOf f) (firstOf g) (first-kinds f x) (first-kinds g y)
+    (record { stands = alone f p h; ends = refl })
+    (record { stands = alone g q i; ends = n })
+
+-- ---- the table that reading leaves ----
+
+pub filled-stands : (words : ℕ) (f : Forest) → StandsTo (filled words (rowsOf f)) 0 (size f) f
+filled-stands words f = record { stands = record { rest = replicate (words - length (rowsOf f)) 0; is = refl }; ends = omega arith }
+
+pub table-stands : {table : List ℕ} (words : ℕ) (f : Forest) (to : ℕ) → table ≡ tableOf words (good f to) → StandsTo table 0 (size f) f
+unfolding tableOf
+table-stands words f to e = rw e (filled-stands words f)
+
+-- ---- a walk ----
+
+-- A walk along the values from row `from` to row `end`, now at row `at`: what f says of the values from the start it says of those that are left.
+module _ {A : Type 0} (t : List ℕ) (from end : ℕ) (f : Forest → A) where
+  abbrev pub Going : ℕ → Type 0
+  Going at = (vs : Forest) → StandsTo t from end vs → (ws : Forest) × StandsTo t at end ws × (f vs ≡ f ws)
+
+  pub started : Going from
+  started vs s = (vs, s, refl)
+
+  module _ (at : ℕ) (g : Going at) where
+    -- the value where the walk is
+    pub here : (vs : Forest) → StandsTo t from end vs → at < end → (ws : Forest) × Some ws × StandsTo t at end ws × (f vs ≡ f ws)
+    here vs s lt = (g vs s .0, some-at (g vs s .0) (g vs s .1) lt, g vs s .1, g vs s .2)
+
+    -- over a value that changes nothing, to the next one
+    pub go-on : at < end → ((ws : Forest) → Some ws → StandsTo t at end ws → f ws ≡ f (restAt ws)) → (n : ℕ) → n ≡ getD t (at * rowWords + 5) 0 → Going (at + 1 + n)
+    go-on lt step n e vs s =
+        let (ws, z, h, q) = here vs s lt in
+        (restAt ws, rw (e ∙ row-at ws z (h .stands) .below) (after ws z h), q ∙ step ws z h)
+
+    -- the value that decides
+    pub hit : at < end → (r : A) → ((ws : Forest) → Some ws → StandsTo t at end ws → r ≡ f ws) → (vs : Forest) → StandsTo t from end vs → r ≡ f vs
+    hit lt r this vs s = let (ws, z, h, q) = here vs s lt in this ws z h ∙ sym q
+
+    -- the same for any property of what f says
+    pub hit-any : at < end → (P : A → Type 0) → ((ws : Forest) → Some ws → StandsTo t at end ws → P (f ws)) → (vs : Forest) → StandsTo t from end vs → P (f vs)
+    hit-any lt P this vs s = let (ws, z, h, q) = here vs s lt in rw q (this ws z h)
+
+    -- the end
+    pub ended : end ≤ at → (vs : Forest) → StandsTo t from end vs → f none ≡ f vs
+    ended le vs s = rw (g vs s .2, none-at (g vs s .0) (g vs s .1) le)

@@ -1,0 +1,71 @@
+-- The first of some values that stand one beside the other: its words, what is inside it and what follows it, so that laws need no cases.
+-- Where there are no values, all is 0 or nothing. Assumes nothing: these are definitions.
+use Prim.Native.Nat.{ℕ, _≤_, _<_}
+use Rattle.text.specs.Tree.{kindIn, Forest, none, leaf, node, size}
+
+-- there is a first value
+abbrev pub Some : Forest → Type 0
+Some none = ⊥
+Some (leaf kind ns ne from to rest) = Prim.Unit {0}
+Some (node b ns ne from to inside rest) = Prim.Unit {0}
+
+-- its kind: 1 to 5, 6 for an array, 7 for an object
+abbrev pub kindAt : Forest → ℕ
+kindAt none = 0
+kindAt (leaf kind ns ne from to rest) = kind
+kindAt (node b ns ne from to inside rest) = kindIn b
+
+-- where its name starts and ends, without quotes
+abbrev pub nameStart : Forest → ℕ
+nameStart none = 0
+nameStart (leaf kind ns ne from to rest) = ns
+nameStart (node b ns ne from to inside rest) = ns
+
+abbrev pub nameEnd : Forest → ℕ
+nameEnd none = 0
+nameEnd (leaf kind ns ne from to rest) = ne
+nameEnd (node b ns ne from to inside rest) = ne
+
+-- where it starts and ends itself
+abbrev pub startAt : Forest → ℕ
+startAt none = 0
+startAt (leaf kind ns ne from to rest) = from
+startAt (node b ns ne from to inside rest) = from
+
+abbrev pub endAt : Forest → ℕ
+endAt none = 0
+endAt (leaf kind ns ne from to rest) = to
+endAt (node b ns ne from to inside rest) = to
+
+-- what is inside it, and how many values that are
+abbrev pub insideAt : Forest → Forest
+insideAt none = none
+insideAt (leaf kind ns ne from to rest) = none
+insideAt (node b ns ne from to inside rest) = inside
+
+abbrev pub belowAt : Forest → ℕ
+belowAt f = size (insideAt f)
+
+-- the values that follow it
+abbrev pub restAt : Forest → Forest
+restAt none = none
+restAt (leaf kind ns ne from to rest) = rest
+restAt (node b ns ne from to inside rest) = rest
+
+-- it alone, with what is inside it
+abbrev pub firstOf : Forest → Forest
+firstOf none = none
+firstOf (leaf kind ns ne from to rest) = leaf kind ns ne from to none
+firstOf (node b ns ne from to inside rest) = node b ns ne from to inside none
+
+-- a kind of a value that holds no others
+pub record ScalarKind (kind : ℕ) : Type 0 where
+  pub least : 1 ≤ kind
+  pub most : kind < 6
+
+-- The values that hold no others have a kind of 1 to 5, so that a row's kind tells a container.
+-- Without this a row of kind 6 with nothing below it could be either.
+abbrev pub Kinds : Forest → Type 0
+Kinds none = Prim.Unit {0}
+Kinds (leaf kind ns ne from to rest) = ScalarKind kind × Kinds rest
+Kinds (node b ns ne from to inside rest) = Kinds inside × Kinds rest
