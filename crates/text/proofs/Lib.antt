@@ -3,3 +3,6 @@ pub mod Walks
 pub mod Laws
 pub mod Standing
 pub mod TokenEnds
+pub mod Fewer
+pub mod Induction
+pub mod Documents

@@ -11,4 +11,6 @@ pub mod Firsts
 pub mod Reader
 pub mod Whole
 pub mod Doc
+pub mod Distinct
 pub mod Writing
+pub mod Fewer
