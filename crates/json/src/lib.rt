@@ -6,10 +6,12 @@
 //   decode   a string's decoded bytes, one at a time
 //   names    names compared decoded
 //   tokens   white space, literals and numbers
+//   rows     the words of a row, stored and read
 pub mod bytes;
 mod chars;
 pub mod decode;
 mod limits;
 pub mod names;
+pub mod rows;
 pub mod strings;
 mod tokens;
