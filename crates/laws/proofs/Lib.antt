@@ -1,8 +1,4 @@
-<<<<<<< HEAD
--- Facts that speak of no format: the element at a place, runs of a list, the outcomes of a test, and the order of two runs of bytes.
-=======
--- Facts that speak of no format: the element at a place, the order of two runs of bytes, what closes a test, and buffers being cleared.
->>>>>>> reader
+-- Facts that speak of no format: the element at a place, runs of a list, the outcomes of a test, the order of two runs of bytes, and buffers being cleared.
 pub mod Places
 pub mod Bounds
 pub mod Splits
