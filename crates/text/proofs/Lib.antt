@@ -10,3 +10,5 @@ pub mod StringSpecimens
 pub mod TokenEnds
 pub mod TokenBytes
 pub mod Placing
+pub mod Outcomes
+pub mod Promise

@@ -1,6 +1,7 @@
 -- The values of an accepted text stand in it as specs/Placed.antt says.
 --     placed-value, placed-text                         an accepted value, an accepted text
 --     spot, token-at, box-at, rest-at                   what that says of the first of some values, of what is inside it and of what follows
+--     single-value                                      an accepted value is one value
 --     placed-kinds                                      the kinds of values that hold no others are 1 to 5
 -- Assumes nothing.
 use Prim.Native.Nat.{ℕ, _+_, _-_, _≤_, _<_}
@@ -14,8 +15,8 @@ use Rattle.text.specs.Text.{byteAt}
 use Rattle.text.specs.Strings.{stringEnd}
 use Rattle.text.specs.Tokens.{skip, kindBy, tokenAt}
 use Rattle.text.specs.Tree.{Bracket, square, curly, kindIn, closing, Forest, none, leaf, node, join}
-use Rattle.text.specs.Firsts.{ScalarKind}
-use Rattle.text.specs.Placed.{NameIn, Spot, Placed, nothing, token, box}
+use Rattle.text.specs.Firsts.{Some, kindAt, nameStart, nameEnd, startAt, endAt, insideAt, restAt, ScalarKind, Kinds}
+use Rattle.text.specs.Placed.{Quoted, Unnamed, NameIn, Numeral, TokenIn, null, falsity, truth, number, string, Spot, Placed, nothing, token, box}
 use Rattle.text.specs.Reader.{good, valueAt}
 use Rattle.text.specs.Whole.{readOf}
 use Rattle.text.specs.declared.Token.the-variants.{End}
@@ -62,6 +63,40 @@ module _ {t : List ℕ} where
   placed-join (token s k rest) q = token s k (placed-join rest q)
   placed-join (box s c within rest) q = box s c within (placed-join rest q)
 
+-- ---- kinds ----
+
+pub token-kind : {t : List ℕ} {kind from to : ℕ} → TokenIn t kind from to → ScalarKind kind
+token-kind (null e) = omega arith
+token-kind (falsity e) = omega arith
+token-kind (truth e) = omega arith
+token-kind (number n) = omega arith
+token-kind (string q) = omega arith
+
+string-of : {t : List ℕ} {kind from to : ℕ} → kind ≡ 5 → TokenIn t kind from to → Quoted t (from + 1) (to - 1)
+string-of e (null k) = absurd (omega arith)
+string-of e (falsity k) = absurd (omega arith)
+string-of e (truth k) = absurd (omega arith)
+string-of e (number n) = absurd (omega arith)
+string-of e (string q) = q
+
+number-of : {t : List ℕ} {kind from to : ℕ} → kind ≡ 4 → TokenIn t kind from to → Numeral t from to
+number-of e (null k) = absurd (omega arith)
+number-of e (falsity k) = absurd (omega arith)
+number-of e (truth k) = absurd (omega arith)
+number-of e (number n) = n
+number-of e (string q) = absurd (omega arith)
+
+-- from a place to another lies something that is not empty
+pub record Within (from to start end : ℕ) : Type 0 where
+  pub low : from ≤ start
+  pub some : start < end
+  pub high : end ≤ to
+
+pub placed-kinds : {t : List ℕ} {b : Bracket} {f : Forest} {from to : ℕ} → Placed t b f from to → Kinds f
+placed-kinds (nothing h) = tt
+placed-kinds (token s k rest) = (token-kind k, placed-kinds rest)
+placed-kinds (box s c within rest) = (placed-kinds within, placed-kinds rest)
+
 -- ---- along reading ----
 
 -- one value at a place, whatever holds it
@@ -85,7 +120,8 @@ bracket-kind square = omega arith
 bracket-kind curly = omega arith
 
 module _ (L : Limits) (t : List ℕ) where
-  token-seated : (ns ne at kind to : ℕ) → ScalarKind kind → kindBy (byteAt t at) ≡ kind → tokenAt t kind at ≡ End to → Seated t ns ne at (leaf kind ns ne at to none) to
+  token-seated : (ns ne at kind to : ℕ) → ScalarKind kind → kindBy (byteAt t at) ≡ kind → tokenAt t kind at ≡ End to
+      → Seated t ns ne at (leaf kind ns ne at to none) to
   token-seated ns ne at kind to s k e =
       let span = token-ends t kind at to (s .least) k e in
       let here : to ≤ to = omega arith in
@@ -171,3 +207,86 @@ module _ (L : Limits) (t : List ℕ) where
       let a = read-accepted L t f to e in
       let v = value-induction L t _ _ placed-rules (L .depth) 0 0 (skip t 0) 0 f (a .end) (a .value) in
       widen (v .inside) (v .placed square 0 (record { start = refl; end = refl }) (omega arith))
+
+-- ---- one value ----
+
+-- with the places of its name and its own
+pub record Single (ns ne at to : ℕ) (f : Forest) : Type 0 where
+  pub some : Some f
+  pub alone : restAt f ≡ none
+  pub name-start : nameStart f ≡ ns
+  pub name-end : nameEnd f ≡ ne
+  pub start : startAt f ≡ at
+  pub finish : endAt f ≡ to
+
+single-rules : (L : Limits) (t : List ℕ) → Rules L t (λ depth ns ne at f to. Single ns ne at to f) (λ b depth edge at f. Prim.Unit {0})
+single-rules L t =
+    record {
+      token = λ depth ns ne at kind to s k e. record { some = tt; alone = refl; name-start = refl; name-end = refl; start = refl; finish = refl };
+      box = λ b depth ns ne edge at f k r e. record { some = tt; alone = refl; name-start = refl; name-end = refl; start = refl; finish = refl };
+      start = λ b depth edge k. tt;
+      comma = λ b depth edge at f r e. tt;
+      element = λ depth edge at to done f r v. tt;
+      member = λ depth edge at end to done f r q e fresh c v. tt;
+    }
+
+pub single-value : (L : Limits) (t : List ℕ) (depth ns ne at n : ℕ) (f : Forest) (to : ℕ) → valueAt L t depth ns ne at n ≡ good f to → Single ns ne at to f
+single-value L t depth ns ne at n f to e = value-induction L t _ _ (single-rules L t) depth ns ne at n f to e
+
+-- ---- what that says of the first of some values ----
+
+module _ {t : List ℕ} {b : Bracket} {from to : ℕ} where
+  -- its name, its start and end, and its first byte
+  pub spot : {f : Forest} → Placed t b f from to → Some f → Spot t b from (kindAt f) (nameStart f) (nameEnd f) (startAt f) (endAt f)
+  spot (nothing h) s = absurd s
+  spot (token p k rest) s = p
+  spot (box p c within rest) s = p
+
+  -- the bytes of a value that holds no others
+  pub token-at : {f : Forest} → Placed t b f from to → Some f → kindAt f < 6 → TokenIn t (kindAt f) (startAt f) (endAt f)
+  token-at (nothing h) s l = absurd s
+  token-at (token p k rest) s l = k
+  token-at (box {c = square} p c within rest) s l = absurd (omega arith)
+  token-at (box {c = curly} p c within rest) s l = absurd (omega arith)
+
+  -- what is inside it stands strictly within it: elements in an array, members in an object
+  pub elements-at : {f : Forest} → Placed t b f from to → Some f → kindAt f ≡ 6 → Placed t square (insideAt f) (startAt f + 1) (endAt f - 1)
+  elements-at (nothing h) s e = absurd s
+  elements-at (token p k rest) s e = absurd (omega (arith, token-kind k .most))
+  elements-at (box {c = square} p c within rest) s e = within
+  elements-at (box {c = curly} p c within rest) s e = absurd (omega arith)
+
+  pub members-at : {f : Forest} → Placed t b f from to → Some f → kindAt f ≡ 7 → Placed t curly (insideAt f) (startAt f + 1) (endAt f - 1)
+  members-at (nothing h) s e = absurd s
+  members-at (token p k rest) s e = absurd (omega (arith, token-kind k .most))
+  members-at (box {c = square} p c within rest) s e = absurd (omega arith)
+  members-at (box {c = curly} p c within rest) s e = within
+
+  -- what follows it stands after its end
+  pub rest-at : {f : Forest} → Placed t b f from to → Some f → Placed t b (restAt f) (endAt f) to
+  rest-at (nothing h) s = absurd s
+  rest-at (token p k rest) s = rest
+  rest-at (box p c within rest) s = rest
+
+  -- it lies between the two places
+  pub bounds : {f : Forest} → Placed t b f from to → Some f → Within from to (startAt f) (endAt f)
+  bounds p s = omega (arith, spot p s .start, spot p s .some, in-order (rest-at p s))
+
+  -- a string's inside, and a number
+  pub string-at : {f : Forest} → Placed t b f from to → Some f → kindAt f ≡ 5 → Quoted t (startAt f + 1) (endAt f - 1)
+  string-at {f} p s e = string-of e (token-at p s (omega arith))
+
+  pub number-at : {f : Forest} → Placed t b f from to → Some f → kindAt f ≡ 4 → Numeral t (startAt f) (endAt f)
+  number-at {f} p s e = number-of e (token-at p s (omega arith))
+
+-- the name of a member
+pub name-at : {t : List ℕ} {f : Forest} {from to : ℕ} → Placed t curly f from to → Some f → Quoted t (nameStart f) (nameEnd f)
+name-at p s = spot p s .name .quoted
+
+-- the root and an element have the name 0, 0
+pub no-name-at : {t : List ℕ} {f : Forest} {from to : ℕ} → Placed t square f from to → Some f → Unnamed (nameStart f) (nameEnd f)
+no-name-at p s = spot p s .name
+
+-- one value ends before the next one starts
+pub next-after : {t : List ℕ} {b : Bracket} {f : Forest} {from to : ℕ} → Placed t b f from to → Some f → Some (restAt f) → endAt f ≤ startAt (restAt f)
+next-after p s n = spot (rest-at p s) n .start

@@ -12,9 +12,9 @@ use native.Mathlib.Decide.{decLe}
 use native.Mathlib.Omega.{arith}
 use lib.ListN.{length, List·getD-eq-default}
 use lib.Dec.{eqb}
-use borrow.Author.Tests.{eqb-true, le-leb}
+use borrow.Author.Tests.{eqb-true}
 use Rattle.laws.specs.Lists.{partOf}
-use Rattle.laws.proofs.Places.{inside, drop-byte}
+use Rattle.laws.proofs.Parts.{part-none, part-more}
 use Rattle.text.specs.Text.{byteAt, bytes}
 use Rattle.text.specs.Strings.{stringEnd}
 use Rattle.text.specs.Tokens.{isDigit, digitsEnd, wordAt, thenAt, digitsAt, minusEnd, intAt, fracAt, signEnd, expAt, numberAt, kindBy, tokenAt}
@@ -70,18 +70,6 @@ kind-inside t i k h e = elim (decLe (length t) i) [
   | no p ↦ omega arith
 ]
 
--- ---- parts of a text ----
-
-pub part-none : (l : List ℕ) (i : ℕ) → i ≤ length l → partOf l i i ≡ []
-unfolding partOf
-part-none l i h = let n : i - i ≡ 0 = omega arith in rw (le-leb i (length l) h, le-leb i i (omega arith), n)
-
-pub part-more : (l : List ℕ) (i e : ℕ) → i < e → e ≤ length l → partOf l i e ≡ byteAt l i ∷ partOf l (i + 1) e
-unfolding partOf
-part-more l i e h k =
-    let n : e - i ≡ suc (e - (i + 1)) = omega arith in
-    rw (le-leb e (length l) k, le-leb i e (omega arith), le-leb (i + 1) e (omega arith), n, drop-byte l i (omega arith))
-
 -- ---- literals ----
 
 pub record Word (t bs : List ℕ) (i to : ℕ) : Type 0 where
@@ -95,7 +83,8 @@ word-bytes t [] i to k e =
     record { end = omega arith; is = rw (← same) (part-none t i (omega arith)) }
 word-bytes t (b ∷ bs) i to k e = go (eqb (byteAt t i) b) refl e (word-bytes t bs (i + 1) to k)
   where
-    go : (x : Bool) → eqb (byteAt t i) b ≡ x → cond x (wordAt t bs (i + 1)) (No2 i) ≡ End to → (wordAt t bs (i + 1) ≡ End to → Word t bs (i + 1) to) → Word t (b ∷ bs) i to
+    go : (x : Bool) → eqb (byteAt t i) b ≡ x → cond x (wordAt t bs (i + 1)) (No2 i) ≡ End to → (wordAt t bs (i + 1) ≡ End to → Word t bs (i + 1) to)
+        → Word t (b ∷ bs) i to
     go true q r more =
         let w = more r in
         let first = eqb-true (byteAt t i) b q in

@@ -14,5 +14,6 @@ pub mod Whole
 pub mod Doc
 pub mod Distinct
 pub mod Placed
+pub mod Promised
 pub mod Writing
 pub mod Fewer
