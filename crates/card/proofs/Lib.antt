@@ -1,3 +1,5 @@
 -- What the proofs of several functions share.
 pub mod PartLaws
 pub mod PointerLaws
+pub mod MemberLaws
+pub mod PathLaws

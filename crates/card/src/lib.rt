@@ -1,5 +1,9 @@
 // Judging and localizing a card.
+//   members   a member of an object, found by its name
 //   parts     one part of a pointer, read off a key as the key is decoded
+//   paths     where a pointer leads
 //   pointers  keys as pointers: prefixes, order, bad tildes
+mod members;
 mod parts;
+mod paths;
 mod pointers;
