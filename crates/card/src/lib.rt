@@ -3,7 +3,9 @@
 //   parts     one part of a pointer, read off a key as the key is decoded
 //   paths     where a pointer leads
 //   pointers  keys as pointers: prefixes, order, bad tildes
+//   sheet     the answers in the refusal sheet's numbers
 mod members;
 mod parts;
 mod paths;
 mod pointers;
+pub mod sheet;

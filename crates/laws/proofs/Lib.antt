@@ -7,3 +7,5 @@ pub mod Branches
 pub mod Orders
 pub mod Parts
 pub mod Cleared
+pub mod Decides
+pub mod Bools

@@ -13,3 +13,5 @@ pub mod TokenBytes
 pub mod Placing
 pub mod Outcomes
 pub mod Promise
+pub mod NewNames
+pub mod Labels
