@@ -12,33 +12,33 @@ use native.Mathlib.Omega.{arith}
 use lib.ListN.{length, getD, set}
 use lib.Seq.{getD-set-same, getD-set-other}
 use Rattle.text.specs.Strings.{decode}
-use Rattle.text.specs.Tree.{Forest, size}
-use Rattle.text.specs.Firsts.{Some, Kinds, nameStart, nameEnd, restAt}
-use Rattle.text.specs.Standing.{Stands, StandsTo}
+use Rattle.text.specs.Tree.{Forest}
+use Rattle.text.specs.Firsts.{Kinds, nameStart, nameEnd, restAt}
+use Rattle.text.specs.Standing.{StandsTo}
 use Rattle.text.specs.Doc.{Name, Doc, Members, empty, member, labelAt, docOf, membersOf}
 use Rattle.text.proofs.Promise.{row-at, after, within, some-at, none-at, members-first, members-none}
 use Rattle.json.specs.Rows.{belowIn}
 use Rattle.contact.specs.Pointer.{pointerOf, clash}
 use Rattle.contact.specs.Patch.{Walk, arrives, inArray, noObject, entriesOf, walk, isInArray, isNoObject, anyWalk, clashWith, anyClash}
-use Rattle.card.specs.Entries.{Listed, over, next, keyBytes, worstWalk}
+use Rattle.card.specs.Entries.{Listed, over, next, keyBytes}
 use Rattle.card.proofs.MemberLaws.{rest-kinds}
 
 -- ---- a walk along the list ----
 
-module _ (t table rows : List ℕ) where
-  -- the name of the member at a place of the list
-  abbrev pub nameAt : ℕ → Name
-  nameAt i = decode (keyBytes t table (getD rows i 0))
+-- the name of the member at a place of the list
+abbrev pub nameAt : (t table rows : List ℕ) → ℕ → Name
+nameAt t table rows i = decode (keyBytes t table (getD rows i 0))
 
-  -- the member at a place, and those after it
-  record First (i n : ℕ) (ms : Members) : Type 0 where
-    pub label : List ℕ
-    pub value : Doc
-    pub rest : Members
-    pub is : ms ≡ member (nameAt i) label value rest
-    pub listed : Listed t table rows (i + 1) n rest
+-- the member at a place, and those after it
+record First (t table rows : List ℕ) (i n : ℕ) (ms : Members) : Type 0 where
+  pub label : List ℕ
+  pub value : Doc
+  pub rest : Members
+  pub is : ms ≡ member (nameAt t table rows i) label value rest
+  pub listed : Listed t table rows (i + 1) n rest
 
-  first-at : {i n : ℕ} {ms : Members} → Listed t table rows i n ms → i < n → First i n ms
+module _ {t table rows : List ℕ} where
+  first-at : {i n : ℕ} {ms : Members} → Listed t table rows i n ms → i < n → First t table rows i n ms
   first-at over lt = absurd (omega arith)
   first-at (next {i} {n} {ms} g h s k stands l) lt =
       let r = row-at g s stands in
@@ -52,33 +52,36 @@ module _ (t table rows : List ℕ) where
   in-order over = omega arith
   in-order (next g h s k stands l) = omega arith
 
-  module _ (from n : ℕ) {A : Type 0} (f : Members → A) where
-    -- f of the members ms is g of those from a place on
-    pub record Ahead (g : Members → A) (i : ℕ) (ms : Members) : Type 0 where
-      pub rest : Members
-      pub listed : Listed t table rows i n rest
-      pub is : f ms ≡ g rest
+module _ (t table rows : List ℕ) (from n : ℕ) {A : Type 0} (f : Members → A) where
+  -- f of the members ms is g of those from a place on
+  pub record Ahead (g : Members → A) (i : ℕ) (ms : Members) : Type 0 where
+    pub rest : Members
+    pub listed : Listed t table rows i n rest
+    pub is : f ms ≡ g rest
 
-    abbrev pub Walked : (Members → A) → ℕ → Type 0
-    Walked g i = (ms : Members) → Listed t table rows from n ms → Ahead g i ms
+  -- the same, whatever members are listed
+  abbrev pub Walked : (g : Members → A) (i : ℕ) → Type 0
+  Walked g i = (ms : Members) → Listed t table rows from n ms → Ahead g i ms
 
-    pub walk-start : Walked f from
-    walk-start ms l = record { rest = ms; listed = l; is = refl }
+  pub walk-start : Walked f from
+  walk-start ms l = record { rest = ms; listed = l; is = refl }
 
-    module _ (g : Members → A) (i : ℕ) (w : Walked g i) where
-      pub walk-on : i < n → (h : Members → A) → ((label : List ℕ) (d : Doc) (rest : Members) → Listed t table rows (i + 1) n rest → g (member (nameAt i) label d rest) ≡ h rest)
-          → Walked h (i + 1)
-      walk-on lt h step ms l =
-          let a = w ms l in
-          let p = first-at (a .listed) lt in
-          record { rest = p .rest; listed = p .listed; is = a .is ∙ ap g (p .is) ∙ step (p .label) (p .value) (p .rest) (p .listed) }
+-- what the member at a place does to g
+abbrev pub Turn : (t table rows : List ℕ) (i n : ℕ) {A : Type 0} (g h : Members → A) → Type 0
+Turn t table rows i n g h = (label : List ℕ) (d : Doc) (rest : Members) → Listed t table rows (i + 1) n rest → g (member (nameAt t table rows i) label d rest) ≡ h rest
 
-      pub walk-hit : i < n → (r : A) → ((label : List ℕ) (d : Doc) (rest : Members) → Listed t table rows (i + 1) n rest → g (member (nameAt i) label d rest) ≡ r)
-          → (ms : Members) → Listed t table rows from n ms → f ms ≡ r
-      walk-hit lt r step ms l = walk-on lt (λ rest. r) step ms l .is
+module _ {t table rows : List ℕ} {from n : ℕ} {A : Type 0} {f g : Members → A} {i : ℕ} (w : Walked t table rows from n f g i) where
+  pub walk-on : i < n → {h : Members → A} → Turn t table rows i n g h → Walked t table rows from n f h (i + 1)
+  walk-on lt turn ms l =
+      let a = w ms l in
+      let p = first-at (a .listed) lt in
+      record { rest = p .rest; listed = p .listed; is = a .is ∙ ap g (p .is) ∙ turn (p .label) (p .value) (p .rest) (p .listed) }
 
-      pub walk-end : n ≤ i → (ms : Members) → Listed t table rows from n ms → f ms ≡ g empty
-      walk-end le ms l = w ms l .is ∙ ap g (none-left (w ms l .listed) le)
+  pub walk-hit : i < n → {r : A} → Turn t table rows i n g (λ rest. r) → (ms : Members) → Listed t table rows from n ms → r ≡ f ms
+  walk-hit lt {r} turn ms l = sym (walk-on lt {h = λ rest. r} turn ms l .is)
+
+  pub walk-end : n ≤ i → (ms : Members) → Listed t table rows from n ms → g empty ≡ f ms
+  walk-end le ms l = sym (w ms l .is ∙ ap g (none-left (w ms l .listed) le))
 
 -- ---- 24 ----
 
@@ -89,25 +92,19 @@ clashIn key ms = clashWith (pointerOf key) (entriesOf ms)
 abbrev pub clashAmong : Members → Bool
 clashAmong ms = anyClash (entriesOf ms)
 
--- the pointer at i has been compared with those after it up to j
-module _ (t table rows : List ℕ) (n i j : ℕ) (outer : Walked t table rows 0 n clashAmong clashAmong i) (lt : i < n) (inner : Walked t table rows (i + 1) n (clashIn (nameAt t table rows i)) (clashIn (nameAt t table rows i)) j) where
-  abbrev Clash : Bool
-  Clash = clash (pointerOf (nameAt t table rows i)) (pointerOf (nameAt t table rows j))
+-- the pointers before i clash with none after them, and the one at i with none up to j
+module _ {t table rows : List ℕ} {n i j : ℕ} (outer : Walked t table rows 0 n clashAmong clashAmong i) (lt : i < n) (inner : Walked t table rows (i + 1) n (clashIn (nameAt t table rows i)) (clashIn (nameAt t table rows i)) j) where
+  pub pair-found : j < n → clash (pointerOf (nameAt t table rows i)) (pointerOf (nameAt t table rows j)) ≡ true → (ms : Members) → Listed t table rows 0 n ms → true ≡ clashAmong ms
+  pair-found less e =
+      let found = walk-hit inner less {r = true} (λ label d rest m. rw e) in
+      walk-hit outer lt (λ label d rest m. rw (← found rest m))
 
-  pub pair-found : j < n → Clash ≡ true → (ms : Members) → Listed t table rows 0 n ms → true ≡ clashAmong ms
-  pair-found less e ms l =
-      let c = clashIn (nameAt t table rows i) in
-      let found = walk-hit t table rows (i + 1) n c c j inner less true (λ label d rest m. rw e) in
-      sym (walk-hit t table rows 0 n clashAmong clashAmong i outer lt true (λ label d rest m. rw (found rest m)) ms l)
-
-  pub pair-passed : j < n → Clash ≡ false → Walked t table rows (i + 1) n (clashIn (nameAt t table rows i)) (clashIn (nameAt t table rows i)) (j + 1)
-  pair-passed less e = let c = clashIn (nameAt t table rows i) in walk-on t table rows (i + 1) n c c j inner less c (λ label d rest m. rw e)
+  pub pair-passed : j < n → clash (pointerOf (nameAt t table rows i)) (pointerOf (nameAt t table rows j)) ≡ false
+      → Walked t table rows (i + 1) n (clashIn (nameAt t table rows i)) (clashIn (nameAt t table rows i)) (j + 1)
+  pair-passed less e = walk-on inner less (λ label d rest m. rw e)
 
   pub pairs-passed : n ≤ j → Walked t table rows 0 n clashAmong clashAmong (i + 1)
-  pairs-passed le =
-      let c = clashIn (nameAt t table rows i) in
-      let none = walk-end t table rows (i + 1) n c c j inner le in
-      walk-on t table rows 0 n clashAmong clashAmong i outer lt clashAmong (λ label d rest m. rw (none rest m))
+  pairs-passed le = walk-on outer lt (λ label d rest m. rw (← walk-end inner le rest m))
 
 -- ---- 25 and 26 ----
 
@@ -139,7 +136,7 @@ module _ (table : List ℕ) (from end : ℕ) (rows : List ℕ) (n at : ℕ) wher
 pub fill-start : (table : List ℕ) (from end : ℕ) (rows : List ℕ) → Filling table from end rows 0 from
 fill-start table from end rows f h = record { ahead = f; stands = h; kinds = λ k. k; all = λ t later m same k l. l }
 
-module _ (table : List ℕ) (from end : ℕ) (rows : List ℕ) (n at : ℕ) (g : Filling table from end rows n at) (f : Forest) (h : StandsTo table from end f) where
+module _ {table : List ℕ} {from end : ℕ} {rows : List ℕ} {n at : ℕ} (g : Filling table from end rows n at) (f : Forest) (h : StandsTo table from end f) where
   pub fill-room : at < end → at + 1 + belowIn table at ≤ end
   fill-room lt =
       let b = g f h in
@@ -156,10 +153,10 @@ module _ (table : List ℕ) (from end : ℕ) (rows : List ℕ) (n at : ℕ) (g :
         kinds = λ k. rest-kinds (b .ahead) (b .kinds k);
         all =
             λ t later m same k l.
-                let here : getD later n 0 ≡ at = same n (omega arith) ∙ getD-set-same rows n at 0 room in
-                let fits : n < m = omega (arith, in-order t table later l) in
-                b .all t later m (λ i less. same i (omega arith) ∙ getD-set-other rows n i at 0 (λ e. omega arith)) k
-                (rw (members-first t (b .ahead) s) (next (b .ahead) fits s (b .kinds k) (rw here (b .stands .stands)) l));
+            let here : getD later n 0 ≡ at = same n (omega arith) ∙ getD-set-same rows n at 0 room in
+            let fits : n < m = omega (arith, in-order l) in
+            b .all t later m (λ i less. same i (omega arith) ∙ getD-set-other rows n i at 0 (λ e. omega arith)) k
+            (rw (members-first t (b .ahead) s) (next (b .ahead) fits s (b .kinds k) (rw here (b .stands .stands)) l));
       }
 
   pub fill-end : end ≤ at → (t : List ℕ) → Kinds f → Listed t table rows 0 n (membersOf t f)

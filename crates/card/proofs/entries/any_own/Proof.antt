@@ -1,6 +1,6 @@
+-- The loop's invariant: what is asked of all entries is asked of those from `i` on. Assumes nothing.
 use Prim.Native.Nat.{_≤_, _-_}
-use mathlib.Core.Path.{refl, sym, _∙_}
-use mathlib.Core.Bool.{true}
+use mathlib.Core.Path.{sym, _∙_}
 use native.Mathlib.Omega.{arith}
 use denote.Ref.{now}
 use borrow.Author.Needs.{needs}
@@ -34,7 +34,7 @@ is-own-requires : tie.Need-is-own-requires Inv-loop μ-loop
 is-own-requires c κs = search needs
 
 returns : tie.Need-returns Inv-loop μ-loop
-returns c = λ ms l. let e = sym (rw (c .before .before .key-at .ensures) at (c .before .is-own .ensures)) ∙ c .if1 .taken in sym (walk-hit (now (c .before .before .before .before .before .before .before .before .before .args .text)) (now (c .before .before .before .before .before .before .before .before .before .args .table)) (now (c .before .before .before .before .before .before .before .before .before .args .rows)) 0 (c .before .before .before .before .before .before .before .before .before .args .n) (λ ms. anyOwn (entriesOf ms)) (λ ms. anyOwn (entriesOf ms)) (c .before .before .before .before .before .loop .i) (c .before .before .before .before .before .loop .inv .1) (c .before .before .before .before .loop-test .taken) true (λ label d rest m. rw e) ms l)
+returns c = let e = sym (rw (c .before .before .key-at .ensures) at (c .before .is-own .ensures)) ∙ c .if1 .taken in walk-hit (c .before .before .before .before .before .loop .inv .1) (c .before .before .before .before .loop-test .taken) (λ label d rest l. rw e)
 
 add-i : tie.Need-add-i Inv-loop μ-loop
 add-i c = omega arith
@@ -43,10 +43,10 @@ loop-less : tie.Need-loop-less Inv-loop μ-loop
 loop-less c = omega arith
 
 loop-again : tie.Need-loop-again Inv-loop μ-loop
-loop-again c = let e = sym (rw (c .before .before .key-at .ensures) at (c .before .is-own .ensures)) ∙ c .if1 .left in (omega arith, walk-on (now (c .before .before .before .before .before .before .before .before .before .args .text)) (now (c .before .before .before .before .before .before .before .before .before .args .table)) (now (c .before .before .before .before .before .before .before .before .before .args .rows)) 0 (c .before .before .before .before .before .before .before .before .before .args .n) (λ ms. anyOwn (entriesOf ms)) (λ ms. anyOwn (entriesOf ms)) (c .before .before .before .before .before .loop .i) (c .before .before .before .before .before .loop .inv .1) (c .before .before .before .before .loop-test .taken) (λ ms. anyOwn (entriesOf ms)) (λ label d rest m. rw e))
+loop-again c = let e = sym (rw (c .before .before .key-at .ensures) at (c .before .is-own .ensures)) ∙ c .if1 .left in (omega arith, walk-on (c .before .before .before .before .before .loop .inv .1) (c .before .before .before .before .loop-test .taken) (λ label d rest l. rw e))
 
 returns-2 : tie.Need-returns-2 Inv-loop μ-loop
-returns-2 c = λ ms l. sym (walk-end (now (c .before .before .before .before .before .args .text)) (now (c .before .before .before .before .before .args .table)) (now (c .before .before .before .before .before .args .rows)) 0 (c .before .before .before .before .before .args .n) (λ ms. anyOwn (entriesOf ms)) (λ ms. anyOwn (entriesOf ms)) (c .before .loop .i) (c .before .loop .inv .1) (omega arith) ms l)
+returns-2 c = walk-end (c .before .loop .inv .1) (omega arith)
 
 pub any-own-spec : {M : Type 1} → statement M
 any-own-spec =

@@ -1,3 +1,4 @@
+-- The loop's invariant: there is a word for each row from `at` on, and the list so far, with the members that stand from `at` on, is that of all. Assumes nothing.
 use Prim.Native.Nat.{_+_, _≤_, _-_}
 use mathlib.Core.Path.{_≡_, refl}
 use native.Mathlib.Omega.{arith}
@@ -36,19 +37,19 @@ add-at : tie.Need-add-at Inv-loop μ-loop
 add-at c = omega (arith, c .before .before .before .before .before .pre .few)
 
 add-at-2 : tie.Need-add-at-2 Inv-loop μ-loop
-add-at-2 c = omega (arith, c .before .before .before .before .before .pre .few, c .below .ensures, fill-room (now (c .before .before .before .before .before .args .table)) (c .before .before .before .before .before .args .from) (c .before .before .before .before .before .args .end) (c .before .before .loop .rows) (c .before .before .loop .n) (c .before .before .loop .at) (c .before .before .loop .inv .3) (c .before .before .before .before .before .pre .values) (c .before .before .before .before .before .pre .stand) (c .before .loop-test .taken))
+add-at-2 c = omega (arith, c .before .before .before .before .before .pre .few, c .below .ensures, fill-room (c .before .before .loop .inv .3) (c .before .before .before .before .before .pre .values) (c .before .before .before .before .before .pre .stand) (c .before .loop-test .taken))
 
 loop-less : tie.Need-loop-less Inv-loop μ-loop
 loop-less c = omega arith
 
 loop-again : tie.Need-loop-again Inv-loop μ-loop
-loop-again c = (rw length-set (c .before .before .loop .inv .0), rw length-set (omega arith), omega (arith, c .below .ensures, fill-room (now (c .before .before .before .before .before .args .table)) (c .before .before .before .before .before .args .from) (c .before .before .before .before .before .args .end) (c .before .before .loop .rows) (c .before .before .loop .n) (c .before .before .loop .at) (c .before .before .loop .inv .3) (c .before .before .before .before .before .pre .values) (c .before .before .before .before .before .pre .stand) (c .before .loop-test .taken)), λ f h. rw (c .below .ensures) (fill-on (now (c .before .before .before .before .before .args .table)) (c .before .before .before .before .before .args .from) (c .before .before .before .before .before .args .end) (c .before .before .loop .rows) (c .before .before .loop .n) (c .before .before .loop .at) (c .before .before .loop .inv .3) f h (c .before .loop-test .taken) (omega arith)))
+loop-again c = (rw length-set (c .before .before .loop .inv .0), rw length-set (omega arith), omega (arith, c .below .ensures, fill-room (c .before .before .loop .inv .3) (c .before .before .before .before .before .pre .values) (c .before .before .before .before .before .pre .stand) (c .before .loop-test .taken)), λ f h. rw (c .below .ensures) (fill-on (c .before .before .loop .inv .3) f h (c .before .loop-test .taken) (omega arith)))
 
 same-length : tie.Need-same-length Inv-loop μ-loop
 same-length c = c .before .loop .inv .0
 
 returns : tie.Need-returns Inv-loop μ-loop
-returns c = (omega arith, λ t f h k. fill-end (now (c .before .before .before .before .args .table)) (c .before .before .before .before .args .from) (c .before .before .before .before .args .end) (c .before .loop .rows) (c .before .loop .n) (c .before .loop .at) (c .before .loop .inv .3) f h (omega arith) t k)
+returns c = (omega arith, λ t f h k. fill-end (c .before .loop .inv .3) f h (omega arith) t k)
 
 pub collect-spec : {M : Type 1} → statement M
 collect-spec =

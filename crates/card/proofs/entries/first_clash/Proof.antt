@@ -1,6 +1,7 @@
+-- The loops' invariants: nothing is found yet; whether two entries clash is whether two of those from `i` on do, and whether the one at `i` clashes with one
+-- after it is whether it does with one from `j` on. Assumes nothing.
 use Prim.Native.Nat.{_+_, _≤_, _-_}
 use mathlib.Core.Path.{refl, sym, _∙_}
-use mathlib.Core.Bool.{true}
 use native.Mathlib.Omega.{arith}
 use denote.Ref.{now}
 use borrow.Author.Needs.{needs}
@@ -67,7 +68,7 @@ loop-less : tie.Need-loop-less Inv-loop μ-loop Inv-pairs μ-pairs
 loop-less c = omega arith
 
 loop-again : tie.Need-loop-again Inv-loop μ-loop Inv-pairs μ-pairs
-loop-again c = (omega arith, c .before .before .before .before .before .before .loop .inv .1, pair-passed (now (c .before .before .before .before .before .before .before .before .before .before .before .before .before .args .text)) (now (c .before .before .before .before .before .before .before .before .before .before .before .before .before .args .table)) (now (c .before .before .before .before .before .before .before .before .before .before .before .before .before .args .rows)) (c .before .before .before .before .before .before .before .before .before .before .before .before .before .args .n) (c .before .before .before .before .before .before .before .before .before .pairs .i) (c .before .before .before .before .before .before .loop .j) (c .before .before .before .before .before .before .before .before .before .pairs .inv .2) (c .before .before .before .before .before .before .before .before .pairs-test .taken) (c .before .before .before .before .before .before .loop .inv .2) (c .before .before .before .before .before .loop-test .taken) (sym (rw (c .before .before .key-at2 .ensures, c .before .before .before .key-at .ensures) at (c .before .clashes .ensures)) ∙ c .if1 .left))
+loop-again c = (omega arith, c .before .before .before .before .before .before .loop .inv .1, pair-passed (c .before .before .before .before .before .before .before .before .before .pairs .inv .2) (c .before .before .before .before .before .before .before .before .pairs-test .taken) (c .before .before .before .before .before .before .loop .inv .2) (c .before .before .before .before .before .loop-test .taken) (sym (rw (c .before .before .key-at2 .ensures, c .before .before .before .key-at .ensures) at (c .before .clashes .ensures)) ∙ c .if1 .left))
 
 add-i : tie.Need-add-i Inv-loop μ-loop Inv-pairs μ-pairs
 add-i c = omega arith
@@ -76,13 +77,13 @@ pairs-less : tie.Need-pairs-less Inv-loop μ-loop Inv-pairs μ-pairs
 pairs-less c = omega arith
 
 pairs-again : tie.Need-pairs-again Inv-loop μ-loop Inv-pairs μ-pairs
-pairs-again c = (omega arith, c .before .loop .inv .1, pairs-passed (now (c .before .before .before .before .before .before .before .before .args .text)) (now (c .before .before .before .before .before .before .before .before .args .table)) (now (c .before .before .before .before .before .before .before .before .args .rows)) (c .before .before .before .before .before .before .before .before .args .n) (c .before .before .before .before .pairs .i) (c .before .loop .j) (c .before .before .before .before .pairs .inv .2) (c .before .before .before .pairs-test .taken) (c .before .loop .inv .2) (omega arith))
+pairs-again c = (omega arith, c .before .loop .inv .1, pairs-passed (c .before .before .before .before .pairs .inv .2) (c .before .before .before .pairs-test .taken) (c .before .loop .inv .2) (omega arith))
 
 returns : tie.Need-returns Inv-loop μ-loop Inv-pairs μ-pairs
-returns c = λ ms l. ap isPair (c .before .pairs .inv .1) ∙ sym (walk-end (now (c .before .before .before .before .before .args .text)) (now (c .before .before .before .before .before .args .table)) (now (c .before .before .before .before .before .args .rows)) 0 (c .before .before .before .before .before .args .n) clashAmong clashAmong (c .before .pairs .i) (c .before .pairs .inv .2) (omega arith) ms l)
+returns c = λ ms l. ap isPair (c .before .pairs .inv .1) ∙ walk-end (c .before .pairs .inv .2) (omega arith) ms l
 
 returns-2 : tie.Need-returns-2 Inv-loop μ-loop Inv-pairs μ-pairs
-returns-2 c = pair-found (now (c .before .before .before .before .before .before .before .before .before .before .before .before .before .args .text)) (now (c .before .before .before .before .before .before .before .before .before .before .before .before .before .args .table)) (now (c .before .before .before .before .before .before .before .before .before .before .before .before .before .args .rows)) (c .before .before .before .before .before .before .before .before .before .before .before .before .before .args .n) (c .before .before .before .before .before .before .before .before .before .pairs .i) (c .before .before .before .before .before .before .loop .j) (c .before .before .before .before .before .before .before .before .before .pairs .inv .2) (c .before .before .before .before .before .before .before .before .pairs-test .taken) (c .before .before .before .before .before .before .loop .inv .2) (c .before .before .before .before .before .loop-test .taken) (sym (rw (c .before .before .key-at2 .ensures, c .before .before .before .key-at .ensures) at (c .before .clashes .ensures)) ∙ c .if1 .taken)
+returns-2 c = pair-found (c .before .before .before .before .before .before .before .before .before .pairs .inv .2) (c .before .before .before .before .before .before .before .before .pairs-test .taken) (c .before .before .before .before .before .before .loop .inv .2) (c .before .before .before .before .before .loop-test .taken) (sym (rw (c .before .before .key-at2 .ensures, c .before .before .before .key-at .ensures) at (c .before .clashes .ensures)) ∙ c .if1 .taken)
 
 pub first-clash-spec : {M : Type 1} → statement M
 first-clash-spec =

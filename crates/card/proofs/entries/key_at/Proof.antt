@@ -1,4 +1,4 @@
-use denote.Ref.{now}
+-- The part of the text between the row's places of its name. Assumes nothing.
 use borrow.Author.Needs.{needs}
 use Rattle.card.proofs.entries.key_at.Statement.{statement}
 use Rattle.card.proofs.entries.key_at.Tie as tie

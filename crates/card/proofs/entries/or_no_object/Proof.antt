@@ -1,3 +1,4 @@
+-- By the kind of the walk. Assumes nothing.
 use mathlib.Core.Bool.{or-true, or-false}
 use mathlib.Core.Path.{sym}
 use borrow.Author.Needs.{needs}

@@ -1,3 +1,4 @@
+-- The loop's invariant: the worst of all walks is that of the walks from `i` on, where one that met no object may have been before. Assumes nothing.
 use Prim.Native.Nat.{_≤_, _-_}
 use mathlib.Core.Path.{_≡_, sym, ap, _∙_}
 use mathlib.Core.Bool.{false, _||_}
@@ -10,7 +11,7 @@ use Rattle.text.specs.Firsts.{Some, Kinds}
 use Rattle.text.specs.Standing.{Stands}
 use Rattle.text.specs.Doc.{docOf}
 use Rattle.contact.specs.Pointer.{pointerOf}
-use Rattle.contact.specs.Patch.{inArray, walk, isInArray, isNoObject}
+use Rattle.contact.specs.Patch.{walk, isInArray, isNoObject}
 use Rattle.card.specs.Entries.{worstWalk}
 use Rattle.card.specs.Paths.{walkOf}
 use Rattle.card.proofs.EntryLaws.{nameAt, Walked, walk-start, walk-on, walk-hit, walk-end, worst, worst-hit, worst-on}
@@ -49,7 +50,7 @@ is-in-array-requires c κs = search needs
 
 returns : tie.Need-returns Inv-loop μ-loop
 unfolding conts worstWalk
-returns c = λ f ms s h k l. let p : walkOf (c .before .before .follow .result) ≡ walk (pointerOf (nameAt (now (c .before .before .before .before .before .before .before .before .before .before .before .before .before .args .text)) (now (c .before .before .before .before .before .before .before .before .before .before .before .before .before .args .table)) (now (c .before .before .before .before .before .before .before .before .before .before .before .before .before .args .rows)) (c .before .before .before .before .before .before .before .loop .i))) (docOf (now (c .before .before .before .before .before .before .before .before .before .before .before .before .before .args .card)) f) = rw (c .before .before .before .start .ensures, c .before .before .before .before .key-at .ensures) at (c .before .before .follow .ensures f s h k) in sym (walk-hit (now (c .before .before .before .before .before .before .before .before .before .before .before .before .before .args .text)) (now (c .before .before .before .before .before .before .before .before .before .before .before .before .before .args .table)) (now (c .before .before .before .before .before .before .before .before .before .before .before .before .before .args .rows)) 0 (c .before .before .before .before .before .before .before .before .before .before .before .before .before .args .n) (worst (docOf (now (c .before .before .before .before .before .before .before .before .before .before .before .before .before .args .card)) f) false) (worst (docOf (now (c .before .before .before .before .before .before .before .before .before .before .before .before .before .args .card)) f) (c .before .before .before .before .before .before .before .loop .missing)) (c .before .before .before .before .before .before .before .loop .i) (c .before .before .before .before .before .before .before .loop .inv .1 f s h k) (c .before .before .before .before .before .before .loop-test .taken) inArray (λ label v rest m. worst-hit (docOf (now (c .before .before .before .before .before .before .before .before .before .before .before .before .before .args .card)) f) (c .before .before .before .before .before .before .before .loop .missing) (nameAt (now (c .before .before .before .before .before .before .before .before .before .before .before .before .before .args .text)) (now (c .before .before .before .before .before .before .before .before .before .before .before .before .before .args .table)) (now (c .before .before .before .before .before .before .before .before .before .before .before .before .before .args .rows)) (c .before .before .before .before .before .before .before .loop .i)) label v rest (ap isInArray (sym p) ∙ sym (c .before .is-in-array .ensures) ∙ c .if1 .taken)) ms l)
+returns c = λ f ms s h k l. let p : walkOf (c .before .before .follow .result) ≡ walk (pointerOf (nameAt (now (c .before .before .before .before .before .before .before .before .before .before .before .before .before .args .text)) (now (c .before .before .before .before .before .before .before .before .before .before .before .before .before .args .table)) (now (c .before .before .before .before .before .before .before .before .before .before .before .before .before .args .rows)) (c .before .before .before .before .before .before .before .loop .i))) (docOf (now (c .before .before .before .before .before .before .before .before .before .before .before .before .before .args .card)) f) = rw (c .before .before .before .start .ensures, c .before .before .before .before .key-at .ensures) at (c .before .before .follow .ensures f s h k) in walk-hit (c .before .before .before .before .before .before .before .loop .inv .1 f s h k) (c .before .before .before .before .before .before .loop-test .taken) (λ label v rest m. worst-hit (docOf (now (c .before .before .before .before .before .before .before .before .before .before .before .before .before .args .card)) f) (c .before .before .before .before .before .before .before .loop .missing) (nameAt (now (c .before .before .before .before .before .before .before .before .before .before .before .before .before .args .text)) (now (c .before .before .before .before .before .before .before .before .before .before .before .before .before .args .table)) (now (c .before .before .before .before .before .before .before .before .before .before .before .before .before .args .rows)) (c .before .before .before .before .before .before .before .loop .i)) label v rest (ap isInArray (sym p) ∙ sym (c .before .is-in-array .ensures) ∙ c .if1 .taken)) ms l
 
 or-no-object-requires : tie.Need-or-no-object-requires Inv-loop μ-loop
 or-no-object-requires c κs = search needs
@@ -62,15 +63,15 @@ loop-less c = omega arith
 
 loop-again : tie.Need-loop-again Inv-loop μ-loop
 unfolding conts
-loop-again c = (omega arith, λ f s h k. let p : walkOf (c .before .before .before .follow .result) ≡ walk (pointerOf (nameAt (now (c .before .before .before .before .before .before .before .before .before .before .before .before .before .before .args .text)) (now (c .before .before .before .before .before .before .before .before .before .before .before .before .before .before .args .table)) (now (c .before .before .before .before .before .before .before .before .before .before .before .before .before .before .args .rows)) (c .before .before .before .before .before .before .before .before .loop .i))) (docOf (now (c .before .before .before .before .before .before .before .before .before .before .before .before .before .before .args .card)) f) = rw (c .before .before .before .before .start .ensures, c .before .before .before .before .before .key-at .ensures) at (c .before .before .before .follow .ensures f s h k) in walk-on (now (c .before .before .before .before .before .before .before .before .before .before .before .before .before .before .args .text)) (now (c .before .before .before .before .before .before .before .before .before .before .before .before .before .before .args .table)) (now (c .before .before .before .before .before .before .before .before .before .before .before .before .before .before .args .rows)) 0 (c .before .before .before .before .before .before .before .before .before .before .before .before .before .before .args .n) (worst (docOf (now (c .before .before .before .before .before .before .before .before .before .before .before .before .before .before .args .card)) f) false) (worst (docOf (now (c .before .before .before .before .before .before .before .before .before .before .before .before .before .before .args .card)) f) (c .before .before .before .before .before .before .before .before .loop .missing)) (c .before .before .before .before .before .before .before .before .loop .i) (c .before .before .before .before .before .before .before .before .loop .inv .1 f s h k) (c .before .before .before .before .before .before .before .loop-test .taken) (worst (docOf (now (c .before .before .before .before .before .before .before .before .before .before .before .before .before .before .args .card)) f) (c .or-no-object .result)) (λ label v rest m. worst-on (docOf (now (c .before .before .before .before .before .before .before .before .before .before .before .before .before .before .args .card)) f) (c .before .before .before .before .before .before .before .before .loop .missing) (nameAt (now (c .before .before .before .before .before .before .before .before .before .before .before .before .before .before .args .text)) (now (c .before .before .before .before .before .before .before .before .before .before .before .before .before .before .args .table)) (now (c .before .before .before .before .before .before .before .before .before .before .before .before .before .before .args .rows)) (c .before .before .before .before .before .before .before .before .loop .i)) label v rest (ap isInArray (sym p) ∙ sym (c .before .before .is-in-array .ensures) ∙ c .before .if1 .left) ∙ ap (λ b. worst (docOf (now (c .before .before .before .before .before .before .before .before .before .before .before .before .before .before .args .card)) f) b rest) (sym (c .or-no-object .ensures ∙ ap (λ w. c .before .before .before .before .before .before .before .before .loop .missing || isNoObject w) p))))
+loop-again c = (omega arith, λ f s h k. let p : walkOf (c .before .before .before .follow .result) ≡ walk (pointerOf (nameAt (now (c .before .before .before .before .before .before .before .before .before .before .before .before .before .before .args .text)) (now (c .before .before .before .before .before .before .before .before .before .before .before .before .before .before .args .table)) (now (c .before .before .before .before .before .before .before .before .before .before .before .before .before .before .args .rows)) (c .before .before .before .before .before .before .before .before .loop .i))) (docOf (now (c .before .before .before .before .before .before .before .before .before .before .before .before .before .before .args .card)) f) = rw (c .before .before .before .before .start .ensures, c .before .before .before .before .before .key-at .ensures) at (c .before .before .before .follow .ensures f s h k) in walk-on (c .before .before .before .before .before .before .before .before .loop .inv .1 f s h k) (c .before .before .before .before .before .before .before .loop-test .taken) (λ label v rest m. worst-on (docOf (now (c .before .before .before .before .before .before .before .before .before .before .before .before .before .before .args .card)) f) (c .before .before .before .before .before .before .before .before .loop .missing) (nameAt (now (c .before .before .before .before .before .before .before .before .before .before .before .before .before .before .args .text)) (now (c .before .before .before .before .before .before .before .before .before .before .before .before .before .before .args .table)) (now (c .before .before .before .before .before .before .before .before .before .before .before .before .before .before .args .rows)) (c .before .before .before .before .before .before .before .before .loop .i)) label v rest (ap isInArray (sym p) ∙ sym (c .before .before .is-in-array .ensures) ∙ c .before .if1 .left) ∙ ap (λ b. worst (docOf (now (c .before .before .before .before .before .before .before .before .before .before .before .before .before .before .args .card)) f) b rest) (sym (c .or-no-object .ensures ∙ ap (λ w. c .before .before .before .before .before .before .before .before .loop .missing || isNoObject w) p))))
 
 returns-2 : tie.Need-returns-2 Inv-loop μ-loop
 unfolding worstWalk
-returns-2 c = λ f ms s h k l. sym (rw (c .if2 .taken) at (walk-end (now (c .before .before .before .before .before .before .before .before .args .text)) (now (c .before .before .before .before .before .before .before .before .args .table)) (now (c .before .before .before .before .before .before .before .before .args .rows)) 0 (c .before .before .before .before .before .before .before .before .args .n) (worst (docOf (now (c .before .before .before .before .before .before .before .before .args .card)) f) false) (worst (docOf (now (c .before .before .before .before .before .before .before .before .args .card)) f) (c .before .before .loop .missing)) (c .before .before .loop .i) (c .before .before .loop .inv .1 f s h k) (omega arith) ms l))
+returns-2 c = λ f ms s h k l. rw (c .if2 .taken) at (walk-end (c .before .before .loop .inv .1 f s h k) (omega arith) ms l)
 
 returns-3 : tie.Need-returns-3 Inv-loop μ-loop
 unfolding worstWalk
-returns-3 c = λ f ms s h k l. sym (rw (c .if2 .left) at (walk-end (now (c .before .before .before .before .before .before .before .before .args .text)) (now (c .before .before .before .before .before .before .before .before .args .table)) (now (c .before .before .before .before .before .before .before .before .args .rows)) 0 (c .before .before .before .before .before .before .before .before .args .n) (worst (docOf (now (c .before .before .before .before .before .before .before .before .args .card)) f) false) (worst (docOf (now (c .before .before .before .before .before .before .before .before .args .card)) f) (c .before .before .loop .missing)) (c .before .before .loop .i) (c .before .before .loop .inv .1 f s h k) (omega arith) ms l))
+returns-3 c = λ f ms s h k l. rw (c .if2 .left) at (walk-end (c .before .before .loop .inv .1 f s h k) (omega arith) ms l)
 
 pub worst-path-spec : {M : Type 1} → statement M
 worst-path-spec =
