@@ -112,12 +112,14 @@ module _ {t table rows : List ℕ} {n i j : ℕ} (outer : Walked t table rows 0 
 abbrev pub worst : Doc → (missing : Bool) → Members → Walk
 worst d missing ms = cond (anyWalk isInArray (entriesOf ms) d) inArray (cond (missing || anyWalk isNoObject (entriesOf ms) d) noObject arrives)
 
-module _ (d : Doc) (missing : Bool) (key : Name) (label : List ℕ) (v : Doc) (rest : Members) where
-  pub worst-hit : isInArray (walk (pointerOf key) d) ≡ true → worst d missing (member key label v rest) ≡ inArray
-  worst-hit e = rw e
+-- the walk of the pointer at i is r
+module _ {t table rows : List ℕ} {n i : ℕ} (d : Doc) (missing : Bool) (w : Walked t table rows 0 n (worst d false) (worst d missing) i) (lt : i < n)
+    {r : Walk} (p : r ≡ walk (pointerOf (nameAt t table rows i)) d) where
+  pub worst-hit : isInArray r ≡ true → (ms : Members) → Listed t table rows 0 n ms → inArray ≡ worst d false ms
+  worst-hit e = walk-hit w lt (λ label v rest l. rw (← p, e))
 
-  pub worst-on : isInArray (walk (pointerOf key) d) ≡ false → worst d missing (member key label v rest) ≡ worst d (missing || isNoObject (walk (pointerOf key) d)) rest
-  worst-on e = rw (e, or-assoc)
+  pub worst-on : isInArray r ≡ false → {m : Bool} → m ≡ missing || isNoObject r → Walked t table rows 0 n (worst d false) (worst d m) (i + 1)
+  worst-on e q = walk-on w lt (λ label v rest l. rw (← p, e, q, or-assoc))
 
 -- ---- the list as it is filled ----
 

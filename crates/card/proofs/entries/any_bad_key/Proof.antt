@@ -2,7 +2,6 @@
 use Prim.Native.Nat.{_≤_, _-_}
 use mathlib.Core.Path.{sym, _∙_}
 use native.Mathlib.Omega.{arith}
-use denote.Ref.{now}
 use borrow.Author.Needs.{needs}
 use Rattle.contact.specs.Patch.{anyBadKey}
 use Rattle.card.proofs.EntryLaws.{Walked, walk-start, walk-on, walk-hit, walk-end}
@@ -16,7 +15,7 @@ abbrev μ-loop : tie.MeasureT-loop
 μ-loop text table rows n i₀ i = n - i
 
 loop-holds : tie.Need-loop-holds Inv-loop μ-loop
-loop-holds c = (omega arith, walk-start (now (c .before .before .before .args .text)) (now (c .before .before .before .args .table)) (now (c .before .before .before .args .rows)) 0 (c .before .before .before .args .n) anyBadKey)
+loop-holds c = (omega arith, walk-start _ _ _ _ _ _)
 
 mul-row : tie.Need-mul-row Inv-loop μ-loop
 mul-row c = omega arith

@@ -3,7 +3,6 @@ use Prim.Native.Nat.{_+_, _≤_, _-_}
 use mathlib.Core.Path.{_≡_, refl}
 use native.Mathlib.Omega.{arith}
 use lib.ListN.{length, length-set}
-use denote.Ref.{now}
 use borrow.Author.Needs.{needs}
 use Rattle.card.proofs.EntryLaws.{Filling, fill-start, fill-room, fill-on, fill-end}
 use Rattle.card.proofs.entries.collect.Statement.{statement}
@@ -16,7 +15,7 @@ abbrev μ-loop : tie.MeasureT-loop
 μ-loop table from end rows₀ n₀ at₀ rows n at = end - at
 
 loop-holds : tie.Need-loop-holds Inv-loop μ-loop
-loop-holds c = (refl, omega (arith, c .before .before .pre .stand .ends, c .before .before .pre .room-for), omega (arith, c .before .before .pre .stand .ends), fill-start (now (c .before .before .args .table)) (c .before .before .args .from) (c .before .before .args .end) (now (c .before .before .args .rows)))
+loop-holds c = (refl, omega (arith, c .before .before .pre .stand .ends, c .before .before .pre .room-for), omega (arith, c .before .before .pre .stand .ends), fill-start _ _ _ _)
 
 cast-rows : tie.Need-cast-rows Inv-loop μ-loop
 cast-rows c = omega (arith, c .before .before .before .before .pre .few)

@@ -1,15 +1,13 @@
 -- The loops' invariants: nothing is found yet; whether two entries clash is whether two of those from `i` on do, and whether the one at `i` clashes with one
 -- after it is whether it does with one from `j` on. Assumes nothing.
 use Prim.Native.Nat.{_+_, _≤_, _-_}
-use mathlib.Core.Path.{refl, sym, _∙_}
+use mathlib.Core.Path.{_≡_, refl, sym, ap, _∙_}
 use native.Mathlib.Omega.{arith}
-use denote.Ref.{now}
 use borrow.Author.Needs.{needs}
 use Rattle.card.specs.declared.entries.Clash.the-variants.{Nothing}
 use Rattle.card.specs.Entries.{keyBytes, isPair}
 use Rattle.text.specs.Strings.{decode}
 use Rattle.card.proofs.EntryLaws.{Walked, walk-start, walk-end, clashAmong, clashIn, pair-found, pair-passed, pairs-passed}
-use mathlib.Core.Path.{_≡_, ap}
 use Rattle.card.proofs.entries.first_clash.Statement.{statement}
 use Rattle.card.proofs.entries.first_clash.Tie as tie
 
@@ -26,7 +24,7 @@ abbrev μ-pairs : tie.MeasureT-pairs
 μ-pairs text table rows n found₀ i₀ found i = n - i
 
 pairs-holds : tie.Need-pairs-holds Inv-loop μ-loop Inv-pairs μ-pairs
-pairs-holds c = (omega arith, refl, walk-start (now (c .before .before .before .args .text)) (now (c .before .before .before .args .table)) (now (c .before .before .before .args .rows)) 0 (c .before .before .before .args .n) clashAmong)
+pairs-holds c = (omega arith, refl, walk-start _ _ _ _ _ _)
 
 mul-row : tie.Need-mul-row Inv-loop μ-loop Inv-pairs μ-pairs
 mul-row c = omega arith
@@ -41,7 +39,7 @@ add-j : tie.Need-add-j Inv-loop μ-loop Inv-pairs μ-pairs
 add-j c = omega arith
 
 loop-holds : tie.Need-loop-holds Inv-loop μ-loop Inv-pairs μ-pairs
-loop-holds c = (omega arith, c .before .before .pairs .inv .1, walk-start (now (c .before .before .before .before .before .before .args .text)) (now (c .before .before .before .before .before .before .args .table)) (now (c .before .before .before .before .before .before .args .rows)) (c .before .before .pairs .i + 1) (c .before .before .before .before .before .before .args .n) _)
+loop-holds c = (omega arith, c .before .before .pairs .inv .1, walk-start _ _ _ _ _ _)
 
 mul-other : tie.Need-mul-other Inv-loop μ-loop Inv-pairs μ-pairs
 mul-other c = omega arith

@@ -1,7 +1,7 @@
 -- The loop's invariant: the worst of all walks is that of the walks from `i` on, where one that met no object may have been before. Assumes nothing.
 use Prim.Native.Nat.{_≤_, _-_}
-use mathlib.Core.Path.{_≡_, sym, ap, _∙_}
-use mathlib.Core.Bool.{false, _||_}
+use mathlib.Core.Path.{sym, _∙_}
+use mathlib.Core.Bool.{false}
 use native.Mathlib.Omega.{arith}
 use denote.Ref.{now}
 use borrow.Author.Needs.{needs}
@@ -10,11 +10,8 @@ use Rattle.text.specs.Tree.{Forest}
 use Rattle.text.specs.Firsts.{Some, Kinds}
 use Rattle.text.specs.Standing.{Stands}
 use Rattle.text.specs.Doc.{docOf}
-use Rattle.contact.specs.Pointer.{pointerOf}
-use Rattle.contact.specs.Patch.{walk, isInArray, isNoObject}
 use Rattle.card.specs.Entries.{worstWalk}
-use Rattle.card.specs.Paths.{walkOf}
-use Rattle.card.proofs.EntryLaws.{nameAt, Walked, walk-start, walk-on, walk-hit, walk-end, worst, worst-hit, worst-on}
+use Rattle.card.proofs.EntryLaws.{Walked, walk-start, walk-end, worst, worst-hit, worst-on}
 use Rattle.card.proofs.entries.worst_path.Statement.{statement}
 use Rattle.card.proofs.entries.worst_path.Tie as tie
 
@@ -25,7 +22,7 @@ abbrev μ-loop : tie.MeasureT-loop
 μ-loop card card-table row text table rows n missing₀ i₀ missing i = n - i
 
 loop-holds : tie.Need-loop-holds Inv-loop μ-loop
-loop-holds c = (omega arith, λ f s h k. walk-start (now (c .before .before .before .before .before .args .text)) (now (c .before .before .before .before .before .args .table)) (now (c .before .before .before .before .before .args .rows)) 0 (c .before .before .before .before .before .args .n) (worst (docOf (now (c .before .before .before .before .before .args .card)) f) false))
+loop-holds c = (omega arith, λ f s h k. walk-start _ _ _ _ _ _)
 
 mul-entry : tie.Need-mul-entry Inv-loop μ-loop
 mul-entry c = omega arith
@@ -50,7 +47,7 @@ is-in-array-requires c κs = search needs
 
 returns : tie.Need-returns Inv-loop μ-loop
 unfolding conts worstWalk
-returns c = λ f ms s h k l. let p : walkOf (c .before .before .follow .result) ≡ walk (pointerOf (nameAt (now (c .before .before .before .before .before .before .before .before .before .before .before .before .before .args .text)) (now (c .before .before .before .before .before .before .before .before .before .before .before .before .before .args .table)) (now (c .before .before .before .before .before .before .before .before .before .before .before .before .before .args .rows)) (c .before .before .before .before .before .before .before .loop .i))) (docOf (now (c .before .before .before .before .before .before .before .before .before .before .before .before .before .args .card)) f) = rw (c .before .before .before .start .ensures, c .before .before .before .before .key-at .ensures) at (c .before .before .follow .ensures f s h k) in walk-hit (c .before .before .before .before .before .before .before .loop .inv .1 f s h k) (c .before .before .before .before .before .before .loop-test .taken) (λ label v rest m. worst-hit (docOf (now (c .before .before .before .before .before .before .before .before .before .before .before .before .before .args .card)) f) (c .before .before .before .before .before .before .before .loop .missing) (nameAt (now (c .before .before .before .before .before .before .before .before .before .before .before .before .before .args .text)) (now (c .before .before .before .before .before .before .before .before .before .before .before .before .before .args .table)) (now (c .before .before .before .before .before .before .before .before .before .before .before .before .before .args .rows)) (c .before .before .before .before .before .before .before .loop .i)) label v rest (ap isInArray (sym p) ∙ sym (c .before .is-in-array .ensures) ∙ c .if1 .taken)) ms l
+returns c = λ f ms s h k l. worst-hit (docOf (now (c .before .before .before .before .before .before .before .before .before .before .before .before .before .args .card)) f) (c .before .before .before .before .before .before .before .loop .missing) (c .before .before .before .before .before .before .before .loop .inv .1 f s h k) (c .before .before .before .before .before .before .loop-test .taken) (rw (c .before .before .before .start .ensures, c .before .before .before .before .key-at .ensures) at (c .before .before .follow .ensures f s h k)) (sym (c .before .is-in-array .ensures) ∙ c .if1 .taken) ms l
 
 or-no-object-requires : tie.Need-or-no-object-requires Inv-loop μ-loop
 or-no-object-requires c κs = search needs
@@ -63,7 +60,7 @@ loop-less c = omega arith
 
 loop-again : tie.Need-loop-again Inv-loop μ-loop
 unfolding conts
-loop-again c = (omega arith, λ f s h k. let p : walkOf (c .before .before .before .follow .result) ≡ walk (pointerOf (nameAt (now (c .before .before .before .before .before .before .before .before .before .before .before .before .before .before .args .text)) (now (c .before .before .before .before .before .before .before .before .before .before .before .before .before .before .args .table)) (now (c .before .before .before .before .before .before .before .before .before .before .before .before .before .before .args .rows)) (c .before .before .before .before .before .before .before .before .loop .i))) (docOf (now (c .before .before .before .before .before .before .before .before .before .before .before .before .before .before .args .card)) f) = rw (c .before .before .before .before .start .ensures, c .before .before .before .before .before .key-at .ensures) at (c .before .before .before .follow .ensures f s h k) in walk-on (c .before .before .before .before .before .before .before .before .loop .inv .1 f s h k) (c .before .before .before .before .before .before .before .loop-test .taken) (λ label v rest m. worst-on (docOf (now (c .before .before .before .before .before .before .before .before .before .before .before .before .before .before .args .card)) f) (c .before .before .before .before .before .before .before .before .loop .missing) (nameAt (now (c .before .before .before .before .before .before .before .before .before .before .before .before .before .before .args .text)) (now (c .before .before .before .before .before .before .before .before .before .before .before .before .before .before .args .table)) (now (c .before .before .before .before .before .before .before .before .before .before .before .before .before .before .args .rows)) (c .before .before .before .before .before .before .before .before .loop .i)) label v rest (ap isInArray (sym p) ∙ sym (c .before .before .is-in-array .ensures) ∙ c .before .if1 .left) ∙ ap (λ b. worst (docOf (now (c .before .before .before .before .before .before .before .before .before .before .before .before .before .before .args .card)) f) b rest) (sym (c .or-no-object .ensures ∙ ap (λ w. c .before .before .before .before .before .before .before .before .loop .missing || isNoObject w) p))))
+loop-again c = (omega arith, λ f s h k. worst-on (docOf (now (c .before .before .before .before .before .before .before .before .before .before .before .before .before .before .args .card)) f) (c .before .before .before .before .before .before .before .before .loop .missing) (c .before .before .before .before .before .before .before .before .loop .inv .1 f s h k) (c .before .before .before .before .before .before .before .loop-test .taken) (rw (c .before .before .before .before .start .ensures, c .before .before .before .before .before .key-at .ensures) at (c .before .before .before .follow .ensures f s h k)) (sym (c .before .before .is-in-array .ensures) ∙ c .before .if1 .left) (c .or-no-object .ensures))
 
 returns-2 : tie.Need-returns-2 Inv-loop μ-loop
 unfolding worstWalk
