@@ -3,3 +3,4 @@ pub mod PartLaws
 pub mod PointerLaws
 pub mod MemberLaws
 pub mod PathLaws
+pub mod EntryLaws
