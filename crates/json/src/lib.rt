@@ -7,11 +7,13 @@
 //   names    names compared decoded
 //   sheet    an answer in the refusal sheet's numbers
 //   tokens   white space, literals and numbers
+//   rows     the words of a row, stored and read
 pub mod bytes;
 mod chars;
 pub mod decode;
 mod limits;
 pub mod names;
+pub mod rows;
 pub mod sheet;
 pub mod strings;
 mod tokens;
