@@ -9,12 +9,14 @@
 //   rows     the words of a row, stored and read
 //   members  the names of an object's members
 //   values   values, arrays and objects
+//   read     whole texts
 pub mod bytes;
 mod chars;
 pub mod decode;
 mod limits;
 mod members;
 pub mod names;
+pub mod read;
 pub mod rows;
 pub mod strings;
 mod tokens;
