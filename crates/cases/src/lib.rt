@@ -187,6 +187,28 @@ pub fn unpack(line: &[u8], base: &[u8], out: &mut [u8]) -> usize
     size
 }
 
+// So many words of a table, or all.
+pub fn words_of(wanted: usize, table: &[u32]) -> usize
+    ensures { λ r. ⌜ Counts r (now (table .entry)) ⌝ }
+{
+    if wanted < table.len() {
+        wanted
+    } else {
+        table.len()
+    }
+}
+
+// So many bytes of a buffer, or all.
+pub fn bytes_of(wanted: usize, bytes: &[u8]) -> usize
+    ensures { λ r. ⌜ Counts r (now (bytes .entry)) ⌝ }
+{
+    if wanted < bytes.len() {
+        wanted
+    } else {
+        bytes.len()
+    }
+}
+
 // A sum with one word more.
 fn and_word(sum: u64, word: u32) -> u64 {
     (sum % 4294967291 * 65599 + word as u64) % 4294967291

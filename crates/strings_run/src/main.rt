@@ -105,7 +105,7 @@ fn line_of(line: &[u8], base: &mut [u8]) {
     }
     let mut text = [0u8; cases::ROOM];
     if line[0] == 33 {
-        cases::unpack(&line[1..], &text, base);
+        cases::unpack(&line[1..], b"", base);
         return;
     }
     let size = cases::unpack(line, base, &mut text);
