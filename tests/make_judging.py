@@ -21,17 +21,21 @@ APART = b'{"kind":"separator","value":"-"}'
 # each type: the members around a property that is tried, and the types of its properties
 TYPES = {
     "Card": (b"%s", {
-        b"@type": "Card", b"version": "1.0", b"uid": "text", b"created": "time", b"updated": "time", b"kind": "text", b"language": "text", b"prodId": "text",
+        b"@type": "Card", b"version": "1.0", b"uid": "text", b"created": "time", b"updated": "time", b"kind": "text", b"language": "text",
+        b"prodId": "text",
         b"members": "set", b"name": "name", b"emails": "emails", b"phones": "phones", b"addresses": "addresses", b"localizations": "objects"}),
     "Name": (b'"name":{"full":"A",%s}', {
         b"@type": "Name", b"components": "parts", b"isOrdered": "flag", b"defaultSeparator": "text", b"full": "text", b"sortAs": "texts",
         b"phoneticScript": "text", b"phoneticSystem": "text"}),
-    "NameComponent": (b'"name":{"components":[{"kind":"given","value":"A",%s}]}', {b"@type": "NameComponent", b"value": "text", b"kind": "text", b"phonetic": "text"}),
-    "EmailAddress": (b'"emails":{"e1":{"address":"x",%s}}', {b"@type": "EmailAddress", b"address": "text", b"contexts": "set", b"pref": "pref", b"label": "text"}),
+    "NameComponent": (b'"name":{"components":[{"kind":"given","value":"A",%s}]}', {
+        b"@type": "NameComponent", b"value": "text", b"kind": "text", b"phonetic": "text"}),
+    "EmailAddress": (b'"emails":{"e1":{"address":"x",%s}}', {
+        b"@type": "EmailAddress", b"address": "text", b"contexts": "set", b"pref": "pref", b"label": "text"}),
     "Phone": (b'"phones":{"p1":{"number":"5",%s}}', {
         b"@type": "Phone", b"number": "text", b"features": "set", b"contexts": "set", b"pref": "pref", b"label": "text"}),
     "Address": (b'"addresses":{"a1":{"full":"A",%s}}', {
-        b"@type": "Address", b"components": "parts", b"isOrdered": "flag", b"countryCode": "text", b"coordinates": "text", b"timeZone": "text", b"contexts": "set",
+        b"@type": "Address", b"components": "parts", b"isOrdered": "flag", b"countryCode": "text", b"coordinates": "text",
+        b"timeZone": "text", b"contexts": "set",
         b"full": "text", b"defaultSeparator": "text", b"pref": "pref", b"phoneticScript": "text", b"phoneticSystem": "text"}),
     "AddressComponent": (b'"addresses":{"a1":{"components":[{"kind":"name","value":"A",%s}]}}', {
         b"@type": "AddressComponent", b"value": "text", b"kind": "text", b"phonetic": "text"}),
@@ -39,8 +43,10 @@ TYPES = {
 
 # values of every kind, tried on every property
 VALUES = [
-    b"null", b"false", b"true", b"0", b"1", b"100", b"101", b"-1", b"1.0", b'""', b'"x"', b'"group"', b'"2010-10-10T10:10:10Z"', b"[]", b"[5]", b"[" + GIVEN + b"]", b"{}",
-    b'{"a":true}', b'{"a":false}', b'{"a":null}', b'{"a":1}', b'{"a":"x"}', b'{"a":{}}', b'{"a b":{}}', b'{"a":{"address":"x"}}', b'{"a":{"number":"5"}}', b'{"full":"x"}']
+    b"null", b"false", b"true", b"0", b"1", b"100", b"101", b"-1", b"1.0", b'""', b'"x"', b'"group"', b'"2010-10-10T10:10:10Z"', b"[]",
+    b"[5]", b"[" + GIVEN + b"]", b"{}",
+    b'{"a":true}', b'{"a":false}', b'{"a":null}', b'{"a":1}', b'{"a":"x"}', b'{"a":{}}', b'{"a b":{}}', b'{"a":{"address":"x"}}',
+    b'{"a":{"number":"5"}}', b'{"full":"x"}']
 
 
 def card(*members):
@@ -103,9 +109,11 @@ def mandatory():
         for some in itertools.permutations(members, size):
             yield b"{" + b",".join(some) + b"}"
             yield b" {" + b",".join(some + (b'"kind":5',)) + b"}"
-    for wrong in (b'"version":"1"', b'"version":"1.00"', b'"version":"2.0"', b'"version":1.0', b'"version":"1\\u002e0"', b'"@type":"card"', b'"@type":"Card "', b'"@type":"C\\u0061rd"'):
+    for wrong in (b'"version":"1"', b'"version":"1.00"', b'"version":"2.0"', b'"version":1.0', b'"version":"1\\u002e0"', b'"@type":"card"',
+        b'"@type":"Card "', b'"@type":"C\\u0061rd"'):
         yield b"{" + b",".join([wrong] + [m for m in members if m.split(b":")[0] != wrong.split(b":")[0]]) + b"}"
-    for part in (b"{}", b'{"kind":"given"}', b'{"value":"A"}', b'{"kind":null,"value":"A"}', b'{"kind":"given","value":null}', b'{"kind":5}', b'{"@type":"x"}', GIVEN):
+    for part in (b"{}", b'{"kind":"given"}', b'{"value":"A"}', b'{"kind":null,"value":"A"}', b'{"kind":"given","value":null}',
+        b'{"kind":5}', b'{"@type":"x"}', GIVEN):
         yield card(b'"name":{"components":[' + part + b"]}")
         yield card(b'"addresses":{"a":{"components":[' + part + b"]}}")
     for entry in (b"{}", b'{"address":null}', b'{"pref":0}', b'{"label":"x"}', b'{"number":"5"}', b'{"address":"x"}'):
@@ -117,8 +125,10 @@ def between():
     """The rules between members of a Name and of an Address, over all that they look at; and those of the Card."""
     odd = b'{"kind":5,"value":"A"}'
     lists = [
-        None, b"{}", b"", GIVEN, APART, GIVEN + b"," + APART, APART + b"," + GIVEN, b",".join((GIVEN, APART, APART, GIVEN)), b",".join((APART, GIVEN, APART)),
-        GIVEN + b",5," + APART, APART + b",5," + APART, APART + b"," + odd + b"," + APART, b"5", b"{}", b'{"kind":"separator"}', odd, b'{"kind":"sep\\u0061rator","value":""}',
+        None, b"{}", b"", GIVEN, APART, GIVEN + b"," + APART, APART + b"," + GIVEN, b",".join((GIVEN, APART, APART, GIVEN)),
+        b",".join((APART, GIVEN, APART)),
+        GIVEN + b",5," + APART, APART + b",5," + APART, APART + b"," + odd + b"," + APART, b"5", b"{}", b'{"kind":"separator"}', odd,
+        b'{"kind":"sep\\u0061rator","value":""}',
         b'{"kind":"Separator","value":""}', b'["separator"]', APART + b"," + GIVEN + b"," + APART + b"," + APART]
     for around in (b'"name":{%s}', b'"addresses":{"a":{%s}}'):
         for i, parts in enumerate(lists):
@@ -143,9 +153,11 @@ def keys():
     for byte in range(128):
         one = b"\\u%04x" % byte if byte < 32 or byte in (34, 92) else bytes([byte])
         yield card(b'"addresses":{"' + one + b'":{}}')
-    for key in (b"\xc3\xa9", b"\\u00e9", b"a\xf0\x9f\x98\x80", b"\\u0041-_9", b"a.b", b"@type", b"a" * 254, b"a" * 255, b"a" * 256, b"\\u0061" * 255, b"\\u0061" * 256, b"-" * 255 + b"!", b"a" * 300):
+    for key in (b"\xc3\xa9", b"\\u00e9", b"a\xf0\x9f\x98\x80", b"\\u0041-_9", b"a.b", b"@type", b"a" * 254, b"a" * 255, b"a" * 256,
+        b"\\u0061" * 255, b"\\u0061" * 256, b"-" * 255 + b"!", b"a" * 300):
         yield card(b'"addresses":{"' + key + b'":{}}')
-    entries = [b"5", b"null", b"[]", b"{}", b'{"address":"x","number":"5"}', b'{"pref":0}', b'{"defaultSeparator":","}', b'{"@type":"x"}', b'{"address":5,"number":5}']
+    entries = [b"5", b"null", b"[]", b"{}", b'{"address":"x","number":"5"}', b'{"pref":0}', b'{"defaultSeparator":","}', b'{"@type":"x"}',
+        b'{"address":5,"number":5}']
     for around in (b'"emails":{"%s":', b'"phones":{"%s":', b'"addresses":{"%s":'):
         for key in (b"ok", b"", b"a b"):
             for entry in entries:
@@ -156,7 +168,8 @@ def keys():
 
 def times():
     good = b"2010-10-10T10:10:10Z"
-    tried = [good, b"0000-02-29T00:00:00Z", b"9999-12-31T23:59:59Z", b"", b" " + good, good + b" ", good[:-1], good[:-1] + b"z", good + b"Z", good[:-1] + b"+00:00", b"-" + good, b"2010\\u002d10-10T10:10:10\\u005a"]
+    tried = [good, b"0000-02-29T00:00:00Z", b"9999-12-31T23:59:59Z", b"", b" " + good, good + b" ", good[:-1], good[:-1] + b"z",
+        good + b"Z", good[:-1] + b"+00:00", b"-" + good, b"2010\\u002d10-10T10:10:10\\u005a"]
     for year in (1600, 1700, 1900, 1999, 2000, 2004, 2100, 2400):
         tried += [b"%04d-02-%02dT10:10:10Z" % (year, day) for day in (28, 29, 30)]
     for month in range(14):
@@ -164,7 +177,8 @@ def times():
     tried += [b"2010-10-10T%02d:10:10Z" % hour for hour in (0, 9, 19, 20, 23, 24, 29, 30, 99)]
     tried += [b"2010-10-10T10:%02d:10Z" % minute for minute in (0, 9, 59, 60, 99)]
     tried += [b"2010-10-10T10:10:%02dZ" % second for second in (0, 9, 59, 60, 61, 99)]
-    for part in (b".", b".0", b".1", b".10", b".01", b".003", b".000", b".5x", b".-5", b",5", b".5.5", b"." + b"0" * 40 + b"1", b"." + b"9" * 300, b"." + b"9" * 300 + b"0", b".1 ", b".\xc2\xb2"):
+    for part in (b".", b".0", b".1", b".10", b".01", b".003", b".000", b".5x", b".-5", b",5", b".5.5", b"." + b"0" * 40 + b"1",
+        b"." + b"9" * 300, b"." + b"9" * 300 + b"0", b".1 ", b".\xc2\xb2"):
         tried.append(good[:-1] + part + b"Z")
     for at in range(len(good)):
         tried += [good[:at] + other + good[at + 1:] for other in (b"/", b":", b"a", b"0", b"9", b"-", b"T", b"", b"\xc3\xa9", b"10")]
@@ -176,8 +190,10 @@ def times():
 
 def numbers():
     for n in (
-            b"0", b"1", b"2", b"9", b"10", b"99", b"100", b"101", b"109", b"110", b"199", b"200", b"1000", b"10000", b"-0", b"-1", b"-100", b"1.0", b"1.5", b"100.0", b"1e0", b"1E0", b"1e2", b"10e-1",
-            b"256", b"257", b"356", b"65537", b"4294967297", b"9007199254740991", b"9007199254740992", b"18446744073709551616", b"18446744073709551617", b"18446744073709551716", b"1" * 60, b"1" + b"0" * 5000):
+            b"0", b"1", b"2", b"9", b"10", b"99", b"100", b"101", b"109", b"110", b"199", b"200", b"1000", b"10000", b"-0", b"-1", b"-100",
+            b"1.0", b"1.5", b"100.0", b"1e0", b"1E0", b"1e2", b"10e-1",
+            b"256", b"257", b"356", b"65537", b"4294967297", b"9007199254740991", b"9007199254740992", b"18446744073709551616",
+            b"18446744073709551617", b"18446744073709551716", b"1" * 60, b"1" + b"0" * 5000):
         yield card(b'"emails":{"e1":{"address":"x","pref":' + n + b"}}")
         if len(n) < 4:
             yield card(b'"phones":{"e1":{"number":"x","pref":' + n + b"}}")
@@ -186,12 +202,15 @@ def numbers():
 
 def sets():
     for inside in (
-            b"", b'"a":true', b'"":true', b'"a":true,"b":true', b'"a":true,"b":false', b'"a":false,"b":null', b'"a":null,"b":false', b'"a":1', b'"a":"true"', b'"a":{}', b'"@type":true', b'"@type":"x"'):
+            b"", b'"a":true', b'"":true', b'"a":true,"b":true', b'"a":true,"b":false', b'"a":false,"b":null', b'"a":null,"b":false',
+            b'"a":1', b'"a":"true"', b'"a":{}', b'"@type":true', b'"@type":"x"'):
         for around in (
                 b'"kind":"group","members":{%s}', b'"emails":{"e":{"address":"x","contexts":{%s}}}', b'"phones":{"p":{"number":"5","features":{%s}}}',
-                b'"phones":{"p":{"number":"5","contexts":{%s}}}', b'"addresses":{"a":{"contexts":{%s}}}', b'"name":{"full":"A","sortAs":{%s}}', b'"localizations":{%s}'):
+                b'"phones":{"p":{"number":"5","contexts":{%s}}}', b'"addresses":{"a":{"contexts":{%s}}}',
+                b'"name":{"full":"A","sortAs":{%s}}', b'"localizations":{%s}'):
             yield card(around.replace(b"%s", inside))
-    for inside in (b'"de":{"~":1,"a":null,"a/b":5,"localizations":0}', b'"de":{},"fr":{}', b'"de":{},"fr":[]', b'"de":{"uid":5},"de-AT":"x"', b'"":{"":{}}'):
+    for inside in (b'"de":{"~":1,"a":null,"a/b":5,"localizations":0}', b'"de":{},"fr":{}', b'"de":{},"fr":[]',
+        b'"de":{"uid":5},"de-AT":"x"', b'"":{"":{}}'):
         yield card(b'"localizations":{' + inside + b"}")
     yield card(b'"kind":"group","members":{' + b",".join(b'"m%d":true' % i for i in range(400)) + b"}")
     yield card(b'"kind":"group","members":{' + b",".join(b'"m%d":true' % i for i in range(400)) + b',"last":false}')
@@ -200,8 +219,10 @@ def sets():
 def pairs():
     """Two faults in one card, in both orders; and a fault of the text beside one of the card."""
     faults = [
-        b'"kind":5', b'"created":"x"', b'"updated":[]', b'"language":null', b'"members":{}', b'"members":[]', b'"name":{}', b'"name":{"full":"A","@type":"x"}', b'"name":5', b'"emails":{"a":{}}',
-        b'"emails":{"a b":{"address":"x"}}', b'"phones":{"p":{"number":"5","pref":0}}', b'"addresses":{"a":{"defaultSeparator":","}}', b'"addresses":{"":[]}', b'"localizations":{"de":5}',
+        b'"kind":5', b'"created":"x"', b'"updated":[]', b'"language":null', b'"members":{}', b'"members":[]', b'"name":{}',
+        b'"name":{"full":"A","@type":"x"}', b'"name":5', b'"emails":{"a":{}}',
+        b'"emails":{"a b":{"address":"x"}}', b'"phones":{"p":{"number":"5","pref":0}}', b'"addresses":{"a":{"defaultSeparator":","}}',
+        b'"addresses":{"":[]}', b'"localizations":{"de":5}',
         b'"prodId":{}', b'"@type":"Other"', b'"version":1', b'"uid":true', b'"name":{"components":[5]}', b'"extra":{"kind":5}']
     for one, other in itertools.permutations(faults, 2):
         names = [f.split(b":")[0] for f in (one, other)]
@@ -210,7 +231,8 @@ def pairs():
             yield b"{" + b",".join([one] + kept + [other]) + b"}"
     for inside in itertools.permutations([b'"full":5', b'"isOrdered":"x"', b'"sortAs":{"a":5}', b'"components":[' + APART + b"]", b'"@type":1'], 2):
         yield card(b'"name":{' + b",".join(inside) + b"}")
-    for text in (b'{"kind":5,"uid":"\\uD800"}', b'{"kind":5,"kind":6}', b'{"kind":5', b'[5,]', b'{"kind":5}]', b'{"kind":' + b"[" * 32, b"[" + b"0," * 2048 + b"0]", b" " * 65537):
+    for text in (b'{"kind":5,"uid":"\\uD800"}', b'{"kind":5,"kind":6}', b'{"kind":5', b'[5,]', b'{"kind":5}]', b'{"kind":' + b"[" * 32,
+        b"[" + b"0," * 2048 + b"0]", b" " * 65537):
         yield text
     for text in (b"null", b"5", b'"Card"', b"[]", b" [] ", b"true", b" \n{}", b"[" + card() + b"]"):
         yield text

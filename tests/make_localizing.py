@@ -81,7 +81,8 @@ def buffers():
 
 
 def languages():
-    for held in (b'"de":{"z":2},"fr":{"z":3},"":{"z":4}', b'"\\u0064e":{"z":2},"fr":{"z":3}', b'"DE":{"z":2}', b'"de-AT":{"z":2},"d":{"z":3}', b'"d\\u00e9":{"z":2}', b""):
+    for held in (b'"de":{"z":2},"fr":{"z":3},"":{"z":4}', b'"\\u0064e":{"z":2},"fr":{"z":3}', b'"DE":{"z":2}',
+        b'"de-AT":{"z":2},"d":{"z":3}', b'"d\\u00e9":{"z":2}', b""):
         text = card(b'"z":1', b'"localizations":{' + held + b"}")
         for language in (b"de", b"fr", b"", b"d", b"de-AT", b"DE", b"\\u0064e", b"d\xc3\xa9", b"d\xe9", b"\xff", b"de "):
             yield lent(text, language)
@@ -98,27 +99,33 @@ def keys():
         yield lent(patched(b'"\\u%04x":1' % byte, b'"z":1'))
         yield lent(patched(b'"z/\\u%04x":1,"z/b\\u%04X":2' % (byte, byte), b'"z":{"b":0}'))
     for key in (
-            b"~0", b"~1", b"~00", b"~01", b"~10", b"~11", b"~0~1", b"~1~0", b"~01~10", b"~2", b"~", b"a~", b"~~", b"~~0", b"~0~", b"~/0", b"\\u007e0", b"~\\u0030", b"~\\u0031x", b"~a", b"a~1b/c", b"a~0b"):
+            b"~0", b"~1", b"~00", b"~01", b"~10", b"~11", b"~0~1", b"~1~0", b"~01~10", b"~2", b"~", b"a~", b"~~", b"~~0", b"~0~", b"~/0",
+            b"\\u007e0", b"~\\u0030", b"~\\u0031x", b"~a", b"a~1b/c", b"a~0b"):
         yield lent(patched(b'"' + key + b'":1', b'"a/b":{"c":0},"a~b":0,"~1":0'))
-    for key in (b"", b"/", b"//", b"a/", b"/a", b"a//", b"a//b", b"\\/", b"a\\/b", b"a\\u002fb", b"b/c/d", b"b/c", b"b/c/e", b"b/c/d/e", b"b//", b"b/", b" b", b"B"):
+    for key in (b"", b"/", b"//", b"a/", b"/a", b"a//", b"a//b", b"\\/", b"a\\/b", b"a\\u002fb", b"b/c/d", b"b/c", b"b/c/e", b"b/c/d/e",
+        b"b//", b"b/", b" b", b"B"):
         for value in (b"1", b"null"):
             yield lent(patched(b'"' + key + b'":' + value, b'"":{"":{"":1},"a":2},"a":{"":{"b":3}},"b":{"c":{"d":4}}'))
-    for key in (b"\xc3\xa9", b"\\u00e9", b"k/\xe2\x82\xac", b"k/\\u20AC", b"k/\\ud83d\\ude00/x", b"k/\xf0\x9f\x98\x80/x", b"k\\\\", b"k\\\"", b"k\\b\\f\\n\\r\\t", b"\\u2028", b"\xe2\x80\xa8"):
+    for key in (b"\xc3\xa9", b"\\u00e9", b"k/\xe2\x82\xac", b"k/\\u20AC", b"k/\\ud83d\\ude00/x", b"k/\xf0\x9f\x98\x80/x", b"k\\\\",
+        b"k\\\"", b"k\\b\\f\\n\\r\\t", b"\\u2028", b"\xe2\x80\xa8"):
         for value in (b"1", b"null", b'{ "\\u0061" : [ 1 ] }'):
             yield lent(patched(b'"' + key + b'":' + value, b'"\\u00e9":0,"k":{"\\u20ac":0,"\\uD83D\\uDE00":{"x":0}},"k\\u005c":0'))
 
 
 def prefixes():
     """Which pairs clash: over whole parts."""
-    some = [b"", b"/", b"/a", b"a", b"a/", b"a/b", b"a/bc", b"ab", b"a/b/c", b"a~1b", b"a~0", b"name", b"name/full", b"emails/e1", b"emails/e10", b"emails/e1/address"]
+    some = [b"", b"/", b"/a", b"a", b"a/", b"a/b", b"a/bc", b"ab", b"a/b/c", b"a~1b", b"a~0", b"name", b"name/full", b"emails/e1",
+        b"emails/e10", b"emails/e1/address"]
     for one, other in itertools.permutations(some, 2):
         yield lent(patched(b'"' + one + b'":null,"' + other + b'":null'))
 
 
 def walks():
     for key in (
-            b"x", b"x/0", b"x/0/1", b"x/1/0", b"x/-", b"x/a/b", b"z/a", b"z/a/b", b"y/s/t", b"y/s", b"y/q", b"y/q/r", b"y/a/b/c", b"y/a/b/c/d", b"y/a/b/d", b"y/a", b"name/components", b"name/components/0",
-            b"name/components/0/phonetic", b"name/full/x", b"name/q", b"nope", b"nope/x", b"emails/e1/pref", b"emails/e2", b"emails/e1/contexts/work", b"uid/x", b"@type/x", b"de", b"localizations",
+            b"x", b"x/0", b"x/0/1", b"x/1/0", b"x/-", b"x/a/b", b"z/a", b"z/a/b", b"y/s/t", b"y/s", b"y/q", b"y/q/r", b"y/a/b/c",
+            b"y/a/b/c/d", b"y/a/b/d", b"y/a", b"name/components", b"name/components/0",
+            b"name/components/0/phonetic", b"name/full/x", b"name/q", b"nope", b"nope/x", b"emails/e1/pref", b"emails/e2",
+            b"emails/e1/contexts/work", b"uid/x", b"@type/x", b"de", b"localizations",
             b"localizations/de", b"localizations~1de", b"y/localizations", b"/localizations", b"localizationsx"):
         for value in (b"null", b"1", b'{"a":1}', b"[]", b'{"address":"e"}', b'"t"'):
             yield lent(patched(b'"' + key + b'":' + value))
@@ -135,26 +142,34 @@ def members():
             yield lent(patched(b",".join(entries), b'"y":{"a":1,"b":2,"c":3}'))
     spaced = b' "y" : { "a" : [ 1 , { "b" : " c " } , [ ] ] , "d" : { } , "\\u0065" : "\\u0066" , "g" : -1.5e+3 } '
     for patch in (
-            b"", b'"y/a":null', b'"y/d":[ ]', b'"y/e":{ "f" : [ 1 , 2 ] , "\\u0067" : "\\/" }', b'"y":null', b'"y":0', b'"w":{ "v" : { } }', b'"y/d/q":" "', b' "y/g" : null ,\n"y/h"\t: 1e5 ',
+            b"", b'"y/a":null', b'"y/d":[ ]', b'"y/e":{ "f" : [ 1 , 2 ] , "\\u0067" : "\\/" }', b'"y":null', b'"y":0', b'"w":{ "v" : { } }',
+            b'"y/d/q":" "', b' "y/g" : null ,\n"y/h"\t: 1e5 ',
             b'"y/e":null,"y/d":null,"y/a":null,"y/g":null', b'"y/\\u0065":true'):
         yield lent(patched(patch, spaced))
         yield lent(b" \n" + patched(patch, spaced) + b"\t")
     for name in (b"created", b"kind", b"language", b"members", b"prodId", b"emails", b"@type", b"version", b"uid", b"name", b"phones", b"addresses"):
-        for value in (b"null", b"5", b'"x"', b'"group"', b"{}", b'{"full":"B"}', b'{"a":true}', b'{"a":{"address":"x"}}', b'{"a b":{"address":"x","number":"5"}}', b'{"a":{"defaultSeparator":","}}'):
+        for value in (b"null", b"5", b'"x"', b'"group"', b"{}", b'{"full":"B"}', b'{"a":true}', b'{"a":{"address":"x"}}',
+            b'{"a b":{"address":"x","number":"5"}}', b'{"a":{"defaultSeparator":","}}'):
             yield lent(patched(b'"' + name + b'":' + value))
     for patch in (
-            b'"kind":"group","members":{"a":true}', b'"members":{"a":true},"kind":"group"', b'"members":{"a":true}', b'"kind":"group","members":{"a":false}', b'"name/full":null,"name/components":null',
-            b'"name/full":null', b'"name/components":null', b'"name/components":[]', b'"name/components":[{"kind":"separator","value":""}]', b'"name/isOrdered":true,"name/defaultSeparator":","',
-            b'"name/defaultSeparator":","', b'"emails/e1/pref":101', b'"emails/e1/address":null', b'"emails/e1":null,"emails/e10":null', b'"emails/a b":{"address":"x"}', b'"emails/c~1d":{"address":"x"}',
-            b'"emails/c":{}', b'"addresses":{"a":{}},"created":"2010-10-10T10:10:10Z"', b'"kind":5,"created":"x"', b'"created":"x","kind":5', b'"version":"2.0"', b'"@type":"Name"', b'"name/@type":"Nam\\u0065"'):
+            b'"kind":"group","members":{"a":true}', b'"members":{"a":true},"kind":"group"', b'"members":{"a":true}',
+            b'"kind":"group","members":{"a":false}', b'"name/full":null,"name/components":null',
+            b'"name/full":null', b'"name/components":null', b'"name/components":[]', b'"name/components":[{"kind":"separator","value":""}]',
+            b'"name/isOrdered":true,"name/defaultSeparator":","',
+            b'"name/defaultSeparator":","', b'"emails/e1/pref":101', b'"emails/e1/address":null', b'"emails/e1":null,"emails/e10":null',
+            b'"emails/a b":{"address":"x"}', b'"emails/c~1d":{"address":"x"}',
+            b'"emails/c":{}', b'"addresses":{"a":{}},"created":"2010-10-10T10:10:10Z"', b'"kind":5,"created":"x"',
+            b'"created":"x","kind":5', b'"version":"2.0"', b'"@type":"Name"', b'"name/@type":"Nam\\u0065"'):
         yield lent(patched(patch))
 
 
 def orders():
     """The order of a patch's entries: never in the answer."""
     for entries in (
-            (b'"b":1', b'"a":2', b'"ab":3', b'"B":4'), (b'"\\ud83d\\ude00":1', b'"\\uffee":2', b'"\\u00e9":3', b'"~0":4'), (b'"a~1":1', b'"a!":2', b'"a0":3', b'"a":4'),
-            (b'"\\n":1', b'"\\u0000":2', b'"\\"":3', b'"\\\\":4'), (b'"z":null', b'"y/a/b/c":1', b'"emails/e2":{"address":"x"}', b'"w":[ ]'), (b'"q~":1', b'"x/0":1', b'"nope/a":1', b'"uid":null'),
+            (b'"b":1', b'"a":2', b'"ab":3', b'"B":4'), (b'"\\ud83d\\ude00":1', b'"\\uffee":2', b'"\\u00e9":3', b'"~0":4'), (b'"a~1":1',
+            b'"a!":2', b'"a0":3', b'"a":4'),
+            (b'"\\n":1', b'"\\u0000":2', b'"\\"":3', b'"\\\\":4'), (b'"z":null', b'"y/a/b/c":1', b'"emails/e2":{"address":"x"}',
+            b'"w":[ ]'), (b'"q~":1', b'"x/0":1', b'"nope/a":1', b'"uid":null'),
             (b'"name/full":null', b'"name/components":null', b'"kind":5', b'"x":null')):
         answers = set()
         for order in itertools.permutations(entries):
@@ -191,10 +206,12 @@ def figures():
 def chance(count):
     """Patches put together by chance."""
     dice = Dice(6901)
-    keys = [b"z", b"w", b"v", b"name/full", b"name/q", b"y/s", b"y/a", b"y/a/b", b"y/a/b/c", b"y/a/b/d", b"emails/e1", b"emails/e2", b"emails/e10/label", b"emails", b"x", b"kind", b"members",
+    keys = [b"z", b"w", b"v", b"name/full", b"name/q", b"y/s", b"y/a", b"y/a/b", b"y/a/b/c", b"y/a/b/d", b"emails/e1", b"emails/e2",
+        b"emails/e10/label", b"emails", b"x", b"kind", b"members",
             b"language", b"u~1v", b"u~0", b"\\u0041", b"name", b"y"]
     rare = [b"x/0", b"nope/a", b"~", b"localizations", b"name/full/x", b"uid", b"version", b"y/s/t"]
-    values = [b"null", b"null", b"1", b'"t"', b'"group"', b"[]", b"{}", b'{"address":"e"}', b'{"full":"B"}', b'{ "b" : [ 1 ] }', b"true", b'{"a":true}']
+    values = [b"null", b"null", b"1", b'"t"', b'"group"', b"[]", b"{}", b'{"address":"e"}', b'{"full":"B"}', b'{ "b" : [ 1 ] }', b"true",
+        b'{"a":true}']
     for _ in range(count):
         some = dice.several(keys, 4) + (dice.several(rare, 1) if dice.below(4) == 0 else [])
         yield lent(patched(b",".join(b'"' + key + b'":' + dice.one(values) for key in some)))

@@ -59,7 +59,8 @@ MANY = b"{" + b",".join(b'"n%d":0' % i for i in range(2046))
 
 def members():
     """Objects of very many members: their number, and a repeated name among them."""
-    for more in (b"}", b',"m":0}', b',"m":0,"l":0}', b',"m":0,"m":0}', b',"m":0,"n0":0}', b',"m":0,"n2045":0}', b',"m":0,"l" 0}', b',"n1000":0}', b',"\\u006e1":0}', b',"m":0'):
+    for more in (b"}", b',"m":0}', b',"m":0,"l":0}', b',"m":0,"m":0}', b',"m":0,"n0":0}', b',"m":0,"n2045":0}', b',"m":0,"l" 0}',
+        b',"n1000":0}', b',"\\u006e1":0}', b',"m":0'):
         yield MOST, MANY + more
     yield 6 * 100, MANY + b',"n1000":0}'
     yield 6 * 2047 - 1, MANY + b"}"
@@ -83,11 +84,13 @@ def tables():
     texts = [b"0", b'{"a":[1]}', b' {"a" : [ 1 , 2 ] , "b" : { } } ', b"[[[[[[]]]]]]", b"[0,1,2,3,4,5,6,7,8,9]", b'{"a":{"b":{"c":{"d":0}}}}']
     for text in texts:
         rows = intake.read(text, MOST)[1]
-        for words in sorted({0, 1, 5, 6, 7, 11, 12, 6 * rows - 7, 6 * rows - 6, 6 * rows - 1, 6 * rows, 6 * rows + 1, 6 * rows + 5, 6 * rows + 6, 600}):
+        for words in sorted({0, 1, 5, 6, 7, 11, 12, 6 * rows - 7, 6 * rows - 6, 6 * rows - 1, 6 * rows, 6 * rows + 1, 6 * rows + 5,
+            6 * rows + 6, 600}):
             if words >= 0:
                 yield words, text
     faulty = [
-        b"", b"x", b"[1,2,3,x]", b'[1,2,3,"\\uD800"]', b'[1,2,3,{"a":1,"\\u0061":2}]', b"[1,2,3," + b"[" * 32, b'{"a":1,"b":2,"c":3,"b":4}', b"[" + b"0," * 2048 + b"0]",
+        b"", b"x", b"[1,2,3,x]", b'[1,2,3,"\\uD800"]', b'[1,2,3,{"a":1,"\\u0061":2}]', b"[1,2,3," + b"[" * 32, b'{"a":1,"b":2,"c":3,"b":4}',
+        b"[" + b"0," * 2048 + b"0]",
         b"[1,2,3", b"[1,2,3]]", b" " * 65537]
     for text in faulty:
         for words in (0, 5, 6, 7, 12, 23, 24, 30, 36, 61):
@@ -95,14 +98,17 @@ def tables():
 
 
 def names():
-    spelled = [b"", b"a", b"\\u0061", b"A", b"aa", b"\\u0061a", b"\\n", b"\\u000a", b"\\u000A", b"/", b"\\/", b"\xc3\xa9", b"\\u00e9", b"\\u00E9", b"\xf0\x9f\x98\x80", b"\\ud83d\\ude00"]
+    spelled = [b"", b"a", b"\\u0061", b"A", b"aa", b"\\u0061a", b"\\n", b"\\u000a", b"\\u000A", b"/", b"\\/", b"\xc3\xa9", b"\\u00e9",
+        b"\\u00E9", b"\xf0\x9f\x98\x80", b"\\ud83d\\ude00"]
     for one in spelled:
         for other in spelled:
             yield sized(b'{"' + one + b'":1,"' + other + b'":2}')
             yield sized(b'{"' + one + b'":{"' + other + b'":1},"z":[{"' + other + b'":2}]}')
     for text in (
-            b'{"a":1,"b":2,"c":3,"a":4}', b'{"a":1,"b":2,"b":3,"a":4}', b'{"a":{"a":{"a":1}}}', b'[{"a":1},{"a":2}]', b'{"a":1,"a":', b'{"a":1,"a":x}', b'{"a":1,"a\\',
-            b'{"a":1,"a\\u', b'{"a":1,"a"}', b'{"a":1,"a" ', b'{"a":1 "a"', b'{"a":1,,"a"', b'{"a":[{"a":1,"b":[{"a":1}]}],"b":1,"a":1}', b'{"a":{"b":1},"b":{"a":1,"b":2,"a":3}}'):
+            b'{"a":1,"b":2,"c":3,"a":4}', b'{"a":1,"b":2,"b":3,"a":4}', b'{"a":{"a":{"a":1}}}', b'[{"a":1},{"a":2}]', b'{"a":1,"a":',
+            b'{"a":1,"a":x}', b'{"a":1,"a\\',
+            b'{"a":1,"a\\u', b'{"a":1,"a"}', b'{"a":1,"a" ', b'{"a":1 "a"', b'{"a":1,,"a"', b'{"a":[{"a":1,"b":[{"a":1}]}],"b":1,"a":1}',
+            b'{"a":{"b":1},"b":{"a":1,"b":2,"a":3}}'):
         yield sized(text)
 
 
@@ -120,7 +126,8 @@ def short():
                 yield 31, b"[" + word[:cut] + more
     for byte in range(256):
         one = bytes([byte])
-        for text in (one, one + b"1", b"1" + one, b"[" + one, b"[1" + one, b"{" + one, b'{"a"' + one, b'{"a":' + one, b'"' + one + b'"', b"-" + one, b"[0" + one + b"1]", b"1." + one):
+        for text in (one, one + b"1", b"1" + one, b"[" + one, b"[1" + one, b"{" + one, b'{"a"' + one, b'{"a":' + one, b'"' + one + b'"',
+            b"-" + one, b"[0" + one + b"1]", b"1." + one):
             yield 31, text
     for form in (b"0", b"-0", b"-1", b"10", b"1.0", b"0.10", b"-1.5e3", b"1E+2", b"1e-0", b"0e0", b"123456789012345678901234567890", b"1e999"):
         for cut in range(len(form) + 1):
