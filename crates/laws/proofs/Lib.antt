@@ -1,5 +1,4 @@
 -- Facts that speak of no format: places and parts of a list, runs, the outcomes of a test, the order of two runs of bytes, and buffers being cleared.
--- Facts that speak of no format: the element at a place, the order of two runs of bytes, what closes a test, buffers being cleared, and runs of stores.
 pub mod Places
 pub mod Bounds
 pub mod Splits
