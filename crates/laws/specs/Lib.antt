@@ -1,3 +1,5 @@
 pub mod Scan
 pub mod Lists
+pub mod Bounds
 pub mod Order
+pub mod Each

@@ -1,19 +1,24 @@
 -- From a text's tree to its document (specs/Doc.antt): what a tree's values are in it, so that rows can be read for a document.
 --     doc-first, doc-kind, doc-token, doc-below, members-first      the parts of a value are those of the first value of the tree
---     count-members, count-doc                                      a document has as many values as the tree
+--     content-part, label-part                                      the content of a string and the name as written are parts of the text
+--     count-members, count-doc, count-root                          a document has as many values as the tree
 --     distinct-names                                                where a repeated name is refused, the names of an accepted text are distinct
 -- Assumes nothing.
-use Prim.Native.Nat.{ℕ, suc, _+_, _-_, _<_}
-use mathlib.Core.Path.{_≡_, refl, sym}
+use Prim.Native.Nat.{ℕ, suc, _+_, _-_, _≤_, _<_}
+use mathlib.Core.Path.{_≡_, refl, sym, ap, _∙_}
 use mathlib.Core.List.{List}
 use mathlib.Core.Bool.{Bool, true, false, cond}
 use mathlib.Core.Option.{none, some}
 use native.Mathlib.Omega.{arith}
+use lib.ListN.{length}
+use borrow.Author.Tests.{ne-eqb}
 use Rattle.laws.specs.Lists.{partOf}
 use Rattle.laws.specs.Order.{same}
+use Rattle.laws.proofs.Splits.{length-part}
+use Rattle.laws.proofs.Parts.{part-part}
 use Rattle.laws.proofs.Orders.{eq-same, same-eq}
 use Rattle.text.specs.Limits.{Limits}
-use Rattle.text.specs.Strings.{nameOf}
+use Rattle.text.specs.Strings.{decode, nameOf, contentOf}
 use Rattle.text.specs.Tree.{Bracket, square, curly, Forest, leaf, node, size, join}
 use Rattle.text.specs.Tree as T
 use Rattle.text.specs.Firsts.{Some, kindAt, nameStart, nameEnd, startAt, endAt, insideAt, belowAt, restAt, firstOf, Kinds}
@@ -22,6 +27,7 @@ use Rattle.text.specs.Tokens.{skip}
 use Rattle.text.specs.Whole.{readOf}
 use Rattle.text.specs.Doc.{Name, Doc, scalar, array, object, Members, empty, member, boxed, labelAt, membersOf, docOf, kindOf, tokenOf, below, countOf, countAll, property, seek}
 use Rattle.text.specs.Distinct.{Distinct, DistinctEntries, DistinctMembers, DistinctIn}
+use Rattle.text.proofs.Standing.{first-and-rest}
 use Rattle.text.proofs.Induction.{Rules, value-induction, read-accepted}
 
 module _ (t : List ℕ) where
@@ -92,6 +98,20 @@ module _ (t : List ℕ) where
   unfolding membersOf
   members-none = refl
 
+  -- ---- names and strings, where they stand in the text ----
+
+  -- the token of a string decodes to what its inside decodes to
+  pub content-part : (from to : ℕ) → from + 1 < to → to ≤ length t → contentOf (partOf t from to) ≡ nameOf t (from + 1) (to - 1)
+  content-part from to h k =
+      let n : length (partOf t from to) ≡ to - from = length-part t from to (omega arith) k in
+      let place : from + (to - from - 1) ≡ to - 1 = omega arith in
+      ap (λ (m : ℕ). decode (partOf (partOf t from to) 1 (m - 1))) n
+      ∙ ap decode (part-part t from to 1 (to - from - 1) (omega arith) k (omega arith) (omega arith) ∙ ap (partOf t (from + 1)) place)
+
+  -- the name as written, of a value that has a name
+  pub label-part : (ns ne : ℕ) → 0 < ns → labelAt t ns ne ≡ partOf t (ns - 1) (ne + 1)
+  label-part ns ne h = rw (ne-eqb ns 0 (omega arith))
+
   -- ---- counts ----
 
   box-count : (b : Bracket) (ms : Members) → countOf (boxed b ms) ≡ suc (countAll ms)
@@ -112,6 +132,11 @@ module _ (t : List ℕ) where
   count-doc T.none s = absurd s
   count-doc (leaf kind ns ne from to rest) s = omega arith
   count-doc (node b ns ne from to inside rest) s = omega (arith, box-count b (membersOf t inside), count-members inside)
+
+  -- a text's one value counts all
+  pub count-root : (f : Forest) → Some f → restAt f ≡ T.none → countOf (docOf t f) ≡ size f
+  unfolding size
+  count-root f s e = let rest : size (restAt f) ≡ 0 = rw e in omega (arith, count-doc f s, first-and-rest f s)
 
   -- ---- names ----
 
@@ -191,7 +216,8 @@ none-distinct : (b : Bracket) → DistinctIn b empty
 none-distinct square = tt
 none-distinct curly = tt
 
-distinct-rules : (L : Limits) (t : List ℕ) → Rules L t (λ depth ns ne at f to. One L t ns ne f) (λ b depth edge at f. L .unique ≡ true → DistinctIn b (membersOf t f))
+distinct-rules : (L : Limits) (t : List ℕ)
+    → Rules L t (λ depth ns ne at f to. One L t ns ne f) (λ b depth edge at f. L .unique ≡ true → DistinctIn b (membersOf t f))
 unfolding membersOf docOf
 distinct-rules L t =
     record {

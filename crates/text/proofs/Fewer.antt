@@ -206,7 +206,8 @@ module _ (L : Limits) (t : List ℕ) (v w : ℕ) (le : v ≤ w) where
     unfolding colonAt
     colon-fewer at end n = fewer-cond (eqb (byteAt t (skip t end)) 58) (compare _ _ _ n) (neither tt)
 
-    name-fewer : (done : Forest) (at n : ℕ) (k : Token) → Fewer v n (memberWith (withValues L v) t value done at n k) (memberWith (withValues L w) t full done at n k)
+    name-fewer : (done : Forest) (at n : ℕ) (k : Token)
+        → Fewer v n (memberWith (withValues L v) t value done at n k) (memberWith (withValues L w) t full done at n k)
     unfolding memberWith
     name-fewer done at n (No2 p) = neither tt
     name-fewer done at n (No3 p) = neither tt
@@ -217,7 +218,8 @@ module _ (L : Limits) (t : List ℕ) (v w : ℕ) (le : v ≤ w) where
     unfolding memberOf
     member-fewer done at n = fewer-cond (eqb (byteAt t at) 34) (name-fewer done at n (stringEnd t (at + 1))) (neither tt)
 
-  container-fewer : (b : Bracket) (inner full : ℕ → ℕ → Read) → ((at n : ℕ) → n ≤ v → Fewer v n (inner at n) (full at n)) → ((at n : ℕ) → v < n → Over v n (full at n))
+  container-fewer : (b : Bracket) (inner full : ℕ → ℕ → Read) → ((at n : ℕ) → n ≤ v → Fewer v n (inner at n) (full at n))
+      → ((at n : ℕ) → v < n → Over v n (full at n))
       → (ns ne at n : ℕ) → Fewer v n (container (withValues L v) b inner ns ne at n) (container (withValues L w) b full ns ne at n)
   unfolding container
   container-fewer b inner full compare over ns ne at n =

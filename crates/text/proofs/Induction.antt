@@ -82,7 +82,8 @@ pub record Rules (L : Limits) (t : List ℕ) (Value : (depth ns ne at : ℕ) →
   pub start : (b : Bracket) (depth edge : ℕ) → kindBy (byteAt t edge) ≡ kindIn b → Items b depth edge (skip t (edge + 1)) none
   pub comma : (b : Bracket) (depth edge at : ℕ) (f : Forest) → Items b depth edge at f → byteAt t at ≡ 44 → Items b depth edge (skip t (at + 1)) f
   -- one element more
-  pub element : (depth edge at to : ℕ) (done f : Forest) → Items square depth edge at done → Value depth 0 0 at f to → Items square depth edge (skip t to) (join done f)
+  pub element : (depth edge at to : ℕ) (done f : Forest) → Items square depth edge at done → Value depth 0 0 at f to
+      → Items square depth edge (skip t to) (join done f)
   -- one member more: its name's quotes are at `at` and before `end`
   pub member : (depth edge at end to : ℕ) (done f : Forest) → Items curly depth edge at done
       → byteAt t at ≡ 34 → stringEnd t (at + 1) ≡ End end → (L .unique ≡ true → named t (nameOf t (at + 1) (end - 1)) done ≡ false)
@@ -129,7 +130,8 @@ module _ (L : Limits) (t : List ℕ) (Value : (depth ns ne at : ℕ) → Forest 
         (λ e. accepted (x, p, eqb-true (byteAt t x) (closing b) e, refl))
         (λ e. from (suc (length t)) x n none p)
 
-    closed : (ns ne : ℕ) → kindBy (byteAt t edge) ≡ kindIn b → {r : Read} → Accepts (Closed b depth edge) r → Accepts (Value (suc depth) ns ne edge) (closeOf b ns ne edge r)
+    closed : (ns ne : ℕ) → kindBy (byteAt t edge) ≡ kindIn b → {r : Read} → Accepts (Closed b depth edge) r
+        → Accepts (Value (suc depth) ns ne edge) (closeOf b ns ne edge r)
     unfolding closeOf
     closed ns ne k refused = refused
     closed ns ne k (accepted {f} {to} (x, p, e, q)) = rw q (accepted (R .box b depth ns ne edge x f k p e))
@@ -168,7 +170,8 @@ module _ (L : Limits) (t : List ℕ) (Value : (depth ns ne at : ℕ) → Forest 
         (λ u. accepts-cond (named t (nameOf t (at + 1) (end - 1)) done) (λ d. refused) (λ d. colon done at end n p q e (λ v. d)))
         (λ u. colon done at end n p q e (λ v. let z : _≡_ {A = ℕ} 0 1 = cc in absurd (omega arith)))
 
-    member-step : (done : Forest) (at n : ℕ) → Items curly depth edge at done → Accepts (λ f to. Items curly depth edge (skip t to) (join done f)) (memberOf L t value done at n)
+    member-step : (done : Forest) (at n : ℕ) → Items curly depth edge at done
+        → Accepts (λ f to. Items curly depth edge (skip t to) (join done f)) (memberOf L t value done at n)
     unfolding memberOf
     member-step done at n p =
         accepts-cond (eqb (byteAt t at) 34) (λ q. name done at n p (eqb-true (byteAt t at) 34 q) (stringEnd t (at + 1)) refl) (λ q. refused)
@@ -241,7 +244,8 @@ read-accepted L t f to e = whole (ltb (L .bytes) (length t)) refl (valueAt L t (
         record { end = end; value = v ∙ rw same; space = place; ended = rw (← place) (eqb-true (byteAt t (skip t end)) 256 h); short = s }
     tail g end v s false h q = let z : _≡_ {A = ℕ} 0 1 = cc in absurd (omega arith)
 
-    whole : (c : Bool) → ltb (L .bytes) (length t) ≡ c → (r : Read) → valueAt L t (L .depth) 0 0 (skip t 0) 0 ≡ r → cond c (bad TooLong) (endOf t r) ≡ good f to → Accepted L t f to
+    whole : (c : Bool) → ltb (L .bytes) (length t) ≡ c → (r : Read) → valueAt L t (L .depth) 0 0 (skip t 0) 0 ≡ r
+        → cond c (bad TooLong) (endOf t r) ≡ good f to → Accepted L t f to
     whole true h r v q = let z : _≡_ {A = ℕ} 0 1 = cc in absurd (omega arith)
     whole false h (bad r) v q = let z : _≡_ {A = ℕ} 0 1 = cc in absurd (omega arith)
     whole false h (good g end) v q = tail g end v (ltb-false (L .bytes) (length t) h) (eqb (byteAt t (skip t end)) 256) refl q

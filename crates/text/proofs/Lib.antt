@@ -1,5 +1,6 @@
 -- The theorems over the definitions of specs/, by subject.
 pub mod Walks
+pub mod Sequences
 pub mod Laws
 pub mod Standing
 pub mod TokenEnds
@@ -7,3 +8,12 @@ pub mod Stores
 pub mod Fewer
 pub mod Induction
 pub mod Documents
+pub mod Spelling
+pub mod StringSpecimens
+pub mod TokenBytes
+pub mod Placing
+pub mod Grammar
+pub mod Outcomes
+pub mod Promise
+pub mod NewNames
+pub mod Labels

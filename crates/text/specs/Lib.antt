@@ -3,6 +3,7 @@ pub mod Text
 pub mod Chars
 pub mod Strings
 pub mod Spelling
+pub mod Broken
 pub mod Sheet
 pub mod Tokens
 pub mod Tree
@@ -12,5 +13,14 @@ pub mod Reader
 pub mod Whole
 pub mod Doc
 pub mod Distinct
+pub mod Placed
+pub mod Promised
 pub mod Writing
 pub mod Fewer
+pub mod Abnf
+pub mod Grammar
+pub mod Rfc
+pub mod Seats
+pub mod Meaning
+pub mod Fault
+pub mod Labels
