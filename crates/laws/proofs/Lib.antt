@@ -5,6 +5,7 @@ pub mod Splits
 pub mod Picks
 pub mod Branches
 pub mod Orders
+pub mod Outcomes
 pub mod Parts
 pub mod Cleared
 pub mod Decides
