@@ -156,7 +156,7 @@ module _ (L : Limits) (t : List ℕ) where
     longer l b =
         let m = other L t (good f to) e (skip t to) (skip-later t to) l (b .rest) (b .is) in
         let x : to ≡ m .end = near-good (m .is) .1 in
-        ⊎-elim (λ a. omega (arith, ap (skip t) x, length-append (take (skip t to + 1) t) (b .rest), length-take-le (skip t to + 1) t (omega arith))) (λ a. omega (arith, ap (skip t) x)) (m .ends (omega (arith, value-inside L t p)))
+        ⊎-elim (λ a. omega (arith, ap (skip t) x, length-append (take (skip t to + 1) t) (b .rest), length-take-le (skip t to + 1) t (omega arith))) (λ a. omega (arith, ap (skip t) x, a .answer)) (m .ends (omega (arith, value-inside L t p)))
 
     over : skip t to ≡ length t → ⊥
     over h = z (rw h (List·getD-eq-default t 256 (le-refl (length t))))

@@ -17,7 +17,7 @@ use Rattle.text.specs.Abnf.{Star}
 use Rattle.text.specs.Grammar.{Ws, value, JsonText, json-text, treeOf, rootOf}
 use Rattle.text.specs.Seats.{top}
 use Rattle.text.proofs.Grammar.Stands.{Stands, Like, stands-join, stands-to, stands-inside, like-stands, like-join, like-more, like-skip}
-use Rattle.text.proofs.Grammar.Exact.{Standing}
+use Rattle.text.proofs.Grammar.Exact.{Standing, Past}
 use Rattle.text.proofs.Grammar.Words.{ended, skip-told, skip-follow, skip-inside}
 use Rattle.text.proofs.Grammar.Sound.{Told, placeOf, Parsed, Viable}
 use Rattle.text.proofs.Grammar.Told.{no-name, value-told}
@@ -46,7 +46,7 @@ module _ (L : Limits) (t : List ℕ) where
   record Followed (q : ℕ) (w : List ℕ) (f : Forest) : Type 0 where
     end : ℕ
     meets : Reads L t q top f end (root L t)
-    ends : end ≤ length t → (skip t end ≡ length w) ⊎ (q ≤ skip t end)
+    ends : end ≤ length t → (skip t end ≡ length w) ⊎ Past q (length w) (skip t end)
 
   text-follow : (q : ℕ) {w : List ℕ} (d : JsonText w) → Like t q 0 (w ++ 256 ∷ []) → Followed q w (rootOf d)
   unfolding rootOf
@@ -61,7 +61,7 @@ module _ (L : Limits) (t : List ℕ) where
             (λ (u : skip t 0 ≡ 0 + length s).
             let v : skip t 0 ≡ length s = omega arith in
             rw v (follow L t q d (r ++ 256 ∷ []) (space-behind (256 ∷ []) o ended) (L .depth) top 0 0 (length s) (zero-add (L .depth)) (omega arith) (omega (arith, start)) ls))
-            (λ (u : q ≤ skip t 0). past (omega (arith, value-later L t 0 (L .depth) (zero-add (L .depth)) 0 0 (skip t 0) 0 start)))
+            (λ (u : Past q (0 + length s) (skip t 0)). past (omega (arith, u .word)) (omega (arith, u .answer, value-later L t 0 (L .depth) (zero-add (L .depth)) 0 0 (skip t 0) 0 start)))
             (skip-follow t (w ++ (r ++ 256 ∷ [])) (omega arith) p dark l);
         ends = λ j. rw n (skip-follow t (256 ∷ []) j o refl (like-skip w ls));
       }
@@ -71,7 +71,7 @@ module _ (L : Limits) (t : List ℕ) where
     pub record Met (w : List ℕ) (f : Forest) (q : ℕ) : Type 0 where
       pub end : ℕ
       pub is : Near L t q top f end R
-      pub ends : end ≤ length t → (skip t end ≡ length w) ⊎ (q ≤ skip t end)
+      pub ends : end ≤ length t → (skip t end ≡ length w) ⊎ Past q (length w) (skip t end)
 
     -- the text itself, if it is one of the grammar
     pub self : (d : JsonText t) → Met t (rootOf d) (length t + 1)
