@@ -21,9 +21,11 @@ pub mod Told
 pub mod Within
 pub mod Meets
 pub mod Follow
+pub mod Low
 pub mod Prefixes
 pub mod Arrangement
 pub mod Rules
+pub mod Calm
 pub mod Wholes
 pub mod Accepted
 pub mod Refused

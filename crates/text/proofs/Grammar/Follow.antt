@@ -35,12 +35,12 @@ use Rattle.text.proofs.Grammar.Meets.{simple-long, third, fourth, fifth
 module _ (L : Limits) (t : List ℕ) where
   -- ---- the value at a first byte ----
 
-  opens-deep : (b : Bracket) (ns ne at n : ℕ) → byteAt t at ≡ opening b → valueAt L t zero ns ne at n ≡ deep ns ne at n
+  pub opens-deep : (b : Bracket) (ns ne at n : ℕ) → byteAt t at ≡ opening b → valueAt L t zero ns ne at n ≡ deep ns ne at n
   unfolding valueAt valueWith kindBy
   opens-deep square ns ne at n h = rw h
   opens-deep curly ns ne at n h = rw h
 
-  opens : (b : Bracket) (depth ns ne at n : ℕ) → byteAt t at ≡ opening b
+  pub opens : (b : Bracket) (depth ns ne at n : ℕ) → byteAt t at ≡ opening b
       → valueAt L t (suc depth) ns ne at n ≡ container L b (insideOf t (itemAt L t depth b) (closing b)) ns ne at n
   unfolding valueAt valueWith kindBy
   opens square depth ns ne at n h = rw h
@@ -50,7 +50,7 @@ module _ (L : Limits) (t : List ℕ) where
   unfolding valueWith
   counts k arrays objects ns ne at n e = rw e (kind-way k _ _ _ _)
 
-  counts-at : (k : Simple) (depth ns ne at n : ℕ) → kindBy (byteAt t at) ≡ kindOf k → valueAt L t depth ns ne at n ≡ scalarAt L t (kindOf k) ns ne at n
+  pub counts-at : (k : Simple) (depth ns ne at n : ℕ) → kindBy (byteAt t at) ≡ kindOf k → valueAt L t depth ns ne at n ≡ scalarAt L t (kindOf k) ns ne at n
   unfolding valueAt
   counts-at k zero ns ne at n e = counts k _ _ ns ne at n e
   counts-at k (suc depth) ns ne at n e = counts k _ _ ns ne at n e
@@ -94,11 +94,11 @@ module _ (L : Limits) (t : List ℕ) where
 
     -- ---- white space and what follows it ----
 
-    skip-like : {at : ℕ} {s : List ℕ} (l : List ℕ) → at ≤ length t → Ws s → isSpace (byteAt l 0) ≡ false → Like t q at (s ++ l) → Like t q (skip t at) l
+    pub skip-like : {at : ℕ} {s : List ℕ} (l : List ℕ) → at ≤ length t → Ws s → isSpace (byteAt l 0) ≡ false → Like t q at (s ++ l) → Like t q (skip t at) l
     skip-like {at} {s} l i c o h = ⊎-elim (λ e. rw e (like-skip s h)) (λ e. like-none l (e .answer)) (skip-follow t l i c o h)
 
     -- another byte behind it
-    skip-stuck : {at : ℕ} {s : List ℕ} (l : List ℕ) → at ≤ length t → Ws s → isSpace (byteAt l 0) ≡ false → Like t q at (s ++ l) → (byteAt t (skip t at) ≡ byteAt l 0 → ⊥) → Past q (at + length s) (skip t at)
+    pub skip-stuck : {at : ℕ} {s : List ℕ} (l : List ℕ) → at ≤ length t → Ws s → isSpace (byteAt l 0) ≡ false → Like t q at (s ++ l) → (byteAt t (skip t at) ≡ byteAt l 0 → ⊥) → Past q (at + length s) (skip t at)
     skip-stuck {at} {s} l i c o h n =
         ⊎-elim
         (λ (e : skip t at ≡ at + length s). by-order (at + length s) q (λ k. absurd (n (rw e (like-here (like-skip s h) k)))) (λ k. record { word = k; answer = omega arith }))
@@ -271,7 +271,7 @@ Follows L t q (items b) w d =
     → Meets L t q c (join (c .beside) (treeOf d 0 0 at)) (treeOf d 0 0 at) (at + length w + 1) (itemsFrom t (itemAt L t depth b) (closing b) turns at (c .after) (c .beside))
 
 -- a turn
-turn : (P : Read → Type 0) (L : Limits) (t : List ℕ) (b : Bracket) (depth turns at n : ℕ) (before : Forest) → length t < turns + at → at ≤ length t
+pub turn : (P : Read → Type 0) (L : Limits) (t : List ℕ) (b : Bracket) (depth turns at n : ℕ) (before : Forest) → length t < turns + at → at ≤ length t
     → ((left : ℕ) → length t < suc left + at → P (afterItem t (closing b) before (λ f to. itemsFrom t (itemAt L t depth b) (closing b) left to (n + size f) (join before f)) (itemAt L t depth b before at n)))
     → P (itemsFrom t (itemAt L t depth b) (closing b) turns at n before)
 unfolding itemsFrom

@@ -20,7 +20,7 @@ use Rattle.text.specs.Seats.{Head, leafHead, nodeHead, Seat, under, behi
 use Rattle.text.specs.declared.Token.{Token}
 use Rattle.text.specs.declared.Token.the-variants.{End, No2, No3}
 use Rattle.text.specs.declared.Refusal.{Refusal}
-use Rattle.text.specs.declared.Refusal.the-variants.{Character, Repeated, Deep, Many}
+use Rattle.text.specs.declared.Refusal.the-variants.{TooLong, Grammar, Character, Repeated, Deep, Many, Small}
 use Rattle.text.proofs.Grammar.Words.{Behind, blank, blank-tells, simpleOf, simple-first}
 use Rattle.text.proofs.Grammar.Trees.{join-assoc, size-join, in-right}
 use Rattle.text.proofs.Grammar.Wrong.{Wrong}
@@ -33,6 +33,25 @@ pub data Numbered : (number place : ℕ) → Refusal → Type 0 where
   fourth : {x : ℕ} → Numbered 4 x (Repeated x)
   fifth : {x : ℕ} → Numbered 5 x (Deep x)
   sixth : {x : ℕ} → Numbered 6 x (Many x)
+
+abbrev pub numberOf : Refusal → ℕ
+numberOf TooLong = 1
+numberOf (Grammar p) = 2
+numberOf (Character p) = 3
+numberOf (Repeated p) = 4
+numberOf (Deep p) = 5
+numberOf (Many p) = 6
+numberOf (Small n) = 7
+
+pub record Has (r : Refusal) (m x : ℕ) : Type 0 where
+  pub number : numberOf r ≡ m
+  pub place : placeOf (bad r) ≡ x
+
+pub numbered-has : {m x : ℕ} {r : Refusal} → Numbered m x r → Has r m x
+numbered-has third = record { number = refl; place = refl }
+numbered-has fourth = record { number = refl; place = refl }
+numbered-has fifth = record { number = refl; place = refl }
+numbered-has sixth = record { number = refl; place = refl }
 
 module _ (L : Limits) (t : List ℕ) (q : ℕ) where
   -- an answer, where the values f up to the place `to` are expected, of which T are new, the first at c

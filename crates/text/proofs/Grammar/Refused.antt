@@ -30,31 +30,10 @@ use Rattle.text.proofs.Grammar.Stands.{by-order}
 use Rattle.text.proofs.Grammar.Words.{skip-later}
 use Rattle.text.proofs.Grammar.Sound.{Stopped, Told, Parsed, Viable, placeOf}
 use Rattle.text.proofs.Grammar.Wrong.{rank, Wrong, clean, First-wrong, kept-first}
-use Rattle.text.proofs.Grammar.Meets.{Numbered, third, fourth, fifth, sixth, Near, read, broken}
+use Rattle.text.proofs.Grammar.Meets.{numberOf, numbered-has, Near, read, broken}
 use Rattle.text.proofs.Grammar.Rules.{wrong-breaks, breaks-wrong, wrong-number}
 use Rattle.text.proofs.Grammar.Wholes.{root, root-told, self, other, Beginning, viable-text, value-inside, read-inside, read-begins, read-text}
 use Rattle.text.proofs.Grammar.Accepted.{kept-accepts, accepts-kept}
-
--- ---- refusals and their numbers ----
-
-abbrev numberOf : Refusal → ℕ
-numberOf TooLong = 1
-numberOf (Grammar p) = 2
-numberOf (Character p) = 3
-numberOf (Repeated p) = 4
-numberOf (Deep p) = 5
-numberOf (Many p) = 6
-numberOf (Small n) = 7
-
-record Has (r : Refusal) (m x : ℕ) : Type 0 where
-  number : numberOf r ≡ m
-  place : placeOf (bad r) ≡ x
-
-numbered-has : {m x : ℕ} {r : Refusal} → Numbered m x r → Has r m x
-numbered-has third = record { number = refl; place = refl }
-numbered-has fourth = record { number = refl; place = refl }
-numbered-has fifth = record { number = refl; place = refl }
-numbered-has sixth = record { number = refl; place = refl }
 
 module _ (L : Limits) (t : List ℕ) where
   -- what an answer says of a text that it meets

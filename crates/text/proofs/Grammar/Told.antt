@@ -36,16 +36,16 @@ abbrev pub itemAt : Limits → List ℕ → ℕ → Bracket → ItemReader
 itemAt L t depth square = λ done. valueAt L t depth 0 0
 itemAt L t depth curly = memberOf L t (valueAt L t depth)
 
-no-two : {A : Type 0} {k : Token} {p x : ℕ} → k ≡ No2 p → k ≡ No3 x → A
+pub no-two : {A : Type 0} {k : Token} {p x : ℕ} → k ≡ No2 p → k ≡ No3 x → A
 no-two {A} {k} {p} {x} e f = let z : No2 p ≡ No3 x = sym e ∙ f in let o : _≡_ {A = ℕ} 0 1 = cc in absurd (omega arith)
 
-no-end : {A : Type 0} {k : Token} {p x : ℕ} → k ≡ No2 p → k ≡ End x → A
+pub no-end : {A : Type 0} {k : Token} {p x : ℕ} → k ≡ No2 p → k ≡ End x → A
 no-end {A} {k} {p} {x} e f = let z : No2 p ≡ End x = sym e ∙ f in let o : _≡_ {A = ℕ} 0 1 = cc in absurd (omega arith)
 
-three-end : {A : Type 0} {k : Token} {p x : ℕ} → k ≡ No3 p → k ≡ End x → A
+pub three-end : {A : Type 0} {k : Token} {p x : ℕ} → k ≡ No3 p → k ≡ End x → A
 three-end {A} {k} {p} {x} e f = let z : No3 p ≡ End x = sym e ∙ f in let o : _≡_ {A = ℕ} 0 1 = cc in absurd (omega arith)
 
-same-three : {k : Token} {p x : ℕ} → k ≡ No3 p → k ≡ No3 x → p ≡ x
+pub same-three : {k : Token} {p x : ℕ} → k ≡ No3 p → k ≡ No3 x → p ≡ x
 same-three {k} {p} {x} e f = let z : No3 p ≡ No3 x = sym e ∙ f in cc
 
 module _ (L : Limits) (t : List ℕ) where
