@@ -20,7 +20,6 @@ use Rattle.text.specs.Meaning.{Accepts}
 use Rattle.text.proofs.Induction.{read-accepted}
 use Rattle.text.proofs.Grammar.Exact.{Past}
 use Rattle.text.proofs.Grammar.Sound.{Parsed, placeOf}
-use Rattle.text.proofs.Grammar.Words.{skip-inside}
 use Rattle.text.proofs.Grammar.Wrong.{Kept, clean}
 use Rattle.text.proofs.Grammar.Meets.{Near, read, broken}
 use Rattle.text.proofs.Grammar.Rules.{sane, sane-string, sane-name, sane-new}

@@ -1,13 +1,13 @@
 -- Nothing wrong is passed over (`calm`): where a text is like a derived part as far as a place q, and something is wrong with a value of the part's tree before
 -- q, then the definition refuses, and of no later place, nor of that place with a larger number. By induction on the derivation. Assumes nothing.
-use mathlib.Core.Path.{_≡_, refl, sym, subst, _∙_}
+use mathlib.Core.Path.{_≡_, refl, sym, _∙_}
 use mathlib.Core.List.{List, [], _∷_, _++_, append-assoc}
 use mathlib.Core.Bool.{true, false}
 use mathlib.Core.Logic.{_⊎_, inl, inr, ⊎-elim}
 use Prim.Native.Nat.{ℕ, zero, suc, _+_, _-_, _≤_, _<_}
 use native.Mathlib.Omega.{arith}
 use native.Mathlib.Nat.{le-refl}
-use lib.ListN.{length, length-append}
+use lib.ListN.{length}
 use Rattle.laws.proofs.Branches.{if-equal, if-most, if-true}
 use Rattle.laws.proofs.Places.{inside}
 use Rattle.text.specs.Limits.{Limits}
@@ -15,14 +15,14 @@ use Rattle.text.specs.Text.{byteAt}
 use Rattle.text.specs.Strings.{nameOf}
 use Rattle.text.specs.Tokens.{isSpace, skip}
 use Rattle.text.specs.Tree.{Bracket, closing, Forest, none, leaf, node, size, join}
-use Rattle.text.specs.Reader.{Read, good, bad, scalarWith, scalarAt, closeOf, container, deep, afterItem, itemsFrom, insideOf, named, colonAt, memberWith, valueAt}
+use Rattle.text.specs.Reader.{Read, bad, scalarWith, scalarAt, closeOf, container, deep, afterItem, itemsFrom, insideOf, named, colonAt, memberWith, valueAt}
 use Rattle.text.specs.Grammar.{Ws, String, Simple, kindOf, Written, opening, Part, value, item, items, Is, simple, empty, full, element, member, one, comma, treeOf}
 use Rattle.text.specs.Seats.{Head, Seat, under, behind, In}
 use Rattle.text.specs.declared.Token.{Token}
 use Rattle.text.specs.declared.Token.the-variants.{End, No2, No3}
 use Rattle.text.specs.declared.Refusal.{Refusal}
 use Rattle.text.specs.declared.Refusal.the-variants.{Deep, Character, Repeated}
-use Rattle.text.proofs.Grammar.Stands.{clash, by-order, Like, stands-inside, like-tail, like-skip, like-here}
+use Rattle.text.proofs.Grammar.Stands.{clash, Like, stands-inside, like-tail, like-skip, like-here}
 use Rattle.text.proofs.Grammar.Exact.{Past, Said, Goes}
 use Rattle.text.proofs.Grammar.Quotes.{quotedAt, bad-later, string-exact}
 use Rattle.text.proofs.Grammar.Words.{Behind, close, comma as a-comma, simple-first, simple-opens, token-simple, kind-text, skip-follow, skip-inside}
@@ -32,7 +32,7 @@ use Rattle.text.proofs.Grammar.Wrong as W
 use Rattle.text.proofs.Grammar.Sound.{placeOf, byte-opening, glue-end}
 use Rattle.text.proofs.Grammar.Told.{itemAt, quote-first, no-two, no-end, three-end, same-three}
 use Rattle.text.proofs.Grammar.Within.{item-within}
-use Rattle.text.proofs.Grammar.Meets.{numberOf, numbered-has, Reads, past, same, wrong, dark-closing, high-closing, first as lead-first, space-behind}
+use Rattle.text.proofs.Grammar.Meets.{numberOf, numbered-has, Reads, past, same, wrong, high-closing, first as lead-first, space-behind}
 use Rattle.text.proofs.Grammar.Follow.{opens-deep, opens, counts-at, skip-like, skip-stuck, turn, follow}
 use Rattle.text.proofs.Grammar.Low.{Name-wrong, spelled, known, Whence, by-name, within, low}
 use Rattle.text.proofs.Grammar.Rules.{wrong-number}
@@ -55,7 +55,7 @@ module _ (L : Limits) (t : List ℕ) (q : ℕ) where
     pub least : (s : Seat) (h : Head) (m x : ℕ) → In c f s h → Wrong L t s h m x → x < q → In-time m x R
 
   -- no name of a value that stands there is wrong before q
-  abbrev Good-names : Forest → ℕ → Type 0
+  abbrev pub Good-names : Forest → ℕ → Type 0
   Good-names before ns = (m x : ℕ) → Name-wrong L t before ns m x → x < q → ⊥
 
   -- ---- a value that holds no others ----
@@ -126,13 +126,15 @@ module _ (L : Limits) (t : List ℕ) (q : ℕ) where
       → Calm (under c) (treeOf d 0 0 (at + 1 + length s)) (insideOf t (itemAt L t depth b) (closing b) (at + 1) (c .after + 1))
   unfolding insideOf
   inside-calm b depth c {s} {w} d r at i p h k =
-      record { least = λ e o m x j v lt.
-      let n = low L t d (under c) e o m x (at + 1 + length s) j v in
-      let a = lead-first d (closing b ∷ r) in
-      let y = skip t (at + 1) in
-      if-equal (In-time m x) (byteAt t y) (closing b)
-      (λ z. absurd (omega (arith, skip-stuck L t q (w ++ closing b ∷ r) i p (a .dark) h (λ f. a .apart-from b (sym f ∙ z)) .word)))
-      (λ z. ⊎-elim (λ (f : y ≡ at + 1 + length s). rw f (k (omega (arith, skip-inside t (at + 1) i)) .least e o m x j v lt)) (λ f. absurd (omega (arith, f .word))) (skip-follow t (w ++ closing b ∷ r) i p (a .dark) h)) }
+      record {
+        least = λ e o m x j v lt.
+            let n = low L t d (under c) e o m x (at + 1 + length s) j v in
+            let a = lead-first d (closing b ∷ r) in
+            let y = skip t (at + 1) in
+            if-equal (In-time m x) (byteAt t y) (closing b)
+            (λ z. absurd (omega (arith, skip-stuck L t q (w ++ closing b ∷ r) i p (a .dark) h (λ f. a .apart-from b (sym f ∙ z)) .word)))
+            (λ z. ⊎-elim (λ (f : y ≡ at + 1 + length s). rw f (k (omega (arith, skip-inside t (at + 1) i)) .least e o m x j v lt)) (λ f. absurd (omega (arith, f .word))) (skip-follow t (w ++ closing b ∷ r) i p (a .dark) h));
+      }
 
   -- ---- items ----
 
@@ -242,12 +244,12 @@ comma-calm L t q b depth turns c at s r w to T S room e i p o dark h lower calm�
     go : (a : Seat) (f : Head) (m x : ℕ) → Wrong L t a f m x → x < q → (left : ℕ) → length t < suc left + at → Either-of c T S a f
         → In-time m x (afterItem t (closing b) (c .beside) (λ f to. itemsFrom t (itemAt L t depth b) (closing b) left to (c .after + size f) (join (c .beside) f)) (itemAt L t depth b (c .beside) at (c .after)))
     go a f m x y lt left u (first j) = time-after t (closing b) (c .beside) _ (calm₁ .least a f m x j y lt)
-    go a f m x y lt left u (later j) = comma-time L t q b c _ m x lt w (lower a f m x j y) (item-within L t (c .inside) depth room b (c .beside) at (c .after) i) p o dark h met (λ z k n l. calm₂ left z u k n l .least a f m x j y lt)
+    go a f m x y lt left u (later j) = comma-time L t q b c _ m x lt w (lower a f m x j y) (item-within L t depth b (c .beside) at (c .after) i) p o dark h met (λ z k n l. calm₂ left z u k n l .least a f m x j y lt)
 
 -- ---- by induction on the derivation ----
 
 -- what is shown of a derivation d of the bytes w
-abbrev Calms : (L : Limits) (t : List ℕ) (q : ℕ) (a : Part) (w : List ℕ) → Is a w → Type 0
+abbrev pub Calms : (L : Limits) (t : List ℕ) (q : ℕ) (a : Part) (w : List ℕ) → Is a w → Type 0
 Calms L t q value w d =
     (s : List ℕ) → Behind (byteAt s 0) → (depth : ℕ) (c : Seat) (ns ne at : ℕ) → c .inside + depth ≡ L .depth → c .after ≤ L .values → at ≤ length t → Like t q at (w ++ s)
     → Good-names L t q (c .beside) ns → Calm L t q c (treeOf d ns ne at) (valueAt L t depth ns ne at (c .after))
@@ -259,7 +261,7 @@ Calms L t q (items b) w d =
     → Calm L t q c (treeOf d 0 0 at) (itemsFrom t (itemAt L t depth b) (closing b) turns at (c .after) (c .beside))
 
 -- a value without a name has no wrong one
-no-names : (L : Limits) (t : List ℕ) (q : ℕ) (before : Forest) → Good-names L t q before 0
+pub no-names : (L : Limits) (t : List ℕ) (q : ℕ) (before : Forest) → Good-names L t q before 0
 no-names L t q before m x (spelled j e z) lt = omega arith
 no-names L t q before m x (known u e z n) lt = omega arith
 
@@ -286,16 +288,20 @@ calm L t q (element d) = λ s o depth c at room few i h. calm L t q d s o depth 
 calm L t q (member {m = v} {s} {r} {w} g p o d) = λ z b depth c at room few i h.
     let l = rw (glue-end 58 v s r w z) at h in
     let lw = like-skip r (like-tail (like-skip s (like-skip v l))) in
-    record { least = λ e f m x j y lt.
-    rw (quote-first L t (valueAt L t depth) (c .beside) at (c .after))
-    (member-time L t q depth c at i v s r w z p o d l
-    (λ names k. calm L t q d z b depth c (at + 1) (at + length v - 1) (at + length v + length s + 1 + length r) room few k lw names) e f m x j y lt
-    (quotedAt t at) refl (string-exact t .told at i) (string-exact t .follow q at v (s ++ 58 ∷ (r ++ (w ++ z))) i g tt l) (low L t d c e f m x (at + 1) _ _ j y)) }
+    record {
+      least = λ e f m x j y lt.
+          rw (quote-first L t (valueAt L t depth) (c .beside) at (c .after))
+          (member-time L t q depth c at i v s r w z p o d l
+          (λ names k. calm L t q d z b depth c (at + 1) (at + length v - 1) (at + length v + length s + 1 + length r) room few k lw names) e f m x j y lt
+          (quotedAt t at) refl (string-exact t .told at i) (string-exact t .follow q at v (s ++ 58 ∷ (r ++ (w ++ z))) i g tt l) (low L t d c e f m x (at + 1) _ _ j y));
+    }
 calm L t q (one {v} {s} {b} d p) = λ r depth turns c at room few e i h.
     let l = rw (append-assoc v s (closing b ∷ r)) at h in
-    record { least = λ a f m x j y lt.
-    turn (In-time m x) L t b depth turns at (c .after) (c .beside) e i
-    (λ left u. time-after t (closing b) (c .beside) _ (calm L t q d (s ++ closing b ∷ r) (space-behind (closing b ∷ r) p (close b)) depth c at room few i l .least a f m x j y lt)) }
+    record {
+      least = λ a f m x j y lt.
+          turn (In-time m x) L t b depth turns at (c .after) (c .beside) e i
+          (λ left u. time-after t (closing b) (c .beside) _ (calm L t q d (s ++ closing b ∷ r) (space-behind (closing b ∷ r) p (close b)) depth c at room few i l .least a f m x j y lt));
+    }
 calm L t q (comma {v} {s} {r = r} {w} {b} d p o f) = λ z depth turns c at room few e i h.
     let l = rw (glue-end 44 v s r w (closing b ∷ z)) at h in
     let lv = like-skip v l in

@@ -20,7 +20,7 @@ use Rattle.text.specs.Grammar.{Ws, String, Simple, kindOf, Written, open
 use Rattle.text.specs.Seats.{Seat, under, behind, In}
 use Rattle.text.specs.declared.Token.{Token}
 use Rattle.text.specs.declared.Token.the-variants.{End, No2, No3}
-use Rattle.text.proofs.Grammar.Stands.{by-order, Like, stands-inside, like-none, like-tail, like-skip, like-here, like-stuck}
+use Rattle.text.proofs.Grammar.Stands.{by-order, Like, stands-inside, like-none, like-tail, like-skip, like-here}
 use Rattle.text.proofs.Grammar.Exact.{Said, Past, Goes}
 use Rattle.text.proofs.Grammar.Quotes.{quotedAt, string-exact}
 use Rattle.text.proofs.Grammar.Words.{Behind, close, comma as a-comma, simpleOf, simple-exact, simple-first, simple-opens, token-simple, kind-text, kind-way, skip-follow, skip-later, skip-inside}
@@ -81,7 +81,7 @@ module _ (L : Limits) (t : List ℕ) where
     unfolding container deep
     container-follow b f to c ns ne at far few i e g zero room =
         by-order at q (λ l. rw (opens-deep b ns ne at (c .after) (e l)) (wrong In.node-here (W.Wrong.deep refl (omega arith)) fifth (inr far)))
-        (λ l. past (omega arith) (omega (arith, value-later L t (c .inside) zero room ns ne at (c .after) i)))
+        (λ l. past (omega arith) (omega (arith, value-later L t zero ns ne at (c .after) i)))
     container-follow b f to c ns ne at far few i e g (suc depth) room =
         by-order at q
         (λ l.
@@ -90,7 +90,7 @@ module _ (L : Limits) (t : List ℕ) where
         (if-most (Reads L t q c (node b ns ne at to f none) to) (L .values) (c .after)
         (λ m. wrong In.node-here (many (omega arith)) sixth (inr far))
         (λ m. meets-close L t q b ns ne at (g depth (omega arith) (omega arith) m))))
-        (λ l. past (omega arith) (omega (arith, value-later L t (c .inside) (suc depth) room ns ne at (c .after) i)))
+        (λ l. past (omega arith) (omega (arith, value-later L t (suc depth) ns ne at (c .after) i)))
 
     -- ---- white space and what follows it ----
 
@@ -115,7 +115,7 @@ module _ (L : Limits) (t : List ℕ) where
           let P = Reads L t q (under c) none (at + length s + 2) in
           if-equal P (byteAt t x) (closing b)
           (λ e. ⊎-elim (λ (u : x ≡ at + 1 + length s). let two : x + 1 ≡ at + length s + 2 = omega arith in rw two (same (omega arith))) (λ u. past (omega (arith, u .word)) (omega (arith, u .answer))) (skip-follow t (closing b ∷ r) i p (dark-closing b) h))
-          (λ e. let u = skip-stuck (closing b ∷ r) i p (dark-closing b) h e in past (omega (arith, u .word)) (omega (arith, u .answer, items-later L t (c .inside + 1) depth room b (suc (length t)) x (c .after + 1) none (skip-inside t (at + 1) i))))
+          (λ e. let u = skip-stuck (closing b ∷ r) i p (dark-closing b) h e in past (omega (arith, u .word)) (omega (arith, u .answer, items-later L t depth b (suc (length t)) x (c .after + 1) none (skip-inside t (at + 1) i))))
 
       inside-full : {s w : List ℕ} (d : Is (items b) w) (r : List ℕ) (at : ℕ) (f : Forest) → at + 1 ≤ length t → Ws s → Like t q (at + 1) (s ++ (w ++ closing b ∷ r))
           → ((x : ℕ) → x ≡ at + 1 + length s → x ≤ length t → Meets L t q (under c) (join none f) f (at + 1 + length s + length w + 1) (itemsFrom t (itemAt L t depth b) (closing b) (suc (length t)) x (c .after + 1) none))
@@ -127,7 +127,7 @@ module _ (L : Limits) (t : List ℕ) where
           let o = first d (closing b ∷ r) in
           if-equal (Reads L t q (under c) f (at + length s + length w + 2)) (byteAt t x) (closing b)
           (λ e. let u = skip-stuck (w ++ closing b ∷ r) i p (o .dark) h (λ k. o .apart-from b (sym k ∙ e)) in past (omega (arith, u .word)) (omega (arith, u .answer)))
-          (λ e. ⊎-elim (λ u. rw two at (m x u (skip-inside t (at + 1) i))) (λ u. past (omega (arith, u .word)) (omega (arith, u .answer, items-later L t (c .inside + 1) depth room b (suc (length t)) x (c .after + 1) none (skip-inside t (at + 1) i)))) (skip-follow t (w ++ closing b ∷ r) i p (o .dark) h))
+          (λ e. ⊎-elim (λ u. rw two at (m x u (skip-inside t (at + 1) i))) (λ u. past (omega (arith, u .word)) (omega (arith, u .answer, items-later L t depth b (suc (length t)) x (c .after + 1) none (skip-inside t (at + 1) i)))) (skip-follow t (w ++ closing b ∷ r) i p (o .dark) h))
 
     -- ---- after an item ----
 
@@ -219,7 +219,7 @@ module _ (L : Limits) (t : List ℕ) where
           let y = skip t (x + 1) in
           let yl = skip-later t (x + 1) in
           let yi = skip-inside t (x + 1) k in
-          let vl = value-later L t (c .inside) depth room (at + 1) (end - 1) y (c .after) yi in
+          let vl = value-later L t depth (at + 1) (end - 1) y (c .after) yi in
           ⊎-elim
           (λ (e : end ≡ at + length m).
           let l : Like t q end (s ++ 58 ∷ (r ++ (w ++ z))) = rw e (like-skip m h) in
@@ -283,7 +283,7 @@ unfolding treeOf
 follow L t q (simple {w} k l) = λ s o depth c ns ne at room few i h.
     by-order at q
     (λ b. rw (counts-at L t k depth ns ne at (c .after) (rw (like-here h b) (simple-first k w s l))) (scalar-follow L t q w k s c ns ne at few i b l o h))
-    (λ b. past (omega arith) (omega (arith, value-later L t (c .inside) depth room ns ne at (c .after) i)))
+    (λ b. past (omega arith) (omega (arith, value-later L t depth ns ne at (c .after) i)))
 follow L t q (empty {s} b p) = λ z o depth c ns ne at room few i h.
     let l = rw (append-assoc s (closing b ∷ []) z) at (like-tail h) in
     let e : at + suc (length (s ++ closing b ∷ [])) ≡ at + length s + 2 = omega (arith, length-append s (closing b ∷ [])) in
@@ -309,7 +309,7 @@ follow L t q (one {v} {s} {b} d p) = λ r depth turns c at room few e i h.
     let T = treeOf d 0 0 at in
     rw x
     (turn (Meets L t q c (join (c .beside) T) T (at + length v + length s + 1)) L t b depth turns at (c .after) (c .beside) e i
-    (λ left u. last-follow L t q b c _ (λ f to j. items-later L t (c .inside) depth room b left to (c .after + size f) (join (c .beside) f) j) r (item-within L t (c .inside) depth room b (c .beside) at (c .after) i) p (like-skip v l)
+    (λ left u. last-follow L t q b c _ (λ f to j. items-later L t depth b left to (c .after + size f) (join (c .beside) f) j) r (item-within L t depth b (c .beside) at (c .after) i) p (like-skip v l)
     (follow L t q d (s ++ closing b ∷ r) (space-behind (closing b ∷ r) p (close b)) depth c at room few i l)))
 follow L t q (comma {v} {s} {r = r} {w} {b} d p o f) = λ z depth turns c at room few e i h.
     let l = rw (glue-end 44 v s r w (closing b ∷ z)) at h in
@@ -319,6 +319,6 @@ follow L t q (comma {v} {s} {r = r} {w} {b} d p o f) = λ z depth turns c at roo
     let lw = like-skip r (like-tail (like-skip s (like-skip v l))) in
     rw x
     (turn (Meets L t q c (join (c .beside) (join T S)) (join T S) (at + length v + length s + 1 + length r + length w + 1)) L t b depth turns at (c .after) (c .beside) e i
-    (λ left u. comma-follow L t q b c _ (λ f to j. items-later L t (c .inside) depth room b left to (c .after + size f) (join (c .beside) f) j) S (w ++ closing b ∷ z) (omega arith) (item-within L t (c .inside) depth room b (c .beside) at (c .after) i) p o (first f (closing b ∷ z) .dark) (like-skip v l)
+    (λ left u. comma-follow L t q b c _ (λ f to j. items-later L t depth b left to (c .after + size f) (join (c .beside) f) j) S (w ++ closing b ∷ z) (omega arith) (item-within L t depth b (c .beside) at (c .after) i) p o (first f (closing b ∷ z) .dark) (like-skip v l)
     (follow L t q d (s ++ 44 ∷ (r ++ (w ++ closing b ∷ z))) (space-behind (44 ∷ (r ++ (w ++ closing b ∷ z))) p a-comma) depth c at room few i l)
     (λ y a j m. rw a (follow L t q f z depth left (behind c T) (at + length v + length s + 1 + length r) room m (omega arith) (omega arith) lw))))

@@ -33,7 +33,7 @@ module _ (L : Limits) (t : List ℕ) where
   Lows (items b) w d = (c s : Seat) (h : Head) (m x at : ℕ) → In c (treeOf d 0 0 at) s h → Wrong L t s h m x → at ≤ x
 
   -- by what stands behind it
-  from-whence : {before : Forest} {m x : ℕ} (at : ℕ) → Whence before 0 at m x → at ≤ x
+  pub from-whence : {before : Forest} {m x : ℕ} (at : ℕ) → Whence before 0 at m x → at ≤ x
   from-whence at (by-name (spelled j e z)) = absurd (omega arith)
   from-whence at (by-name (known u e z n)) = absurd (omega arith)
   from-whence at (within l) = l
