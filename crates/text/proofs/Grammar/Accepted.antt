@@ -69,7 +69,8 @@ module _ (L : Limits) (t : List ℕ) where
       let m = self L t (root L t) refl (a .derives) in
       go (root L t) (root-within L t) (m .end) (subst (λ (g : Forest). Near L t (length t + 1) top g (m .end) (root L t)) (sym (a .tree)) (m .is)) (m .ends)
     where
-      go : (R : Read) → placeOf R ≤ length t → (end : ℕ) → Near L t (length t + 1) top f end R → (end ≤ length t → (skip t end ≡ length t) ⊎ Past (length t + 1) (length t) (skip t end)) → Ended f R
+      go : (R : Read) → placeOf R ≤ length t → (end : ℕ) → Near L t (length t + 1) top f end R
+          → (end ≤ length t → (skip t end ≡ length t) ⊎ Past (length t + 1) (length t) (skip t end)) → Ended f R
       go R i end read o = record { end = end; is = refl; over = ⊎-elim (λ u. u) (λ u. absurd (omega (arith, u .word))) (o i) }
       go R i end (broken j w n) o = absurd (clean L t (L .depth) (zero-add (L .depth)) (accepts-kept a) j w)
 

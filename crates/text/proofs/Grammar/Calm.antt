@@ -122,7 +122,8 @@ module _ (L : Limits) (t : List ℕ) (q : ℕ) where
 
   -- what is inside it: items, behind white space
   inside-calm : (b : Bracket) (depth : ℕ) (c : Seat) {s w : List ℕ} (d : Is (items b) w) (r : List ℕ) (at : ℕ) → at + 1 ≤ length t → Ws s → Like t q (at + 1) (s ++ (w ++ closing b ∷ r))
-      → (at + 1 + length s ≤ length t → Calm (under c) (treeOf d 0 0 (at + 1 + length s)) (itemsFrom t (itemAt L t depth b) (closing b) (suc (length t)) (at + 1 + length s) (c .after + 1) none))
+      → (at + 1 + length s ≤ length t → Calm (under c) (treeOf d 0 0 (at + 1 + length s))
+      (itemsFrom t (itemAt L t depth b) (closing b) (suc (length t)) (at + 1 + length s) (c .after + 1) none))
       → Calm (under c) (treeOf d 0 0 (at + 1 + length s)) (insideOf t (itemAt L t depth b) (closing b) (at + 1) (c .after + 1))
   unfolding insideOf
   inside-calm b depth c {s} {w} d r at i p h k =
@@ -133,7 +134,8 @@ module _ (L : Limits) (t : List ℕ) (q : ℕ) where
             let y = skip t (at + 1) in
             if-equal (In-time m x) (byteAt t y) (closing b)
             (λ z. absurd (omega (arith, skip-stuck L t q (w ++ closing b ∷ r) i p (a .dark) h (λ f. a .apart-from b (sym f ∙ z)) .word)))
-            (λ z. ⊎-elim (λ (f : y ≡ at + 1 + length s). rw f (k (omega (arith, skip-inside t (at + 1) i)) .least e o m x j v lt)) (λ f. absurd (omega (arith, f .word))) (skip-follow t (w ++ closing b ∷ r) i p (a .dark) h));
+            (λ z. ⊎-elim (λ (f : y ≡ at + 1 + length s). rw f (k (omega (arith, skip-inside t (at + 1) i)) .least e o m x j v lt)) (λ f. absurd (omega (arith, f .word)))
+            (skip-follow t (w ++ closing b ∷ r) i p (a .dark) h));
       }
 
   -- ---- items ----
@@ -157,7 +159,8 @@ module _ (L : Limits) (t : List ℕ) (q : ℕ) where
         (λ n.
         let j : y + 1 ≤ length t = omega (arith, inside t y (omega arith)) in
         ⊎-elim
-        (λ (a : y ≡ to + length s). ⊎-elim (λ a₂. g (skip t (y + 1)) (omega arith) (skip-inside t (y + 1) j) k) (λ a₂. absurd (omega (arith, a₂ .word))) (skip-follow t w j o dark (like-tail l)))
+        (λ (a : y ≡ to + length s). ⊎-elim (λ a₂. g (skip t (y + 1)) (omega arith) (skip-inside t (y + 1) j) k) (λ a₂. absurd (omega (arith, a₂ .word)))
+        (skip-follow t w j o dark (like-tail l)))
         (λ a. absurd (omega (arith, a .word))) (skip-follow t (44 ∷ (r ++ w)) i p refl h))
         (λ n. absurd (omega (arith, stuck n .word))))
 
@@ -205,14 +208,16 @@ module _ (L : Limits) (t : List ℕ) (q : ℕ) where
           let l₂ : f ≡ a = cc in
           clash (named t (nameOf t (at + 1) (a - 1)) (c .beside)) (rw (l, l₂) at n) (new b)
 
-      new-time : (e : Seat) (f : Head) (m x : ℕ) → In c (treeOf d (at + 1) (at + length v - 1) begin) e f → Wrong L t e f m x → x < q → a ≤ length t → (a ≡ at + length v) ⊎ Past q (at + length v) a
+      new-time : (e : Seat) (f : Head) (m x : ℕ) → In c (treeOf d (at + 1) (at + length v - 1) begin) e f → Wrong L t e f m x → x < q → a ≤ length t
+          → (a ≡ at + length v) ⊎ Past q (at + length v) a
           → Good-names (c .beside) (at + 1) → (begin ≤ length t → Calm c (treeOf d (at + 1) (at + length v - 1) begin) (valueAt L t depth (at + 1) (at + length v - 1) begin (c .after)))
           → Whence L t (c .beside) (at + 1) begin m x → In-time m x (colonAt t (valueAt L t depth) at a (c .after))
       new-time e f m x j y lt n u names g (by-name b) = absurd (names m x b lt)
       new-time e f m x j y lt n u names g (within b) = colon-time m x b lt (λ l. g l .least e f m x j y lt) a n u
 
     -- by its name's token
-    member-time : (Good-names (c .beside) (at + 1) → begin ≤ length t → Calm c (treeOf d (at + 1) (at + length v - 1) begin) (valueAt L t depth (at + 1) (at + length v - 1) begin (c .after)))
+    member-time : (Good-names (c .beside) (at + 1) → begin ≤ length t → Calm c (treeOf d (at + 1) (at + length v - 1) begin)
+        (valueAt L t depth (at + 1) (at + length v - 1) begin (c .after)))
         → (e : Seat) (f : Head) (m x : ℕ) → In c (treeOf d (at + 1) (at + length v - 1) begin) e f → Wrong L t e f m x → x < q
         → (key : Token) → quotedAt t at ≡ key → Said t String at key → Goes q (at + length v) key → Whence L t (c .beside) (at + 1) begin m x
         → In-time m x (memberWith L t (valueAt L t depth) (c .beside) at (c .after) key)
@@ -236,15 +241,18 @@ comma-calm : (L : Limits) (t : List ℕ) (q : ℕ) (b : Bracket) (depth turns : 
     → c .inside + depth ≡ L .depth → length t < turns + at → at ≤ length t → Ws s → Ws r → isSpace (byteAt w 0) ≡ false → Like t q to (s ++ 44 ∷ (r ++ w))
     → ((e : Seat) (h : Head) (m x : ℕ) → In (behind c T) S e h → Wrong L t e h m x → to + length s + 1 + length r ≤ x)
     → Calm L t q c T (itemAt L t depth b (c .beside) at (c .after)) → Reads L t q c T to (itemAt L t depth b (c .beside) at (c .after))
-    → ((left y : ℕ) → length t < suc left + at → y ≡ to + length s + 1 + length r → y ≤ length t → c .after + size T ≤ L .values → Calm L t q (behind c T) S (itemsFrom t (itemAt L t depth b) (closing b) left y (c .after + size T) (join (c .beside) T)))
+    → ((left y : ℕ) → length t < suc left + at → y ≡ to + length s + 1 + length r → y ≤ length t → c .after + size T ≤ L .values → Calm L t q (behind c T) S
+    (itemsFrom t (itemAt L t depth b) (closing b) left y (c .after + size T) (join (c .beside) T)))
     → Calm L t q c (join T S) (itemsFrom t (itemAt L t depth b) (closing b) turns at (c .after) (c .beside))
 comma-calm L t q b depth turns c at s r w to T S room e i p o dark h lower calm₁ met calm₂ =
     record { least = λ a f m x j y lt. turn (In-time m x) L t b depth turns at (c .after) (c .beside) e i (λ left u. go a f m x y lt left u (in-join T S j)) }
   where
     go : (a : Seat) (f : Head) (m x : ℕ) → Wrong L t a f m x → x < q → (left : ℕ) → length t < suc left + at → Either-of c T S a f
-        → In-time m x (afterItem t (closing b) (c .beside) (λ f to. itemsFrom t (itemAt L t depth b) (closing b) left to (c .after + size f) (join (c .beside) f)) (itemAt L t depth b (c .beside) at (c .after)))
+        → In-time m x (afterItem t (closing b) (c .beside) (λ f to. itemsFrom t (itemAt L t depth b) (closing b) left to (c .after + size f) (join (c .beside) f))
+        (itemAt L t depth b (c .beside) at (c .after)))
     go a f m x y lt left u (first j) = time-after t (closing b) (c .beside) _ (calm₁ .least a f m x j y lt)
-    go a f m x y lt left u (later j) = comma-time L t q b c _ m x lt w (lower a f m x j y) (item-within L t depth b (c .beside) at (c .after) i) p o dark h met (λ z k n l. calm₂ left z u k n l .least a f m x j y lt)
+    go a f m x y lt left u (later j) =
+        comma-time L t q b c _ m x lt w (lower a f m x j y) (item-within L t depth b (c .beside) at (c .after) i) p o dark h met (λ z k n l. calm₂ left z u k n l .least a f m x j y lt)
 
 -- ---- by induction on the derivation ----
 
@@ -307,7 +315,8 @@ calm L t q (comma {v} {s} {r = r} {w} {b} d p o f) = λ z depth turns c at room 
     let lv = like-skip v l in
     let lw = like-skip r (like-tail (like-skip s lv)) in
     let behind-v = space-behind (44 ∷ (r ++ (w ++ closing b ∷ z))) p a-comma in
-    comma-calm L t q b depth turns c at s r (w ++ closing b ∷ z) (at + length v) (treeOf d 0 0 at) (treeOf f 0 0 (at + length v + length s + 1 + length r)) room e i p o (lead-first f (closing b ∷ z) .dark) lv
+    comma-calm L t q b depth turns c at s r (w ++ closing b ∷ z) (at + length v) (treeOf d 0 0 at) (treeOf f 0 0 (at + length v + length s + 1 + length r)) room e i p o
+    (lead-first f (closing b ∷ z) .dark) lv
     (λ a g m x. low L t f (behind c (treeOf d 0 0 at)) a g m x (at + length v + length s + 1 + length r))
     (calm L t q d (s ++ 44 ∷ (r ++ (w ++ closing b ∷ z))) behind-v depth c at room few i l)
     (follow L t q d (s ++ 44 ∷ (r ++ (w ++ closing b ∷ z))) behind-v depth c at room few i l)

@@ -151,13 +151,18 @@ module _ (t : List ℕ) where
         go true e g =
             let b = inside t at (h .small (byteAt t at) e) in
             let s = g (omega arith) in
-            rw (run-on is t (not-past h) at e) (record { word = byteAt t at ∷ s .word; is = Star.more (Byte.byte (h .sure (byteAt t at) e)) (s .is); stands = Stands.next refl b (s .stands) })
+            rw (run-on is t (not-past h) at e) (record {
+              word = byteAt t at ∷ s .word;
+              is = Star.more (Byte.byte (h .sure (byteAt t at) e)) (s .is);
+              stands = Stands.next refl b (s .stands);
+            })
         go false e g = rw (run-end is t (not-past h) at e) (record { word = []; is = Star.none; stands = Stands.done })
 
     pub run-stands : (at : ℕ) → Standing t (Star (Byte P)) at (runEnd is t at)
     run-stands at = run-told (suc (length t - at)) at (omega arith)
 
-    run-follow : {q at : ℕ} {w : List ℕ} (s : List ℕ) → Star (Byte P) w → is (byteAt s 0) ≡ false → Like t q at (w ++ s) → (runEnd is t at ≡ at + length w) ⊎ Past q (at + length w) (runEnd is t at)
+    run-follow : {q at : ℕ} {w : List ℕ} (s : List ℕ) → Star (Byte P) w → is (byteAt s 0) ≡ false → Like t q at (w ++ s)
+        → (runEnd is t at ≡ at + length w) ⊎ Past q (at + length w) (runEnd is t at)
     run-follow {q} {at} s Star.none o l =
         by-order at q (λ k. inl (run-end is t (not-past h) at (rw (like-here l k) o) ∙ sym (add-zero at)))
         (λ k. inr (record { word = omega arith; answer = omega (arith, stands-to (run-stands at .stands)) }))
@@ -211,7 +216,12 @@ module _ (t : List ℕ) where
 
       pub seq-exact : Exact t (Seq L M) F (seqOf f g)
       seq-exact =
-          record { some-word = l .some-word ++ m .some-word; has = seq (l .has) (m .has); told = λ at i. seq-told at i (f at) (l .told at i); follow = λ q at w s i c o h. seq-follow s i c o h }
+          record {
+            some-word = l .some-word ++ m .some-word;
+            has = seq (l .has) (m .has);
+            told = λ at i. seq-told at i (f at) (l .told at i);
+            follow = λ q at w s i c o h. seq-follow s i c o h;
+          }
 
   -- one or none, by the byte at hand
   module _ (is : ℕ → Bool) (L : List ℕ → Type 0) (E : ℕ → Type 0) (f : ℕ → Token) (l : Exact t L E f) (first : (w s : List ℕ) → L w → is (byteAt (w ++ s) 0) ≡ true) where
@@ -229,7 +239,11 @@ module _ (t : List ℕ) where
         record {
           some-word = [];
           has = Opt.none;
-          told = λ at i. if-true (Said t (Opt L) at) (is (byteAt t at)) (λ b. said-map t L (Opt L) at (λ w d. Opt.some d) (f at) (l .told at i)) (λ b. record { word = []; is = Opt.none; stands = Stands.done });
+          told = λ at i. if-true (Said t (Opt L) at) (is (byteAt t at)) (λ b. said-map t L (Opt L) at (λ w d. Opt.some d) (f at) (l .told at i)) (λ b. record {
+            word = [];
+            is = Opt.none;
+            stands = Stands.done;
+          });
           follow = λ q at w s i c o h. opt-follow s i c o h;
         }
 
@@ -239,10 +253,12 @@ module _ (t : List ℕ) where
     or-follow : {q at : ℕ} {w : List ℕ} (s : List ℕ) → at ≤ length t → Or L M w → E (byteAt s 0) × F (byteAt s 0) → Like t q at (w ++ s) → Goes q (at + length w) (orOf t is f g at)
     or-follow {q} {at} s i (this {w} c) o h =
         if-true (Goes q (at + length w)) (is (byteAt t at)) (λ b. l .follow q at w s i c (o .0) h)
-        (λ b. by-order at q (λ k. clash _ (rw (like-here h k) (first w s c)) b) (λ k. goes-past q (at + length w) (g at) (omega arith) (omega (arith, said-later t M at (g at) (m .told at i)))))
+        (λ b. by-order at q (λ k. clash _ (rw (like-here h k) (first w s c)) b) (λ k. goes-past q (at + length w) (g at) (omega arith)
+        (omega (arith, said-later t M at (g at) (m .told at i)))))
     or-follow {q} {at} s i (that {w} c) o h =
         if-true (Goes q (at + length w)) (is (byteAt t at))
-        (λ b. by-order at q (λ k. clash _ b (rw (like-here h k) (second w s c))) (λ k. goes-past q (at + length w) (f at) (omega arith) (omega (arith, said-later t L at (f at) (l .told at i)))))
+        (λ b. by-order at q (λ k. clash _ b (rw (like-here h k) (second w s c))) (λ k. goes-past q (at + length w) (f at) (omega arith)
+        (omega (arith, said-later t L at (f at) (l .told at i)))))
         (λ b. m .follow q at w s i c (o .1) h)
 
     pub or-exact : Exact t (Or L M) (λ z. E z × F z) (orOf t is f g)
@@ -250,6 +266,7 @@ module _ (t : List ℕ) where
         record {
           some-word = l .some-word;
           has = this (l .has);
-          told = λ at i. if-true (Said t (Or L M) at) (is (byteAt t at)) (λ b. said-map t L (Or L M) at (λ w d. this d) (f at) (l .told at i)) (λ b. said-map t M (Or L M) at (λ w d. that d) (g at) (m .told at i));
+          told = λ at i. if-true (Said t (Or L M) at) (is (byteAt t at)) (λ b. said-map t L (Or L M) at (λ w d. this d) (f at) (l .told at i))
+              (λ b. said-map t M (Or L M) at (λ w d. that d) (g at) (m .told at i));
           follow = λ q at w s i c o h. or-follow s i c o h;
         }

@@ -58,7 +58,8 @@ module _ (L : Limits) (t : List ℕ) where
   module _ (q : ℕ) where
     -- ---- a value that holds no others ----
 
-    scalar-follow : (w : List ℕ) (k : Simple) (s : List ℕ) (c : Seat) (ns ne at : ℕ) → c .after ≤ L .values → at ≤ length t → at < q → Written k w → Behind (byteAt s 0) → Like t q at (w ++ s)
+    scalar-follow : (w : List ℕ) (k : Simple) (s : List ℕ) (c : Seat) (ns ne at : ℕ) → c .after ≤ L .values → at ≤ length t → at < q → Written k w → Behind (byteAt s 0)
+        → Like t q at (w ++ s)
         → Reads L t q c (leaf (kindOf k) ns ne at (at + length w) none) (at + length w) (scalarAt L t (kindOf k) ns ne at (c .after))
     unfolding scalarAt scalarWith size
     scalar-follow w k s c ns ne at few i b l o h =
@@ -76,7 +77,8 @@ module _ (L : Limits) (t : List ℕ) where
     -- ---- a container, from what is inside it ----
 
     container-follow : (b : Bracket) (f : Forest) (to : ℕ) (c : Seat) (ns ne at : ℕ) → at < to → c .after ≤ L .values → at ≤ length t → (at < q → byteAt t at ≡ opening b)
-        → ((depth : ℕ) → c .inside + 1 + depth ≡ L .depth → at + 1 ≤ length t → c .after < L .values → Reads L t q (under c) f to (insideOf t (itemAt L t depth b) (closing b) (at + 1) (c .after + 1)))
+        → ((depth : ℕ) → c .inside + 1 + depth ≡ L .depth → at + 1 ≤ length t → c .after < L .values → Reads L t q (under c) f to
+        (insideOf t (itemAt L t depth b) (closing b) (at + 1) (c .after + 1)))
         → (depth : ℕ) → c .inside + depth ≡ L .depth → Reads L t q c (node b ns ne at to f none) to (valueAt L t depth ns ne at (c .after))
     unfolding container deep
     container-follow b f to c ns ne at far few i e g zero room =
@@ -98,7 +100,8 @@ module _ (L : Limits) (t : List ℕ) where
     skip-like {at} {s} l i c o h = ⊎-elim (λ e. rw e (like-skip s h)) (λ e. like-none l (e .answer)) (skip-follow t l i c o h)
 
     -- another byte behind it
-    pub skip-stuck : {at : ℕ} {s : List ℕ} (l : List ℕ) → at ≤ length t → Ws s → isSpace (byteAt l 0) ≡ false → Like t q at (s ++ l) → (byteAt t (skip t at) ≡ byteAt l 0 → ⊥) → Past q (at + length s) (skip t at)
+    pub skip-stuck : {at : ℕ} {s : List ℕ} (l : List ℕ) → at ≤ length t → Ws s → isSpace (byteAt l 0) ≡ false → Like t q at (s ++ l) → (byteAt t (skip t at) ≡ byteAt l 0 → ⊥)
+        → Past q (at + length s) (skip t at)
     skip-stuck {at} {s} l i c o h n =
         ⊎-elim
         (λ (e : skip t at ≡ at + length s). by-order (at + length s) q (λ k. absurd (n (rw e (like-here (like-skip s h) k)))) (λ k. record { word = k; answer = omega arith }))
@@ -114,11 +117,14 @@ module _ (L : Limits) (t : List ℕ) where
           let x = skip t (at + 1) in
           let P = Reads L t q (under c) none (at + length s + 2) in
           if-equal P (byteAt t x) (closing b)
-          (λ e. ⊎-elim (λ (u : x ≡ at + 1 + length s). let two : x + 1 ≡ at + length s + 2 = omega arith in rw two (same (omega arith))) (λ u. past (omega (arith, u .word)) (omega (arith, u .answer))) (skip-follow t (closing b ∷ r) i p (dark-closing b) h))
-          (λ e. let u = skip-stuck (closing b ∷ r) i p (dark-closing b) h e in past (omega (arith, u .word)) (omega (arith, u .answer, items-later L t depth b (suc (length t)) x (c .after + 1) none (skip-inside t (at + 1) i))))
+          (λ e. ⊎-elim (λ (u : x ≡ at + 1 + length s). let two : x + 1 ≡ at + length s + 2 = omega arith in rw two (same (omega arith)))
+          (λ u. past (omega (arith, u .word)) (omega (arith, u .answer))) (skip-follow t (closing b ∷ r) i p (dark-closing b) h))
+          (λ e. let u = skip-stuck (closing b ∷ r) i p (dark-closing b) h e in past (omega (arith, u .word))
+          (omega (arith, u .answer, items-later L t depth b (suc (length t)) x (c .after + 1) none (skip-inside t (at + 1) i))))
 
       inside-full : {s w : List ℕ} (d : Is (items b) w) (r : List ℕ) (at : ℕ) (f : Forest) → at + 1 ≤ length t → Ws s → Like t q (at + 1) (s ++ (w ++ closing b ∷ r))
-          → ((x : ℕ) → x ≡ at + 1 + length s → x ≤ length t → Meets L t q (under c) (join none f) f (at + 1 + length s + length w + 1) (itemsFrom t (itemAt L t depth b) (closing b) (suc (length t)) x (c .after + 1) none))
+          → ((x : ℕ) → x ≡ at + 1 + length s → x ≤ length t → Meets L t q (under c) (join none f) f (at + 1 + length s + length w + 1)
+          (itemsFrom t (itemAt L t depth b) (closing b) (suc (length t)) x (c .after + 1) none))
           → Reads L t q (under c) f (at + length s + length w + 2) (insideOf t (itemAt L t depth b) (closing b) (at + 1) (c .after + 1))
       unfolding insideOf join
       inside-full {s} {w} d r at f i p h m =
@@ -127,13 +133,15 @@ module _ (L : Limits) (t : List ℕ) where
           let o = first d (closing b ∷ r) in
           if-equal (Reads L t q (under c) f (at + length s + length w + 2)) (byteAt t x) (closing b)
           (λ e. let u = skip-stuck (w ++ closing b ∷ r) i p (o .dark) h (λ k. o .apart-from b (sym k ∙ e)) in past (omega (arith, u .word)) (omega (arith, u .answer)))
-          (λ e. ⊎-elim (λ u. rw two at (m x u (skip-inside t (at + 1) i))) (λ u. past (omega (arith, u .word)) (omega (arith, u .answer, items-later L t depth b (suc (length t)) x (c .after + 1) none (skip-inside t (at + 1) i)))) (skip-follow t (w ++ closing b ∷ r) i p (o .dark) h))
+          (λ e. ⊎-elim (λ u. rw two at (m x u (skip-inside t (at + 1) i))) (λ u. past (omega (arith, u .word))
+          (omega (arith, u .answer, items-later L t depth b (suc (length t)) x (c .after + 1) none (skip-inside t (at + 1) i)))) (skip-follow t (w ++ closing b ∷ r) i p (o .dark) h))
 
     -- ---- after an item ----
 
     module _ (b : Bracket) (c : Seat) (more : Forest → ℕ → Read) (later : (f : Forest) (to : ℕ) → to ≤ length t → to ≤ placeOf (more f to)) where
       -- past white space, a comma and white space
-      over : (f : Forest) (to : ℕ) → byteAt t (skip t to) ≡ 44 → (skip t to + 1 ≤ skip t (skip t to + 1)) × (skip t (skip t to + 1) ≤ length t) × (skip t (skip t to + 1) ≤ placeOf (more f (skip t (skip t to + 1))))
+      over : (f : Forest) (to : ℕ) → byteAt t (skip t to) ≡ 44
+          → (skip t to + 1 ≤ skip t (skip t to + 1)) × (skip t (skip t to + 1) ≤ length t) × (skip t (skip t to + 1) ≤ placeOf (more f (skip t (skip t to + 1))))
       over f to k =
           let j : skip t to + 1 ≤ length t = omega (arith, inside t (skip t to) (omega arith)) in
           let l = skip-inside t (skip t to + 1) j in
@@ -167,11 +175,13 @@ module _ (L : Limits) (t : List ℕ) where
           after-follow none (omega arith) i m
           (λ j k. if-equal P (byteAt t x) (closing b)
           (λ e. ⊎-elim (λ u. rw u (same (rw (join-none T) k))) (λ u. past (omega (arith, u .word)) (omega (arith, u .answer))) (skip-follow t (closing b ∷ r) j p (dark-closing b) h))
-          (λ e. let u = skip-stuck (closing b ∷ r) j p (dark-closing b) h e in if-equal P (byteAt t x) 44 (λ k. past (omega (arith, u .word)) (omega (arith, u .answer, over T to k))) (λ k. past (omega (arith, u .word)) (u .answer)))) in
+          (λ e. let u = skip-stuck (closing b ∷ r) j p (dark-closing b) h e in if-equal P (byteAt t x) 44
+          (λ k. past (omega (arith, u .word)) (omega (arith, u .answer, over T to k))) (λ k. past (omega (arith, u .word)) (u .answer)))) in
           subst (λ (S : Forest). Meets L t q c (join (c .beside) T) S (to + length s + 1) (afterItem t (closing b) (c .beside) more R)) (join-none T) all
 
       -- an item and a comma
-      comma-follow : {T : Forest} (S : Forest) {to z : ℕ} {s r : List ℕ} (w : List ℕ) {R : Read} → to + length s + 1 + length r ≤ z → placeOf R ≤ length t → Ws s → Ws r → isSpace (byteAt w 0) ≡ false
+      comma-follow : {T : Forest} (S : Forest) {to z : ℕ} {s r : List ℕ} (w : List ℕ) {R : Read} → to + length s + 1 + length r ≤ z → placeOf R ≤ length t → Ws s → Ws r
+          → isSpace (byteAt w 0) ≡ false
           → Like t q to (s ++ 44 ∷ (r ++ w)) → Reads L t q c T to R
           → ((y : ℕ) → y ≡ to + length s + 1 + length r → y ≤ length t → c .after + size T ≤ L .values → Meets L t q (behind c T) (join (join (c .beside) T) S) S z (more T y))
           → Meets L t q c (join (c .beside) (join T S)) (join T S) z (afterItem t (closing b) (c .beside) more R)
@@ -190,7 +200,8 @@ module _ (L : Limits) (t : List ℕ) where
           (λ n.
           let v = over T to n in
           ⊎-elim
-          (λ (a : x ≡ to + length s). ⊎-elim (λ a₂. meets-join L t q (c .beside) T S k (g y (omega arith) (v .1) k)) (λ a₂. past (omega (arith, a₂ .word)) (omega (arith, a₂ .answer))) (skip-follow t w (omega arith) o dark (like-tail l)))
+          (λ (a : x ≡ to + length s). ⊎-elim (λ a₂. meets-join L t q (c .beside) T S k (g y (omega arith) (v .1) k))
+          (λ a₂. past (omega (arith, a₂ .word)) (omega (arith, a₂ .answer))) (skip-follow t w (omega arith) o dark (like-tail l)))
           (λ a. past (omega (arith, a .word)) (omega (arith, a .answer))) (skip-follow t (44 ∷ (r ++ w)) j p refl h))
           (λ n. let u = stuck n in past (omega (arith, u .word)) (u .answer))))
 
@@ -246,7 +257,9 @@ module _ (L : Limits) (t : List ℕ) where
           → Reads L t q c tree-of end-of (memberWith L t (valueAt L t depth) (c .beside) at (c .after) key)
       unfolding memberWith
       member-follow g (No2 x) e k u = past (omega (arith, u .word)) (u .answer)
-      member-follow g (No3 x) e k u = let f = firstly c d (at + 1) (at + length m - 1) (at + length m + length s + 1 + length r) in wrong (f .there) (name at (f .name) e) third (⊎-elim (λ a. inl (omega arith)) (λ a. inr (omega arith)) u)
+      member-follow g (No3 x) e k u =
+          let f = firstly c d (at + 1) (at + length m - 1) (at + length m + length s + 1 + length r) in wrong (f .there) (name at (f .name) e) third
+          (⊎-elim (λ a. inl (omega arith)) (λ a. inr (omega arith)) u)
       member-follow g (End end) e k u =
           let P = Reads L t q c tree-of end-of in
           let colon = colon-follow g end (stands-inside (k .stands) i) u in
@@ -272,7 +285,8 @@ Follows L t q (items b) w d =
 
 -- a turn
 pub turn : (P : Read → Type 0) (L : Limits) (t : List ℕ) (b : Bracket) (depth turns at n : ℕ) (before : Forest) → length t < turns + at → at ≤ length t
-    → ((left : ℕ) → length t < suc left + at → P (afterItem t (closing b) before (λ f to. itemsFrom t (itemAt L t depth b) (closing b) left to (n + size f) (join before f)) (itemAt L t depth b before at n)))
+    → ((left : ℕ) → length t < suc left + at → P (afterItem t (closing b) before (λ f to. itemsFrom t (itemAt L t depth b) (closing b) left to (n + size f) (join before f))
+    (itemAt L t depth b before at n)))
     → P (itemsFrom t (itemAt L t depth b) (closing b) turns at n before)
 unfolding itemsFrom
 turn P L t b depth zero at n before e i g = absurd (omega arith)
@@ -309,7 +323,8 @@ follow L t q (one {v} {s} {b} d p) = λ r depth turns c at room few e i h.
     let T = treeOf d 0 0 at in
     rw x
     (turn (Meets L t q c (join (c .beside) T) T (at + length v + length s + 1)) L t b depth turns at (c .after) (c .beside) e i
-    (λ left u. last-follow L t q b c _ (λ f to j. items-later L t depth b left to (c .after + size f) (join (c .beside) f) j) r (item-within L t depth b (c .beside) at (c .after) i) p (like-skip v l)
+    (λ left u. last-follow L t q b c _ (λ f to j. items-later L t depth b left to (c .after + size f) (join (c .beside) f) j) r
+    (item-within L t depth b (c .beside) at (c .after) i) p (like-skip v l)
     (follow L t q d (s ++ closing b ∷ r) (space-behind (closing b ∷ r) p (close b)) depth c at room few i l)))
 follow L t q (comma {v} {s} {r = r} {w} {b} d p o f) = λ z depth turns c at room few e i h.
     let l = rw (glue-end 44 v s r w (closing b ∷ z)) at h in
@@ -319,6 +334,7 @@ follow L t q (comma {v} {s} {r = r} {w} {b} d p o f) = λ z depth turns c at roo
     let lw = like-skip r (like-tail (like-skip s (like-skip v l))) in
     rw x
     (turn (Meets L t q c (join (c .beside) (join T S)) (join T S) (at + length v + length s + 1 + length r + length w + 1)) L t b depth turns at (c .after) (c .beside) e i
-    (λ left u. comma-follow L t q b c _ (λ f to j. items-later L t depth b left to (c .after + size f) (join (c .beside) f) j) S (w ++ closing b ∷ z) (omega arith) (item-within L t depth b (c .beside) at (c .after) i) p o (first f (closing b ∷ z) .dark) (like-skip v l)
+    (λ left u. comma-follow L t q b c _ (λ f to j. items-later L t depth b left to (c .after + size f) (join (c .beside) f) j) S (w ++ closing b ∷ z) (omega arith)
+    (item-within L t depth b (c .beside) at (c .after) i) p o (first f (closing b ∷ z) .dark) (like-skip v l)
     (follow L t q d (s ++ 44 ∷ (r ++ (w ++ closing b ∷ z))) (space-behind (44 ∷ (r ++ (w ++ closing b ∷ z))) p a-comma) depth c at room few i l)
     (λ y a j m. rw a (follow L t q f z depth left (behind c T) (at + length v + length s + 1 + length r) room m (omega arith) (omega arith) lw))))

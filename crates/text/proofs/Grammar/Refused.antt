@@ -62,7 +62,8 @@ module _ (L : Limits) (t : List ℕ) where
   shorter : {p q : ℕ} → p ≤ q → Begins t q → Begins t p
   shorter {p} {q} l b =
       let e : take q t ++ b .rest ≡ take p t ++ (drop p (take q t) ++ b .rest) =
-      ap (λ (w : List ℕ). w ++ b .rest) (sym (take-append-drop p (take q t))) ∙ append-assoc (take p (take q t)) (drop p (take q t)) (b .rest) ∙ ap (λ (w : List ℕ). w ++ (drop p (take q t) ++ b .rest)) (take-take p q t l) in
+      ap (λ (w : List ℕ). w ++ b .rest) (sym (take-append-drop p (take q t))) ∙ append-assoc (take p (take q t)) (drop p (take q t)) (b .rest) ∙ ap
+      (λ (w : List ℕ). w ++ (drop p (take q t) ++ b .rest)) (take-take p q t l) in
       record { rest = drop p (take q t) ++ b .rest; is = rw e at (b .is) }
 
   -- the numbers of faults are 2 to 6
@@ -152,7 +153,8 @@ module _ (L : Limits) (t : List ℕ) where
     longer l b =
         let m = other L t (good f to) e (skip t to) (skip-later t to) l (b .rest) (b .is) in
         let x : to ≡ m .end = near-good (m .is) .1 in
-        ⊎-elim (λ a. omega (arith, ap (skip t) x, length-append (take (skip t to + 1) t) (b .rest), length-take-le (skip t to + 1) t (omega arith))) (λ a. omega (arith, ap (skip t) x, a .answer)) (m .ends (omega (arith, value-inside L t p)))
+        ⊎-elim (λ a. omega (arith, ap (skip t) x, length-append (take (skip t to + 1) t) (b .rest), length-take-le (skip t to + 1) t (omega arith)))
+        (λ a. omega (arith, ap (skip t) x, a .answer)) (m .ends (omega (arith, value-inside L t p)))
 
     over : skip t to ≡ length t → ⊥
     over h = z (rw h (List·getD-eq-default t 256 (le-refl (length t))))
@@ -191,7 +193,11 @@ means L t small short =
 
 no-fault : (L : Limits) (t : List ℕ) (f : Forest) (to : ℕ) {m x : ℕ} → readOf L t ≡ good f to → Accepts L t f → Fault L t m x → ⊥
 no-fault L t f to {m} {x} e a (grammar g) =
-    by-order x (length t) (λ l. g .no-further l (record { rest = drop (x + 1) t; is = rw (sym (take-append-drop (x + 1) t)) at (a .derives) })) (λ l. g .no-end (omega (arith, g .within)) (a .derives))
+    by-order x (length t) (λ l. g .no-further l (record {
+      rest =
+          drop (x + 1) t;
+      is = rw (sym (take-append-drop (x + 1) t)) at (a .derives);
+    })) (λ l. g .no-end (omega (arith, g .within)) (a .derives))
 no-fault L t f to {m} {x} e a (violated v) = time-good (violated-time L t v) (read-accepted L t f to e .value)
 
 -- ---- theorem: refused rightly ----

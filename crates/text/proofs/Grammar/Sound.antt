@@ -199,7 +199,8 @@ module _ (L : Limits) (t : List ℕ) where
           record {
             word = glued 44 (p .word) (s .word) (r .word) (h .word);
             is = comma (p .is) (s .is) (r .is) (h .is);
-            stands = rw (glue-end 44 (p .word) (s .word) (r .word) (h .word) (closing b ∷ [])) (rw (glue 44 (p .word) (s .word) (r .word) (h .word ++ closing b ∷ [])) at (stands-join g (h .stands)));
+            stands = rw (glue-end 44 (p .word) (s .word) (r .word) (h .word) (closing b ∷ []))
+                (rw (glue 44 (p .word) (s .word) (r .word) (h .word ++ closing b ∷ [])) at (stands-join g (h .stands)));
             trees = h .trees ∙ join-assoc (c .beside) f _ ∙ ap (join (c .beside)) (both (h .is));
             kept = subst (Kept L t depth c) (both (h .is)) (kept-join L t f _ (p .kept) (h .kept));
           }
@@ -215,7 +216,13 @@ module _ (L : Limits) (t : List ℕ) where
         let l = stands-join (p .stands) (s .stands) in
         let P = Told (Listed b depth c at) (Viable (items b) at) in
         if-equal P (byteAt t (skip t to)) (closing b)
-        (λ e. record { word = p .word ++ s .word; is = one (p .is) (s .is); stands = stands-join l (one-stands e (byte-closing b)); trees = ap (join (c .beside)) (p .trees); kept = subst (Kept L t depth c) (p .trees) (p .kept) })
+        (λ e. record {
+          word = p .word ++ s .word;
+          is = one (p .is) (s .is);
+          stands = stands-join l (one-stands e (byte-closing b));
+          trees = ap (join (c .beside)) (p .trees);
+          kept = subst (Kept L t depth c) (p .trees) (p .kept);
+        })
         (λ e. if-equal P (byteAt t (skip t to)) 44
         (λ k. extend i p k (more f (skip t (skip t to + 1))) (m f (skip t (skip t to + 1)) (stands-inside (g i p k) i)))
         (λ k. record { word = p .word ++ s .word; is = one (p .is) (s .is); like = like-stands l; later = omega (arith, stands-to l); within = stands-inside l i }))
@@ -255,7 +262,13 @@ module _ (L : Limits) (t : List ℕ) where
         unfolding join
         rest-told (bad r) h = stopped-map _ _ (λ q e. opened) r h
         rest-told (good f to) h =
-            record { word = s .word ++ (h .word ++ closing b ∷ []); is = full b (s .is) (h .is); stands = stands-join (s .stands) (h .stands); trees = λ ns ne. tree-full h; kept = subst (Kept L t depth (under c)) (sym (h .trees)) (h .kept) }
+            record {
+              word = s .word ++ (h .word ++ closing b ∷ []);
+              is = full b (s .is) (h .is);
+              stands = stands-join (s .stands) (h .stands);
+              trees = λ ns ne. tree-full h;
+              kept = subst (Kept L t depth (under c)) (sym (h .trees)) (h .kept);
+            }
 
       pub inside-told : (c : Seat) (at : ℕ) → c .after < L .values → at + 1 ≤ length t
           → Told (Closed-by b depth c at) (Opened b at) (insideOf t read (closing b) (at + 1) (c .after + 1))
@@ -265,7 +278,13 @@ module _ (L : Limits) (t : List ℕ) where
           let j = stands-inside (s .stands) i in
           let two : skip t (at + 1) + 1 ≡ at + length (s .word) + 2 = omega (arith, stands-to (s .stands)) in
           if-equal (Told (Closed-by b depth c at) (Opened b at)) (byteAt t (skip t (at + 1))) (closing b)
-          (λ e. record { word = s .word ++ closing b ∷ []; is = empty b (s .is); stands = stands-join (s .stands) (one-stands e (byte-closing b)); trees = λ ns ne. rw two; kept = kept-none L t (omega arith) })
+          (λ e. record {
+            word = s .word ++ closing b ∷ [];
+            is = empty b (s .is);
+            stands = stands-join (s .stands) (one-stands e (byte-closing b));
+            trees = λ ns ne. rw two;
+            kept = kept-none L t (omega arith);
+          })
           (λ e. rest-told c at s (itemsFrom t read (closing b) (suc (length t)) (skip t (at + 1)) (c .after + 1) none) (items-told (suc (length t)) (under c) (skip t (at + 1)) j))
 
       pub container-told : (c : Seat) (ns ne at : ℕ) → Good-name L t (c .beside) ns ne → byteAt t at ≡ opening b → at ≤ length t
@@ -280,4 +299,10 @@ module _ (L : Limits) (t : List ℕ) where
           go m (bad r) h =
               stopped-map _ _ (λ q x v. record { word = opening b ∷ v .word; is = v .is; like = Like.next (λ l. e) (v .like); later = omega (arith, v .later); within = v .within }) r h
           go m (good f to) h =
-              record { word = opening b ∷ h .word; is = h .is; stands = stands-join (one-stands e (byte-opening b)) (h .stands); trees = h .trees ns ne; kept = kept-node L t b named m (h .kept) }
+              record {
+                word = opening b ∷ h .word;
+                is = h .is;
+                stands = stands-join (one-stands e (byte-opening b)) (h .stands);
+                trees = h .trees ns ne;
+                kept = kept-node L t b named m (h .kept);
+              }

@@ -105,7 +105,8 @@ module _ (L : Limits) (t : List ℕ) where
       P = Told (Parsed L t value depth c ns ne at) (Viable L t value at)
 
       go : (kind : ℕ) → Lead (byteAt t at) kind
-          → P (cond (eqb kind 0) (bad (Grammar at)) (cond (eqb kind 6) (arrays ns ne at (c .after)) (cond (eqb kind 7) (objects ns ne at (c .after)) (scalarAt L t kind ns ne at (c .after)))))
+          → P (cond (eqb kind 0) (bad (Grammar at)) (cond (eqb kind 6) (arrays ns ne at (c .after))
+          (cond (eqb kind 7) (objects ns ne at (c .after)) (scalarAt L t kind ns ne at (c .after)))))
       go kind no-value = some-value L t at i
       go kind (a-bracket square e) = a e
       go kind (a-bracket curly e) = o e
@@ -190,7 +191,13 @@ module _ (L : Limits) (t : List ℕ) where
       let n = string-long (m .is) in
       if-true P (L .unique)
       (λ u. if-true P (named t (nameOf t (at + 1) (end - 1)) (c .beside))
-      (λ d. name-begun (record { word = m .word; is = m .is; like = like-less (omega arith) (like-stands (m .stands)); later = le-refl at; within = omega (arith, stands-inside (m .stands) i) }))
+      (λ d. name-begun (record {
+        word = m .word;
+        is = m .is;
+        like = like-less (omega arith) (like-stands (m .stands));
+        later = le-refl at;
+        within = omega (arith, stands-inside (m .stands) i);
+      }))
       (λ d. colon-told depth c at end i m read e (λ v. d) told))
       (λ u. colon-told depth c at end i m read e (λ v. clash (L .unique) v u) told)
 

@@ -55,7 +55,8 @@ module _ (t : List ℕ) where
   pub skip-told : (at : ℕ) → Standing t Ws at (skip t at)
   skip-told at = run-stands t blank-tells at
 
-  pub skip-follow : {q at : ℕ} {w : List ℕ} (s : List ℕ) → at ≤ length t → Ws w → isSpace (byteAt s 0) ≡ false → Like t q at (w ++ s) → (skip t at ≡ at + length w) ⊎ Past q (at + length w) (skip t at)
+  pub skip-follow : {q at : ℕ} {w : List ℕ} (s : List ℕ) → at ≤ length t → Ws w → isSpace (byteAt s 0) ≡ false → Like t q at (w ++ s)
+      → (skip t at ≡ at + length w) ⊎ Past q (at + length w) (skip t at)
   skip-follow {q} {at} {w} s i c o h = run-exact t blank-tells .follow q at w s i c o h
 
   pub skip-later : (at : ℕ) → at ≤ skip t at
@@ -219,7 +220,17 @@ first-number w s (seq (seq (seq Opt.none (this (Byte.byte e))) f) g) = rw e
 first-number w s (seq (seq (seq Opt.none (that (seq (Byte.byte {x} b) c))) f) g) =
     let lo = b .from in
     let hi = b .up-to in
-    rw (ne-eqb x 110 (omega arith), ne-eqb x 102 (omega arith), ne-eqb x 116 (omega arith), ne-eqb x 45 (omega arith), ne-eqb x 34 (omega arith), ne-eqb x 91 (omega arith), ne-eqb x 123 (omega arith), digit-tells .back x (omega arith))
+    rw (
+      ne-eqb x 110 (omega arith),
+      ne-eqb x 102 (omega arith),
+      ne-eqb x 116 (omega arith),
+      ne-eqb x 45 (omega arith),
+      ne-eqb x 34 (omega arith),
+      ne-eqb x 91
+          (omega arith),
+      ne-eqb x 123 (omega arith),
+      digit-tells .back x (omega arith),
+    )
 
 pub simple-first : (k : Simple) (w s : List ℕ) → Written k w → kindBy (byteAt (w ++ s) 0) ≡ kindOf k
 unfolding kindBy

@@ -53,7 +53,8 @@ module _ (L : Limits) (t : List ℕ) where
   end-bad {A} {p} {x} k e f = let z : End p ≡ No3 x = sym e ∙ f in let o : _≡_ {A = ℕ} 0 1 = cc in absurd (omega arith)
 
   -- a name that is read is not there already
-  name-new : {A : Type 0} {before : Forest} {ns ne e : ℕ} (x : ℕ) → Good-name before ns ne → L .unique ≡ true → ns ≡ x + 1 → quotedAt t x ≡ End e → named t (nameOf t (x + 1) (e - 1)) before ≡ true → A
+  name-new : {A : Type 0} {before : Forest} {ns ne e : ℕ} (x : ℕ) → Good-name before ns ne → L .unique ≡ true → ns ≡ x + 1 → quotedAt t x ≡ End e
+      → named t (nameOf t (x + 1) (e - 1)) before ≡ true → A
   name-new {A} {before} {ns} {ne} {e} x g u k c m =
       let f : e ≡ ne + 1 = end-end x c (g .closed x k) in
       let h : e - 1 ≡ ne = omega arith in
