@@ -66,6 +66,10 @@ pub data Fault (L : Limits) (t : List ℕ) : (number place : ℕ) → Type 0 whe
   grammar : {p : ℕ} → NotGrammar t p → Fault L t 2 p
   violated : {n p : ℕ} → Violated L t n p → Fault L t n p
 
+-- even in each such text a value breaks the rule at p
+abbrev pub InEach : Limits → List ℕ → (number place : ℕ) → Type 0
+InEach L t n p = (rest : List ℕ) (d : JsonText (take (p + 1) t ++ rest)) → Broken L t (rootOf d) n p
+
 -- the fault of the smallest place, then of the smaller number
 pub record First (L : Limits) (t : List ℕ) (n p : ℕ) : Type 0 where
   pub fault : Fault L t n p

@@ -21,10 +21,10 @@ use Rattle.text.specs.declared.Paper.{Paper}
 use Rattle.text.specs.Sheet.{numbers, refused}
 use Rattle.text.specs.Reader.{Read, good, bad}
 use Rattle.text.specs.Whole.{endOf, readOf}
-use Rattle.text.specs.Grammar.{JsonText, rootOf, value}
+use Rattle.text.specs.Grammar.{value}
 use Rattle.text.specs.Seats.{Seat, top}
 use Rattle.text.specs.Meaning.{Accepts}
-use Rattle.text.specs.Fault.{Begins, Broken, Violated, Fault, grammar, violated, First, Refuses}
+use Rattle.text.specs.Fault.{Begins, Broken, Violated, Fault, grammar, violated, InEach, First, Refuses}
 use Rattle.text.specs.declared.Refusal.{Refusal}
 use Rattle.text.specs.declared.Refusal.the-variants.{TooLong, Grammar, Character, Repeated, Deep, Many, Small}
 use Rattle.text.proofs.Induction.{read-accepted}
@@ -93,10 +93,6 @@ module _ (L : Limits) (t : List ℕ) where
 
   -- ---- each refusal is the first fault ----
 
-  -- in each text of the grammar that begins with the first p bytes and the byte at p, a value breaks the rule at p
-  abbrev pub In-each : (n p : ℕ) → Type 0
-  In-each n p = (rest : List ℕ) (d : JsonText (take (p + 1) t ++ rest)) → Broken L t (rootOf d) n p
-
   module _ (r : Refusal) (e : bad r ≡ root L t) where
     no-rule-before : (m x : ℕ) → Violated L t m x → rank (numberOf r) (placeOf (bad r)) ≤ rank m x
     no-rule-before m x v = time-bad (violated-time v) (sym e)
@@ -116,7 +112,7 @@ module _ (L : Limits) (t : List ℕ) where
         no-two h = let f : numberOf r ≡ 2 = ap numberOf k in omega arith
 
     -- 3 to 6: in each text that goes on with the byte there, the rule is broken
-    rule-each : (n p : ℕ) → numberOf r ≡ n → placeOf (bad r) ≡ p → p < length t → In-each n p
+    rule-each : (n p : ℕ) → numberOf r ≡ n → placeOf (bad r) ≡ p → p < length t → InEach L t n p
     rule-each n p k o l u d = rw (k, o) at (near-bad (other L t (bad r) e p (omega arith) l u d .is) .1)
 
     rule-first : (n p : ℕ) → numberOf r ≡ n → placeOf (bad r) ≡ p → Viable L t value (skip t 0) p (p + 1) → First L t n p
@@ -132,7 +128,7 @@ module _ (L : Limits) (t : List ℕ) where
     p : ℕ
     is : refused r ≡ numbers n p 0
     first : First L t n p
-    each : 3 ≤ n → In-each n p
+    each : 3 ≤ n → InEach L t n p
 
   rule-sheet : (r : Refusal) → bad r ≡ root L t → (n p : ℕ) → refused r ≡ numbers n p 0 → numberOf r ≡ n → placeOf (bad r) ≡ p → Viable L t value (skip t 0) p (p + 1) → On-sheet r
   rule-sheet r e n p s k o v = record { n = n; p = p; is = s; first = rule-first r e n p k o v; each = λ h. rule-each r e n p k o (omega (arith, v .within)) }
@@ -229,7 +225,7 @@ module _ (L : Limits) (t : List ℕ) (small : AllBelow 256 t) (short : length t 
           let o = one-first L t f (m .first) in
           record { refusal = r; answer = e; sheet = m .is ∙ rw (← o .0, ← o .1) }
 
-  refused-each : Refuses L t n p → 3 ≤ n → In-each L t n p
+  refused-each : Refuses L t n p → 3 ≤ n → InEach L t n p
   refused-each r h =
       let s : On-sheet L t (r .refusal) = rw (r .answer) at (means L t small short) in
       let e : numbers (s .n) (s .p) 0 ≡ numbers n p 0 = sym (s .is) ∙ r .sheet in
@@ -241,7 +237,7 @@ pub refuses : (L : Limits) (t : List ℕ) → AllBelow 256 t → length t ≤ L 
 refuses L t small short n p = (refused-first L t small short n p, first-refused L t small short n p)
 
 -- where one of 3 to 6 is refused, each text of the grammar that goes on as the text does up to that place breaks the rule there
-pub in-each : (L : Limits) (t : List ℕ) → AllBelow 256 t → length t ≤ L .bytes → (n p : ℕ) → Refuses L t n p → 3 ≤ n → In-each L t n p
+pub in-each : (L : Limits) (t : List ℕ) → AllBelow 256 t → length t ≤ L .bytes → (n p : ℕ) → Refuses L t n p → 3 ≤ n → InEach L t n p
 in-each L t small short n p = refused-each L t small short n p
 
 -- ---- theorem: 1 comes first ----
