@@ -18,8 +18,8 @@ use Rattle.text.specs.Grammar.{JsonText, rootOf, value}
 use Rattle.text.specs.Seats.{top}
 use Rattle.text.specs.Meaning.{Accepts}
 use Rattle.text.proofs.Induction.{read-accepted}
+use Rattle.text.proofs.Grammar.Exact.{Past}
 use Rattle.text.proofs.Grammar.Sound.{Parsed, placeOf}
-use Rattle.text.proofs.Grammar.Words.{skip-inside}
 use Rattle.text.proofs.Grammar.Wrong.{Kept, clean}
 use Rattle.text.proofs.Grammar.Meets.{Near, read, broken}
 use Rattle.text.proofs.Grammar.Rules.{sane, sane-string, sane-name, sane-new}
@@ -69,8 +69,9 @@ module _ (L : Limits) (t : List ℕ) where
       let m = self L t (root L t) refl (a .derives) in
       go (root L t) (root-within L t) (m .end) (subst (λ (g : Forest). Near L t (length t + 1) top g (m .end) (root L t)) (sym (a .tree)) (m .is)) (m .ends)
     where
-      go : (R : Read) → placeOf R ≤ length t → (end : ℕ) → Near L t (length t + 1) top f end R → (end ≤ length t → (skip t end ≡ length t) ⊎ (length t + 1 ≤ skip t end)) → Ended f R
-      go R i end read o = record { end = end; is = refl; over = ⊎-elim (λ u. u) (λ u. absurd (omega (arith, skip-inside t end i))) (o i) }
+      go : (R : Read) → placeOf R ≤ length t → (end : ℕ) → Near L t (length t + 1) top f end R
+          → (end ≤ length t → (skip t end ≡ length t) ⊎ Past (length t + 1) (length t) (skip t end)) → Ended f R
+      go R i end read o = record { end = end; is = refl; over = ⊎-elim (λ u. u) (λ u. absurd (omega (arith, u .word))) (o i) }
       go R i end (broken j w n) o = absurd (clean L t (L .depth) (zero-add (L .depth)) (accepts-kept a) j w)
 
   accepts-read : (f : Forest) → Accepts L t f → readOf L t ≡ good f (length t)
