@@ -21,7 +21,8 @@ use Rattle.text.proofs.Promise.{promised, whole-good, count-root}
 use Rattle.text.specs.Limits.{Limits}
 use Rattle.text.specs.Tree.{Forest, size, startsOf}
 use Rattle.text.specs.Reader.{Read, good, bad}
-use Rattle.text.specs.Sheet.{Paper, numbers, refused}
+use Rattle.text.specs.declared.Paper.{Paper}
+use Rattle.text.specs.Sheet.{numbers, refused}
 use Rattle.text.specs.Whole.{wholeOf}
 use Rattle.text.specs.Doc.{Doc, docOf}
 use Rattle.text.specs.declared.Refusal.{Refusal}

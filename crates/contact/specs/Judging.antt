@@ -10,7 +10,8 @@ use Rattle.laws.specs.Lists.{filled}
 use Rattle.text.specs.Limits.{Limits}
 use Rattle.text.specs.Tree.{Forest, size, rowsOf, startsOf}
 use Rattle.text.specs.Reader.{good, bad}
-use Rattle.text.specs.Sheet.{Paper, numbers, refused}
+use Rattle.text.specs.declared.Paper.{Paper}
+use Rattle.text.specs.Sheet.{numbers, refused}
 use Rattle.text.specs.Whole.{wholeOf}
 use Rattle.text.specs.Doc.{Name, Doc, Members, docOf}
 use Rattle.text.specs.declared.Refusal.{Refusal}

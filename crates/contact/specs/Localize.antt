@@ -13,7 +13,8 @@ use Rattle.text.specs.Tree.{Forest, size, rowsOf}
 use Rattle.text.specs.Doc.{Name, Doc, scalar, array, object, Members, Property, docOf}
 use Rattle.text.specs.Writing.{written}
 use Rattle.contact.specs.Verdict.{Judged, passed, failed, judgedOf, refusedCard}
-use Rattle.text.specs.Sheet.{Paper, numbers}
+use Rattle.text.specs.declared.Paper.{Paper}
+use Rattle.text.specs.Sheet.{numbers}
 use Rattle.contact.specs.Pointer.{Pointer, last, down, find}
 use Rattle.contact.specs.Patch.{Entry, entriesOf, anyBadKey, anyOwn, anyClash, anyWalk, isInArray, isNoObject, without, inObject, applied}
 use Rattle.contact.specs.declared.LocalRefusal.{LocalRefusal}

@@ -14,7 +14,8 @@ use Rattle.text.specs.Strings.{stringEnd, conts, utf8, pieceBy, decodeFrom}
 use Rattle.text.specs.Tokens.{runEnd, wordAt, digitsAt, minusEnd, intAt, fracAt, signEnd, expAt, numberAt, kindBy, tokenAt}
 use Rattle.text.specs.Tree.{size, rowsOf, startsOf, join}
 use Rattle.text.specs.Reader.{scalarWith, scalarAt, closeOf, container, deep, valueWith, afterItem, itemsFrom, insideOf, named, colonAt, memberWith, memberOf, valueAt, elementsAt, membersAt, arrayAt, objectAt}
-use Rattle.text.specs.Sheet.{Paper, numbers, refused}
+use Rattle.text.specs.declared.Paper.{Paper}
+use Rattle.text.specs.Sheet.{numbers, refused}
 use Rattle.text.specs.Whole.{endOf, readOf, fitOf, wholeOf, sheetOf, tableOf}
 use Rattle.text.specs.Doc.{membersOf, docOf, countOf, countAll}
 use Rattle.contact.specs.Schema.{properties, typeIn}

@@ -5,11 +5,13 @@
 //   strings  where a string ends
 //   decode   a string's decoded bytes, one at a time
 //   names    names compared decoded
+//   sheet    an answer in the refusal sheet's numbers
 //   tokens   white space, literals and numbers
 pub mod bytes;
 mod chars;
 pub mod decode;
 mod limits;
 pub mod names;
+pub mod sheet;
 pub mod strings;
 mod tokens;
