@@ -16,3 +16,4 @@ pub mod Outcomes
 pub mod Promise
 pub mod NewNames
 pub mod Labels
+pub mod Readback

@@ -23,7 +23,7 @@ use Rattle.text.proofs.Grammar.Trees.{size-join, depth-join, Either-of,
 abbrev pub rank : (number place : ℕ) → ℕ
 rank n p = 8 * p + n
 
-no-string : (b : Bracket) → kindIn b ≡ 5 → ⊥
+pub no-string : (b : Bracket) → kindIn b ≡ 5 → ⊥
 no-string square e = omega arith
 no-string curly e = omega arith
 
