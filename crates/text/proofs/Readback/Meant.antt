@@ -45,29 +45,29 @@ NamelessIn b (leaf kind ns ne from to rest) = Nameless b ns × NamelessIn b rest
 NamelessIn b (node c ns ne from to inside rest) = Nameless b ns × NamelessIn c inside × NamelessIn b rest
 
 -- the values of a part, before others
-abbrev Seatable : Part → (ℕ → Forest → Forest) → Type 0
-Seatable value f = (b : Bracket) (ns : ℕ) (g : Forest) → Nameless b ns → NamelessIn b g → NamelessIn b (f ns g)
-Seatable (item b) f = (ns : ℕ) (g : Forest) → NamelessIn b g → NamelessIn b (f ns g)
-Seatable (items b) f = (ns : ℕ) (g : Forest) → NamelessIn b g → NamelessIn b (f ns g)
+abbrev NamelessBy : Part → (ℕ → Forest → Forest) → Type 0
+NamelessBy value f = (b : Bracket) (ns : ℕ) (g : Forest) → Nameless b ns → NamelessIn b g → NamelessIn b (f ns g)
+NamelessBy (item b) f = (ns : ℕ) (g : Forest) → NamelessIn b g → NamelessIn b (f ns g)
+NamelessBy (items b) f = (ns : ℕ) (g : Forest) → NamelessIn b g → NamelessIn b (f ns g)
 
-seatable : {a : Part} {w : List ℕ} (d : Is a w) (ne at : ℕ) → Seatable a (λ ns g. join (treeOf d ns ne at) g)
+tree-nameless : {a : Part} {w : List ℕ} (d : Is a w) (ne at : ℕ) → NamelessBy a (λ ns g. join (treeOf d ns ne at) g)
 unfolding treeOf join
-seatable (simple k l) ne at = λ b ns g n h. (n, h)
-seatable (empty c p) ne at = λ b ns g n h. (n, tt, h)
-seatable (full {s} c p d) ne at =
+tree-nameless (simple k l) ne at = λ b ns g n h. (n, h)
+tree-nameless (empty c p) ne at = λ b ns g n h. (n, tt, h)
+tree-nameless (full {s} c p d) ne at =
     let to = at + 1 + length s in
-    λ b ns g n h. (n, subst (NamelessIn c) (join-none (treeOf d 0 0 to)) (seatable d 0 to 0 T.none tt), h)
-seatable (element d) ne at = λ ns g h. seatable d 0 at square 0 g refl h
-seatable (member {m} {s} {r} c p o d) ne at = λ ns g h. seatable d (at + length m - 1) (at + length m + length s + 1 + length r) curly (at + 1) g tt h
-seatable (one d p) ne at = λ ns g h. seatable d 0 at 0 g h
-seatable (comma {v} {s} {r} {b = b} d p o e) ne at =
+    λ b ns g n h. (n, subst (NamelessIn c) (join-none (treeOf d 0 0 to)) (tree-nameless d 0 to 0 T.none tt), h)
+tree-nameless (element d) ne at = λ ns g h. tree-nameless d 0 at square 0 g refl h
+tree-nameless (member {m} {s} {r} c p o d) ne at = λ ns g h. tree-nameless d (at + length m - 1) (at + length m + length s + 1 + length r) curly (at + 1) g tt h
+tree-nameless (one d p) ne at = λ ns g h. tree-nameless d 0 at 0 g h
+tree-nameless (comma {v} {s} {r} {b = b} d p o e) ne at =
     let to = at + length v + length s + 1 + length r in
-    λ ns g h. subst (NamelessIn b) (sym (join-assoc (treeOf d 0 0 at) (treeOf e 0 0 to) g)) (seatable d 0 at 0 (join (treeOf e 0 0 to) g) (seatable e 0 to 0 g h))
+    λ ns g h. subst (NamelessIn b) (sym (join-assoc (treeOf d 0 0 at) (treeOf e 0 0 to) g)) (tree-nameless d 0 at 0 (join (treeOf e 0 0 to) g) (tree-nameless e 0 to 0 g h))
 
 -- the root has none
 root-nameless : {t : List ℕ} (d : JsonText t) → NamelessIn square (rootOf d)
 unfolding rootOf
-root-nameless (json-text {s} p d o) = subst (NamelessIn square) (join-none (treeOf d 0 0 (length s))) (seatable d 0 (length s) square 0 T.none refl tt)
+root-nameless (json-text {s} p d o) = subst (NamelessIn square) (join-none (treeOf d 0 0 (length s))) (tree-nameless d 0 (length s) square 0 T.none refl tt)
 
 module _ (t : List ℕ) where
   -- ---- strings and names spell ----
