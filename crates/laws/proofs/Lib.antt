@@ -1,10 +1,13 @@
--- Facts that speak of no format: the element at a place, runs of a list, the outcomes of a test, and the order of two runs of bytes.
+-- Facts that speak of no format: places and parts of a list, runs, the outcomes of a test, the order of two runs of bytes, and buffers being cleared.
 pub mod Places
 pub mod Bounds
 pub mod Splits
 pub mod Picks
 pub mod Branches
 pub mod Orders
+pub mod Outcomes
 pub mod Parts
+pub mod Cleared
 pub mod Decides
 pub mod Bools
+pub mod Sets

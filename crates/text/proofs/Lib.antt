@@ -3,12 +3,13 @@ pub mod Walks
 pub mod Sequences
 pub mod Laws
 pub mod Standing
+pub mod TokenEnds
+pub mod Stores
 pub mod Fewer
 pub mod Induction
 pub mod Documents
 pub mod Spelling
 pub mod StringSpecimens
-pub mod TokenEnds
 pub mod TokenBytes
 pub mod Placing
 pub mod Grammar

@@ -1,11 +1,13 @@
 -- Refused rightly: where the text is not over the byte limit, it is refused with a number and a place exactly if it has a fault of that number at that
--- place and none at a smaller place, nor at that place with a smaller number (`refuses`), for any limits. Assumes nothing.
+-- place and none at a smaller place, nor at that place with a smaller number (`refuses`); and with 1 exactly if it is over that limit (`too-long`); for any
+-- limits. Assumes nothing.
 use mathlib.Core.Path.{_≡_, refl, sym, ap, subst, _∙_}
 use mathlib.Core.List.{List, _++_, append-assoc}
 use mathlib.Core.Logic.{_↔_, ⊎-elim}
 use Prim.Native.Nat.{ℕ, _+_, _≤_, _<_}
 use native.Mathlib.Omega.{arith}
 use native.Mathlib.Nat.{zero-add, le-refl}
+use borrow.Author.Tests.{lt-ltb}
 use lib.ListN.{length, take, drop, take-append-drop, length-append, List·getD-eq-default}
 use lib.Seq.{length-take-le, take-take}
 use Rattle.laws.specs.Bounds.{AllBelow}
@@ -236,3 +238,32 @@ module _ (L : Limits) (t : List ℕ) (small : AllBelow 256 t) (short : length t 
 
 pub refuses : (L : Limits) (t : List ℕ) → AllBelow 256 t → length t ≤ L .bytes → (n p : ℕ) → Refuses L t n p ↔ First L t n p
 refuses L t small short n p = (refused-first L t small short n p, first-refused L t small short n p)
+
+-- ---- theorem: 1 comes first ----
+
+module _ (L : Limits) (t : List ℕ) where
+  long-refused : L .bytes < length t → readOf L t ≡ bad TooLong
+  unfolding readOf
+  long-refused h = rw (lt-ltb (L .bytes) (length t) h)
+
+  -- nothing else is refused with 1
+  not-long : (R : Read) → Told (Parsed L t value (L .depth) top 0 0 (skip t 0)) (Viable L t value top 0 0 (skip t 0)) R → endOf t R ≡ bad TooLong → ⊥
+  unfolding endOf
+  not-long (bad TooLong) v e = v
+  not-long (bad (Grammar p)) v e = let z : _≡_ {A = ℕ} 0 1 = cc in omega arith
+  not-long (bad (Character p)) v e = let z : _≡_ {A = ℕ} 0 1 = cc in omega arith
+  not-long (bad (Repeated p)) v e = let z : _≡_ {A = ℕ} 0 1 = cc in omega arith
+  not-long (bad (Deep p)) v e = let z : _≡_ {A = ℕ} 0 1 = cc in omega arith
+  not-long (bad (Many p)) v e = let z : _≡_ {A = ℕ} 0 1 = cc in omega arith
+  not-long (bad (Small n)) v e = v
+  not-long (good f to) v e =
+      if-equal (λ (R : Read). R ≡ bad TooLong → ⊥) (byteAt t (skip t to)) 256
+      (λ k h. let z : _≡_ {A = ℕ} 0 1 = cc in omega arith) (λ k h. let z : _≡_ {A = ℕ} 0 1 = cc in omega arith) e
+
+  refused-long : readOf L t ≡ bad TooLong → L .bytes < length t
+  unfolding readOf
+  refused-long =
+      if-less (λ (R : Read). R ≡ bad TooLong → L .bytes < length t) (L .bytes) (length t) (λ h e. h) (λ h e. absurd (not-long (root L t) (root-told L t) e))
+
+pub too-long : (L : Limits) (t : List ℕ) → (readOf L t ≡ bad TooLong) ↔ (L .bytes < length t)
+too-long L t = (refused-long L t, long-refused L t)

@@ -52,9 +52,6 @@ module _ (L : Limits) (t : List ℕ) where
   pub end-bad : {A : Type 0} {p x : ℕ} (k : ℕ) → quotedAt t k ≡ End p → quotedAt t k ≡ No3 x → A
   end-bad {A} {p} {x} k e f = let z : End p ≡ No3 x = sym e ∙ f in let o : _≡_ {A = ℕ} 0 1 = cc in absurd (omega arith)
 
-  bad-bad : {x y : ℕ} (k : ℕ) → quotedAt t k ≡ No3 x → quotedAt t k ≡ No3 y → x ≡ y
-  bad-bad {x} {y} k e f = let z : No3 x ≡ No3 y = sym e ∙ f in cc
-
   -- a name that is read is not there already
   name-new : {A : Type 0} {before : Forest} {ns ne e : ℕ} (x : ℕ) → Good-name before ns ne → L .unique ≡ true → ns ≡ x + 1 → quotedAt t x ≡ End e → named t (nameOf t (x + 1) (e - 1)) before ≡ true → A
   name-new {A} {before} {ns} {ne} {e} x g u k c m =

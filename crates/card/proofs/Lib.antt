@@ -1,0 +1,6 @@
+-- What the proofs of several functions share.
+pub mod PartLaws
+pub mod PointerLaws
+pub mod MemberLaws
+pub mod PathLaws
+pub mod EntryLaws

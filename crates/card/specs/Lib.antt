@@ -1,0 +1,5 @@
+pub mod Parts
+pub mod Pointers
+pub mod Entries
+pub mod Members
+pub mod Paths
