@@ -87,7 +87,8 @@ module _ (words limit : ℕ) (t new : List ℕ) (room : Room words limit) where
   whole-other r m b = first-bad words t limit (room .few) r (other r m) b
 
   -- one value too many for the table: the second reading decides
-  pub whole-again : (limit ≡ base .values → ⊥) → (r : Refusal) → isMany r ≡ true → readOf (upTo limit) t ≡ bad r → (a : Reading) → a ≡ againOf (readOf base t) → Whole (wholeOf base words t) words new a
+  pub whole-again : (limit ≡ base .values → ⊥) → (r : Refusal) → isMany r ≡ true → readOf (upTo limit) t ≡ bad r → (a : Reading)
+      → a ≡ againOf (readOf base t) → Whole (wholeOf base words t) words new a
   whole-again l (Many p) m b a e = go (readOf base t) refl
     where
       go : (R : Read) → readOf base t ≡ R → Whole (wholeOf base words t) words new a
@@ -108,6 +109,7 @@ unfolding paper sheetOf
 paper-rows R words new n w = (rw (w .1 .1 .0, w .1 .1 .1 .0), w .1 .1 .1 .1)
 
 -- what is refused, on paper, with a cleared table
-pub paper-refused : (R : Read) (words : ℕ) (new : List ℕ) (r : Refusal) → R ≡ bad r → new ≡ replicate words 0 → (paper (Refused r) ≡ sheetOf R) × (new ≡ tableOf words R)
+pub paper-refused : (R : Read) (words : ℕ) (new : List ℕ) (r : Refusal) → R ≡ bad r → new ≡ replicate words 0
+    → (paper (Refused r) ≡ sheetOf R) × (new ≡ tableOf words R)
 unfolding paper sheetOf tableOf
 paper-refused R words new r e c = (rw e, rw (e, c, sub-zero))

@@ -20,11 +20,13 @@ enum-known-answer-2 c = search needs
 
 returns : tie.Need-returns
 returns c =
-    again-good (readOf base (c .before .before .before .before .before .before .before .args .text .now)) _ _ (c .before .answer .given .0 .0) (rw (c .before .answer .given .1) at (c .before .before .before .before .read-whole .ensures))
+    again-good (readOf base (c .before .before .before .before .before .before .before .args .text .now)) _ _ (c .before .answer .given .0 .0)
+    (rw (c .before .answer .given .1) at (c .before .before .before .before .read-whole .ensures))
 
 returns-2 : tie.Need-returns-2
 returns-2 c =
-    again-bad (readOf base (c .before .before .before .before .before .before .before .args .text .now)) (c .before .answer2 .given .0 .0) (rw (c .before .answer2 .given .1) at (c .before .before .before .before .read-whole .ensures))
+    again-bad (readOf base (c .before .before .before .before .before .before .before .args .text .now)) (c .before .answer2 .given .0 .0)
+    (rw (c .before .answer2 .given .1) at (c .before .before .before .before .read-whole .ensures))
 
 pub read-again-spec : {M : Type 1} → statement M
 read-again-spec =

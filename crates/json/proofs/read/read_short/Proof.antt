@@ -23,8 +23,12 @@ same-length c = search needs
 
 returns : tie.Need-returns
 returns c =
-    let a = c .before .before .before .before .before .before .before .before .before .before .before .args in
-    whole-all (length (a .table .now)) (c .before .before .before .before .before .before .before .before .values-in .result) (a .text .now) (c .before .before .before .before .before .before .read-whole .last .1 .0) (c .before .before .before .before .before .before .before .before .values-in .ensures) (c .if1 .taken) (c .before .before .answer2 .given .0 .0) (rw (c .before .before .answer2 .given .1) at (c .before .before .before .before .before .before .read-whole .ensures))
+    let w = c .before .before .before .before .before .before in
+    let v = w .before .before in
+    let a = v .before .before .before .args in
+    let e = c .before .before .answer2 .given in
+    whole-all (length (a .table .now)) (v .values-in .result) (a .text .now) (w .read-whole .last .1 .0) (v .values-in .ensures)
+    (c .if1 .taken) (e .0 .0) (rw (e .1) at (w .read-whole .ensures))
 
 is-many-requires : tie.Need-is-many-requires
 is-many-requires c κs = search needs
@@ -37,26 +41,39 @@ same-length-2 c = search needs
 
 returns-2 : tie.Need-returns-2
 returns-2 c =
-    let a = c .before .before .before .before .before .before .before .before .before .before .before .before .before .before .args in
-    whole-again (length (a .table .now)) (c .before .before .before .before .before .before .before .before .before .before .before .values-in .result) (a .text .now) (c .before .before .before .before .before .before .before .before .before .read-whole .last .1 .0) (c .before .before .before .before .before .before .before .before .before .before .before .values-in .ensures) (c .before .before .before .if1 .left) (c .before .before .before .before .before .answer2 .given .0 .0) (sym (c .before .before .is-many .ensures) ∙ c .before .if2 .taken) (rw (c .before .before .before .before .before .answer2 .given .1) at (c .before .before .before .before .before .before .before .before .before .read-whole .ensures)) (c .read-again .result) (c .read-again .ensures)
+    let w = c .before .before .before .before .before .before .before .before .before in
+    let v = w .before .before in
+    let a = v .before .before .before .args in
+    let e = c .before .before .before .before .before .answer2 .given in
+    whole-again (length (a .table .now)) (v .values-in .result) (a .text .now) (w .read-whole .last .1 .0) (v .values-in .ensures)
+    (c .before .before .before .if1 .left) (e .0 .0) (sym (c .before .before .is-many .ensures) ∙ c .before .if2 .taken) (rw (e .1) at (w .read-whole .ensures))
+    (c .read-again .result) (c .read-again .ensures)
 
 same-length-3 : tie.Need-same-length-3
 same-length-3 c = search needs
 
 returns-3 : tie.Need-returns-3
 returns-3 c =
-    let a = c .before .before .before .before .before .before .before .before .before .before .args in
-    let n = c .before .answer .given .0 .0 in
-    let s = rw (c .before .answer .given .1) at (c .before .before .before .before .before .read-whole .ensures) in
-    whole-rows (length (a .table .now)) (c .before .before .before .before .before .before .before .values-in .result) (a .text .now) (c .before .before .before .before .before .read-whole .last .1 .0) (c .before .before .before .before .before .before .before .values-in .ensures) n (rw (← c .before .before .before .before .before .before .before .before .before .before .pre .1) s)
+    let w = c .before .before .before .before .before in
+    let v = w .before .before in
+    let s = v .before .before .before in
+    let a = s .args in
+    let e = c .before .answer .given in
+    let h = rw (e .1) at (w .read-whole .ensures) in
+    whole-rows (length (a .table .now)) (v .values-in .result) (a .text .now) (w .read-whole .last .1 .0) (v .values-in .ensures)
+    (e .0 .0) (rw (← s .pre .1) h)
 
 same-length-4 : tie.Need-same-length-4
 same-length-4 c = search needs
 
 returns-4 : tie.Need-returns-4
 returns-4 c =
-    let a = c .before .before .before .before .before .before .before .before .before .before .before .before .before .args in
-    whole-other (length (a .table .now)) (c .before .before .before .before .before .before .before .before .before .before .values-in .result) (a .text .now) (c .before .before .before .before .before .before .before .before .read-whole .last .1 .0) (c .before .before .before .before .before .before .before .before .before .before .values-in .ensures) (c .before .before .before .before .answer2 .given .0 .0) (sym (c .before .is-many .ensures) ∙ c .if2 .left) (rw (c .before .before .before .before .answer2 .given .1) at (c .before .before .before .before .before .before .before .before .read-whole .ensures))
+    let w = c .before .before .before .before .before .before .before .before in
+    let v = w .before .before in
+    let a = v .before .before .before .args in
+    let e = c .before .before .before .before .answer2 .given in
+    whole-other (length (a .table .now)) (v .values-in .result) (a .text .now) (w .read-whole .last .1 .0) (v .values-in .ensures)
+    (e .0 .0) (sym (c .before .is-many .ensures) ∙ c .if2 .left) (rw (e .1) at (w .read-whole .ensures))
 
 pub read-short-spec : {M : Type 1} → statement M
 read-short-spec =
