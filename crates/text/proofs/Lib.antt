@@ -17,3 +17,4 @@ pub mod Outcomes
 pub mod Promise
 pub mod NewNames
 pub mod Labels
+pub mod Readback

@@ -127,7 +127,7 @@ spell-chars (short s) = Star.more (Char.escape (short-letter s)) Star.none
 spell-chars (unit g d) = four-chars d
 spell-chars (pair {v} d h e k g) = star-join {u = 92 ∷ 117 ∷ v} (four-chars d) (four-chars e)
 
-spells-chars : {w cs : List ℕ} → Spells w cs → Star Char w
+pub spells-chars : {w cs : List ℕ} → Spells w cs → Star Char w
 spells-chars Spells.none = Star.none
 spells-chars (Spells.more s d) = star-join (spell-chars s) (spells-chars d)
 
