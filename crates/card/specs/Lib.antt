@@ -1,3 +1,4 @@
 pub mod Parts
 pub mod Pointers
 pub mod Entries
+pub mod Runs
