@@ -52,8 +52,6 @@ joined (member key label d ls) ms = member key label d (joined ls ms)
 -- The words lo up to hi of the rows, at which the members ms stand, are parted at r: what is listed before r has a first part, after `parts` parts,
 -- before the name (with `past`: before it or the same), what is listed from r on has not.
 pub record Parted (t table rows : List ℕ) (lo hi parts : ℕ) (n : Name) (past : Bool) (ms : Members) (r : ℕ) : Type 0 where
-  pub low : lo ≤ r
-  pub high : r ≤ hi
   pub left : Members
   pub right : Members
   pub is : ms ≡ joined left right
@@ -62,11 +60,13 @@ pub record Parted (t table rows : List ℕ) (lo hi parts : ℕ) (n : Name) (past
   pub all-before : AllBefore past n (stripped parts left)
   pub none-before : NoneBefore past n (stripped parts right)
 
--- The contract of a function that looks for the place, with `name` the inner bytes of the name as written:
+-- What a function that looks for the place answers: a place between lo and hi, whatever the table holds, and it parts the members that are listed there,
+-- if their entries ascend. With `name` the inner bytes of the name as written:
 --     fn bound(ptext: &[u8], ptable: &[u32], rows: &[u32], lo: usize, hi: usize, parts: usize, name: &[u8], past: bool) -> usize
 --         requires { ⌜ lo ≤ hi ⌝ }
 --         requires { ⌜ hi ≤ length (now rows) ⌝ }
 --         ensures { λ r. ⌜ Bound (now (ptext .entry)) (now (ptable .entry)) (now (rows .entry)) lo hi parts (decode (now (name .entry))) past r ⌝ }
-abbrev pub Bound : (t table rows : List ℕ) → (lo hi parts : ℕ) → Name → (past : Bool) → (r : ℕ) → Type 0
-Bound t table rows lo hi parts n past r =
-    (ms : Members) → Listed t table rows lo hi ms → Ascending (stripped parts ms) → Parted t table rows lo hi parts n past ms r
+pub record Bound (t table rows : List ℕ) (lo hi parts : ℕ) (n : Name) (past : Bool) (r : ℕ) : Type 0 where
+  pub low : lo ≤ r
+  pub high : r ≤ hi
+  pub parted : (ms : Members) → Listed t table rows lo hi ms → Ascending (stripped parts ms) → Parted t table rows lo hi parts n past ms r
