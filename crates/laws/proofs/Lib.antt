@@ -10,3 +10,4 @@ pub mod Cleared
 pub mod Sorting
 pub mod Slices
 pub mod Merging
+pub mod Halving
