@@ -1,4 +1,7 @@
 -- What the proofs of several functions share.
 pub mod PartLaws
 pub mod PointerLaws
+pub mod MemberLaws
+pub mod PathLaws
+pub mod EntryLaws
 pub mod PointerOrders

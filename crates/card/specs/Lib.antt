@@ -1,4 +1,6 @@
 pub mod Parts
 pub mod Pointers
 pub mod Entries
+pub mod Members
+pub mod Paths
 pub mod Runs

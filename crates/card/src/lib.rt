@@ -1,7 +1,15 @@
 // Judging and localizing a card.
+//   entries   the entries of a PatchObject, and the conditions on them
+//   members   a member of an object, found by its name
 //   parts     one part of a pointer, read off a key as the key is decoded
+//   paths     where a pointer leads
 //   pointers  keys as pointers: prefixes, order, bad tildes
+//   sheet     the answers in the refusal sheet's numbers
 //   sort      rows of entries, in the order of their pointers
+mod entries;
+mod members;
 mod parts;
+mod paths;
 mod pointers;
+pub mod sheet;
 mod sort;

@@ -7,6 +7,8 @@ pub mod Branches
 pub mod Orders
 pub mod Parts
 pub mod Cleared
+pub mod Decides
+pub mod Bools
 pub mod Sorting
 pub mod Slices
 pub mod Merging
