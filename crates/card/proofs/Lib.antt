@@ -5,3 +5,5 @@ pub mod MemberLaws
 pub mod PathLaws
 pub mod EntryLaws
 pub mod PointerOrders
+pub mod EntryOrders
+pub mod RunLaws
