@@ -4,10 +4,14 @@
 //   parts     one part of a pointer, read off a key as the key is decoded
 //   paths     where a pointer leads
 //   pointers  keys as pointers: prefixes, order, bad tildes
+//   runs      where a name parts a run of sorted entries
 //   sheet     the answers in the refusal sheet's numbers
+//   sort      rows of entries, in the order of their pointers
 mod entries;
 mod members;
 mod parts;
 mod paths;
 mod pointers;
+mod runs;
 pub mod sheet;
+mod sort;
