@@ -81,7 +81,7 @@ pub fn part_is(a: &[u8], lit: &[u8]) -> bool
 }
 
 // The bytes of a text from s up to e, or none where they are not inside.
-fn part(text: &[u8], s: usize, e: usize) -> &[u8]
+pub fn part(text: &[u8], s: usize, e: usize) -> &[u8]
     ensures { λ r. ⌜ now r ≡ partOf (now (text .entry)) s e ⌝ }
 {
     if e <= text.len() {

@@ -1,0 +1,5 @@
+-- Laws by subject, which the functions' proofs cite.
+pub mod Cursors
+pub mod Ids
+pub mod Counts
+pub mod Times
