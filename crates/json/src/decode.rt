@@ -6,13 +6,24 @@ ghost use mathlib.Core.Path.{_≡_};
 ghost use Prim.Native.Nat.{ℕ};
 ghost use mathlib.Core.List.{List, _++_};
 ghost use Rattle.text.specs.Strings.{utf8, decodeFrom};
-ghost use Rattle.json.specs.Cursors.{rest, unread};
+ghost use Rattle.json.specs.Cursors.{cursor, rest, unread, firstOf, freshOf, nextOf};
 
 // A place in a string's inner bytes, and the continuation bytes (at most three) of the code point `code` that are still to be handed out.
 pub struct Cursor {
     pub at: usize,
     pub code: u32,
     pub left: u8,
+}
+
+// A cursor at the start of a string's inner bytes.
+pub fn start() -> Cursor
+    ensures { λ r. ⌜ r ≡ cursor 0 0 0 ⌝ }
+{
+    Cursor {
+        at: 0,
+        code: 0,
+        left: 0,
+    }
 }
 
 pub enum Next {
@@ -23,6 +34,7 @@ pub enum Next {
 // The first byte of a code point; the cursor goes on after it, and then at `at`.
 fn first_byte(code: u32, at: usize) -> Next
     ensures { λ r. ⌜ ((t : List ℕ) → unread t r ≡ utf8 code ++ decodeFrom t at) ⌝ }
+    ensures is { λ r. ⌜ r ≡ firstOf code at ⌝ }
 {
     if code < 128 {
         return Next::Byte(code as u8, Cursor { at, code, left: 0 });
@@ -42,6 +54,7 @@ fn first_byte(code: u32, at: usize) -> Next
 // The byte at a place where a character begins.
 fn fresh_byte(name: &[u8], at: usize) -> Next
     ensures { λ r. ⌜ unread (now (name .entry)) r ≡ decodeFrom (now (name .entry)) at ⌝ }
+    ensures is { λ r. ⌜ r ≡ freshOf (now (name .entry)) at ⌝ }
 {
     let b = peek(name, at);
     if b == 256 {
@@ -68,6 +81,7 @@ fn fresh_byte(name: &[u8], at: usize) -> Next
 // The next decoded byte.
 pub fn next_byte(name: &[u8], c: Cursor) -> Next
     ensures { λ r. ⌜ unread (now (name .entry)) r ≡ rest (now (name .entry)) c ⌝ }
+    ensures is { λ r. ⌜ r ≡ nextOf (now (name .entry)) c ⌝ }
 {
     let at = c.at;
     let code = c.code;

@@ -1,6 +1,6 @@
 // Names compared decoded: with each other and with a byte string. A comparison stops at the first difference.
 use crate::bytes::peek;
-use crate::decode::Cursor;
+use crate::decode::start;
 use crate::decode::Next;
 use crate::decode::next_byte;
 use laws::Order;
@@ -13,16 +13,8 @@ ghost use Rattle.text.specs.Strings.{decode, nameOf};
 pub fn order_of(a: &[u8], b: &[u8]) -> Order
     ensures { λ r. ⌜ r ≡ orderOf (decode (now (a .entry))) (decode (now (b .entry))) ⌝ }
 {
-    let mut x = Cursor {
-        at: 0,
-        code: 0,
-        left: 0,
-    };
-    let mut y = Cursor {
-        at: 0,
-        code: 0,
-        left: 0,
-    };
+    let mut x = start();
+    let mut y = start();
     loop {
         match next_byte(a, x) {
             Next::Over => {
@@ -54,11 +46,7 @@ pub fn order_of(a: &[u8], b: &[u8]) -> Order
 pub fn part_is(a: &[u8], lit: &[u8]) -> bool
     ensures { λ r. ⌜ r ≡ same (decode (now (a .entry))) (now (lit .entry)) ⌝ }
 {
-    let mut x = Cursor {
-        at: 0,
-        code: 0,
-        left: 0,
-    };
+    let mut x = start();
     let mut i: usize = 0;
     loop {
         let want = peek(lit, i);

@@ -9,6 +9,7 @@ use borrow.Author.Needs.{needs}
 use Rattle.text.specs.declared.Step.the-variants.{Char}
 use Rattle.text.specs.Strings.{conts, pieceBy}
 use Rattle.text.specs.Chars.{escapeAt}
+use Rattle.json.specs.Cursors.{freshOf}
 use Rattle.laws.proofs.Picks.{picks}
 use Rattle.laws.proofs.Places.{inside}
 use Rattle.text.proofs.Walks.{decode-step, escape-char}
@@ -19,13 +20,15 @@ peek-requires : tie.Need-peek-requires
 peek-requires c κs = search needs
 
 returns : tie.Need-returns
-unfolding pieceBy
-returns c =
-    rw (
-      decode-step (now (c .before .before .before .args .name)) (c .before .before .before .args .at),
-      ← c .before .peek .ensures .0,
-    )
-    (search picks)
+unfolding pieceBy freshOf
+returns c = (
+  rw (
+    decode-step (now (c .before .before .before .args .name)) (c .before .before .before .args .at),
+    ← c .before .peek .ensures .0,
+  )
+      (search picks),
+  rw (← c .before .peek .ensures .0) (search picks),
+)
 
 cast-t7 : tie.Need-cast-t7
 cast-t7 c = search needs
@@ -38,13 +41,15 @@ add-t8 c =
     omega arith
 
 returns-2 : tie.Need-returns-2
-unfolding pieceBy conts
-returns-2 c =
-    rw (
-      decode-step (now (c .before .before .before .before .args .name)) (c .before .before .before .before .args .at),
-      ← c .before .before .peek .ensures .0,
-    )
-    (search picks)
+unfolding pieceBy freshOf conts
+returns-2 c = (
+  rw (
+    decode-step (now (c .before .before .before .before .args .name)) (c .before .before .before .before .args .at),
+    ← c .before .before .peek .ensures .0,
+  )
+      (search picks),
+  rw (← c .before .before .peek .ensures .0) (search picks),
+)
 
 escape-requires : tie.Need-escape-requires
 escape-requires c κs =
@@ -77,48 +82,56 @@ enum-told-3 : tie.Need-enum-told-3
 enum-told-3 c = search needs
 
 returns-3 : tie.Need-returns-3
-unfolding pieceBy
-returns-3 c =
-    rw (
-      decode-step (now (c .before .before .before .before .before .before .before .before .before .args .name)) (c .before .before .before .before .before .before .before .before .before .args .at),
-      ← c .before .before .before .before .before .before .before .peek .ensures .0,
-      ← c .before .before .before .before .escape .ensures,
-      c .before .before .code .given .1,
-    )
-    (search (picks, c .first-byte .ensures (now (c .before .before .before .before .before .before .before .before .before .args .name))))
+unfolding pieceBy freshOf
+returns-3 c = (
+  rw (
+    decode-step (now (c .before .before .before .before .before .before .before .before .before .args .name)) (c .before .before .before .before .before .before .before .before .before .args .at),
+    ← c .before .before .before .before .before .before .before .peek .ensures .0,
+    ← c .before .before .before .before .escape .ensures,
+    c .before .before .code .given .1,
+  )
+      (search (picks, c .first-byte .ensures .0 (now (c .before .before .before .before .before .before .before .before .before .args .name)))),
+  rw (← c .before .before .before .before .before .before .before .peek .ensures .0, ← c .before .before .before .before .escape .ensures, c .before .before .code .given .1) (search (picks, c .first-byte .ensures .1)),
+)
 
 returns-4 : tie.Need-returns-4
-unfolding pieceBy
-returns-4 c =
-    rw (
-      decode-step (now (c .before .before .before .before .before .before .before .args .name)) (c .before .before .before .before .before .before .before .args .at),
-      ← c .before .before .before .before .before .peek .ensures .0,
-      ← c .before .before .escape .ensures,
-      c .enum-told .given .1,
-    )
-    (search picks)
+unfolding pieceBy freshOf
+returns-4 c = (
+  rw (
+    decode-step (now (c .before .before .before .before .before .before .before .args .name)) (c .before .before .before .before .before .before .before .args .at),
+    ← c .before .before .before .before .before .peek .ensures .0,
+    ← c .before .before .escape .ensures,
+    c .enum-told .given .1,
+  )
+      (search picks),
+  rw (← c .before .before .before .before .before .peek .ensures .0, ← c .before .before .escape .ensures, c .enum-told .given .1) (search picks),
+)
 
 returns-5 : tie.Need-returns-5
-unfolding pieceBy
-returns-5 c =
-    rw (
-      decode-step (now (c .before .before .before .before .before .before .before .args .name)) (c .before .before .before .before .before .before .before .args .at),
-      ← c .before .before .before .before .before .peek .ensures .0,
-      ← c .before .before .escape .ensures,
-      c .enum-told2 .given .1,
-    )
-    (search picks)
+unfolding pieceBy freshOf
+returns-5 c = (
+  rw (
+    decode-step (now (c .before .before .before .before .before .before .before .args .name)) (c .before .before .before .before .before .before .before .args .at),
+    ← c .before .before .before .before .before .peek .ensures .0,
+    ← c .before .before .escape .ensures,
+    c .enum-told2 .given .1,
+  )
+      (search picks),
+  rw (← c .before .before .before .before .before .peek .ensures .0, ← c .before .before .escape .ensures, c .enum-told2 .given .1) (search picks),
+)
 
 returns-6 : tie.Need-returns-6
-unfolding pieceBy
-returns-6 c =
-    rw (
-      decode-step (now (c .before .before .before .before .before .before .before .args .name)) (c .before .before .before .before .before .before .before .args .at),
-      ← c .before .before .before .before .before .peek .ensures .0,
-      ← c .before .before .escape .ensures,
-      c .enum-told3 .given .1,
-    )
-    (search picks)
+unfolding pieceBy freshOf
+returns-6 c = (
+  rw (
+    decode-step (now (c .before .before .before .before .before .before .before .args .name)) (c .before .before .before .before .before .before .before .args .at),
+    ← c .before .before .before .before .before .peek .ensures .0,
+    ← c .before .before .escape .ensures,
+    c .enum-told3 .given .1,
+  )
+      (search picks),
+  rw (← c .before .before .before .before .before .peek .ensures .0, ← c .before .before .escape .ensures, c .enum-told3 .given .1) (search picks),
+)
 
 pub fresh-byte-spec : {M : Type 1} → statement M
 fresh-byte-spec =

@@ -20,9 +20,15 @@ Inv-loop a b x₀ y₀ x y = orderOf (rest a x) (rest b y) ≡ orderOf (decode a
 abbrev μ-loop : tie.MeasureT-loop
 μ-loop a b x₀ y₀ x y = length (rest a x)
 
+start-requires : tie.Need-start-requires Inv-loop μ-loop
+start-requires c κs = search needs
+
+start-requires-2 : tie.Need-start-requires-2 Inv-loop μ-loop
+start-requires-2 c κs = search needs
+
 loop-holds : tie.Need-loop-holds Inv-loop μ-loop
 unfolding conts
-loop-holds c = refl
+loop-holds c = rw (c .before .start .ensures, c .start2 .ensures) refl
 
 next-byte-requires : tie.Need-next-byte-requires Inv-loop μ-loop
 next-byte-requires c κs = search needs
@@ -44,9 +50,9 @@ unfolding orderOf
 returns c =
     rw (
       ← c .before .before .before .before .before .before .loop .inv,
-      ← c .before .before .before .before .before .next-byte .ensures,
+      ← c .before .before .before .before .before .next-byte .ensures .0,
       c .before .before .before .enum-told .given .1,
-      ← c .before .before .next-byte2 .ensures,
+      ← c .before .before .next-byte2 .ensures .0,
       c .enum-told2 .given .1,
     )
 
@@ -55,9 +61,9 @@ unfolding orderOf
 returns-2 c =
     rw (
       ← c .before .before .before .before .before .before .loop .inv,
-      ← c .before .before .before .before .before .next-byte .ensures,
+      ← c .before .before .before .before .before .next-byte .ensures .0,
       c .before .before .before .enum-told .given .1,
-      ← c .before .before .next-byte2 .ensures,
+      ← c .before .before .next-byte2 .ensures .0,
       c .enum-told3 .given .1,
     )
 
@@ -75,9 +81,9 @@ unfolding orderOf
 returns-3 c =
     rw (
       ← c .before .before .before .before .before .before .before .loop .inv,
-      ← c .before .before .before .before .before .before .next-byte .ensures,
+      ← c .before .before .before .before .before .before .next-byte .ensures .0,
       c .before .before .before .before .p .given .1,
-      ← c .before .before .next-byte3 .ensures,
+      ← c .before .before .next-byte3 .ensures .0,
       c .enum-told4 .given .1,
     )
 
@@ -89,9 +95,9 @@ unfolding orderOf
 returns-4 c =
     rw (
       ← c .before .before .before .before .before .before .before .before .before .loop .inv,
-      ← c .before .before .before .before .before .before .before .before .next-byte .ensures,
+      ← c .before .before .before .before .before .before .before .before .next-byte .ensures .0,
       c .before .before .before .before .before .before .p .given .1,
-      ← c .before .before .before .before .next-byte3 .ensures,
+      ← c .before .before .before .before .next-byte3 .ensures .0,
       c .before .before .q .given .1,
     )
     (search picks)
@@ -101,27 +107,27 @@ unfolding orderOf
 returns-5 c =
     rw (
       ← c .before .before .before .before .before .before .before .before .before .before .loop .inv,
-      ← c .before .before .before .before .before .before .before .before .before .next-byte .ensures,
+      ← c .before .before .before .before .before .before .before .before .before .next-byte .ensures .0,
       c .before .before .before .before .before .before .before .p .given .1,
-      ← c .before .before .before .before .before .next-byte3 .ensures,
+      ← c .before .before .before .before .before .next-byte3 .ensures .0,
       c .before .before .before .q .given .1,
     )
     (search picks)
 
 loop-less : tie.Need-loop-less Inv-loop μ-loop
 loop-less c =
-    let a = now (c .before .before .before .before .before .before .before .before .before .before .before .before .before .args .a) in
+    let a = now (c .before .before .before .before .before .before .before .before .before .before .before .before .before .before .before .args .a) in
     let x = c .before .before .before .before .before .before .before .before .before .before .loop .x in
-    omega (arith, ap length (handed a x (c .before .before .before .before .before .before .before .before .before .next-byte .ensures) (c .before .before .before .before .before .before .before .p .given .1)))
+    omega (arith, ap length (handed a x (c .before .before .before .before .before .before .before .before .before .next-byte .ensures .0) (c .before .before .before .before .before .before .before .p .given .1)))
 
 loop-again : tie.Need-loop-again Inv-loop μ-loop
 unfolding orderOf
 loop-again c =
     rw (
       ← c .before .before .before .before .before .before .before .before .before .before .loop .inv,
-      ← c .before .before .before .before .before .before .before .before .before .next-byte .ensures,
+      ← c .before .before .before .before .before .before .before .before .before .next-byte .ensures .0,
       c .before .before .before .before .before .before .before .p .given .1,
-      ← c .before .before .before .before .before .next-byte3 .ensures,
+      ← c .before .before .before .before .before .next-byte3 .ensures .0,
       c .before .before .before .q .given .1,
     )
     (search picks)
@@ -132,6 +138,8 @@ order-of-spec =
     (tie.spec
     Inv-loop
     μ-loop
+    start-requires
+    start-requires-2
     loop-holds
     next-byte-requires
     enum-told

@@ -21,9 +21,12 @@ Inv-loop a lit x₀ i₀ x i = (same (rest a x) (drop i lit) ≡ same (decode a)
 abbrev μ-loop : tie.MeasureT-loop
 μ-loop a lit x₀ i₀ x i = length (rest a x)
 
+start-requires : tie.Need-start-requires Inv-loop μ-loop
+start-requires c κs = search needs
+
 loop-holds : tie.Need-loop-holds Inv-loop μ-loop
 unfolding conts
-loop-holds c = (refl, search needs)
+loop-holds c = (rw (c .start .ensures) refl, search needs)
 
 peek-requires : tie.Need-peek-requires Inv-loop μ-loop
 peek-requires c κs = search needs
@@ -37,12 +40,12 @@ enum-told c = search needs
 returns : tie.Need-returns Inv-loop μ-loop
 unfolding orderOf
 returns c =
-    let l = now (c .before .before .before .before .before .before .before .before .args .lit) in
+    let l = now (c .before .before .before .before .before .before .before .before .before .args .lit) in
     let i = c .before .before .before .before .before .loop .i in
-    let eb = drop-of-length-le l (ended l i (omega (arith, c .before .before .before .before .before .before .shared-slice-known2 .given i)) (cc)) in
+    let eb = drop-of-length-le l (ended l i (omega (arith, c .before .before .before .before .before .before .before .shared-slice-known2 .given i)) (cc)) in
     rw (
       ← c .before .before .before .before .before .loop .inv .0,
-      ← c .before .before .before .next-byte .ensures,
+      ← c .before .before .before .next-byte .ensures .0,
       c .before .enum-told .given .1,
       eb,
     )
@@ -50,12 +53,12 @@ returns c =
 returns-2 : tie.Need-returns-2 Inv-loop μ-loop
 unfolding orderOf
 returns-2 c =
-    let l = now (c .before .before .before .before .before .before .before .before .args .lit) in
+    let l = now (c .before .before .before .before .before .before .before .before .before .args .lit) in
     let i = c .before .before .before .before .before .loop .i in
     let eb = drop-byte l i (inside l i (omega arith)) in
     rw (
       ← c .before .before .before .before .before .loop .inv .0,
-      ← c .before .before .before .next-byte .ensures,
+      ← c .before .before .before .next-byte .ensures .0,
       c .before .enum-told .given .1,
       eb,
     )
@@ -68,37 +71,37 @@ cast-if2 c = search needs
 
 returns-3 : tie.Need-returns-3 Inv-loop μ-loop
 returns-3 c =
-    let l = now (c .before .before .before .before .before .before .before .before .before .args .lit) in
+    let l = now (c .before .before .before .before .before .before .before .before .before .before .args .lit) in
     let i = c .before .before .before .before .before .before .loop .i in
     let ne : (c .before .before .p .given .0 .0 ≡ getD l i 256 → ⊥) = omega arith in
     rw (
       ← c .before .before .before .before .before .before .loop .inv .0,
-      ← c .before .before .before .before .next-byte .ensures,
+      ← c .before .before .before .before .next-byte .ensures .0,
       c .before .before .p .given .1,
     )
     (sym (absent l i _ _ ne))
 
 add-i : tie.Need-add-i Inv-loop μ-loop
 add-i c =
-    let l = now (c .before .before .before .before .before .before .before .before .before .args .lit) in
+    let l = now (c .before .before .before .before .before .before .before .before .before .before .args .lit) in
     let i = c .before .before .before .before .before .before .loop .i in
     let h : i < length l = inside l i (omega arith) in
     omega arith
 
 loop-less : tie.Need-loop-less Inv-loop μ-loop
 loop-less c =
-    let a = now (c .before .before .before .before .before .before .before .before .before .args .a) in
+    let a = now (c .before .before .before .before .before .before .before .before .before .before .args .a) in
     let x = c .before .before .before .before .before .before .loop .x in
-    omega (arith, ap length (handed a x (c .before .before .before .before .next-byte .ensures) (c .before .before .p .given .1)))
+    omega (arith, ap length (handed a x (c .before .before .before .before .next-byte .ensures .0) (c .before .before .p .given .1)))
 
 loop-again : tie.Need-loop-again Inv-loop μ-loop
 loop-again c =
-    let l = now (c .before .before .before .before .before .before .before .before .before .args .lit) in
+    let l = now (c .before .before .before .before .before .before .before .before .before .before .args .lit) in
     let i = c .before .before .before .before .before .before .loop .i in
     let h : i < length l = inside l i (omega arith) in (
       rw (
         ← c .before .before .before .before .before .before .loop .inv .0,
-        ← c .before .before .before .before .next-byte .ensures,
+        ← c .before .before .before .before .next-byte .ensures .0,
         c .before .before .p .given .1,
         drop-byte l i h,
       )
@@ -112,6 +115,7 @@ part-is-spec =
     (tie.spec
     Inv-loop
     μ-loop
+    start-requires
     loop-holds
     peek-requires
     next-byte-requires
