@@ -3,3 +3,6 @@ pub mod Cursors
 pub mod Ids
 pub mod Counts
 pub mod Times
+pub mod Words
+pub mod Columns
+pub mod Search

@@ -4,6 +4,7 @@ use json::bytes::peek;
 use json::decode::Cursor;
 use json::decode::Next;
 use json::decode::next_byte;
+use json::decode::start;
 ghost use mathlib.Core.Path.{_≡_};
 ghost use mathlib.Core.Bool.{false, cond};
 ghost use mathlib.Core.List.{_∷_};
@@ -172,11 +173,7 @@ pub(crate) fn is_time(content: &[u8]) -> bool
     ensures { λ r. ⌜ r ≡ isTime (decode (now (content .entry))) ⌝ }
 {
     let mut head: [u8; 19] = [0; 19];
-    let mut at = Cursor {
-        at: 0,
-        code: 0,
-        left: 0,
-    };
+    let mut at = start();
     let mut i: usize = 0;
     while i < 19 {
         let Next::Byte(b, after) = next_byte(content, at) else {

@@ -1,7 +1,7 @@
 // Ids and unsigned integers.
-use json::decode::Cursor;
 use json::decode::Next;
 use json::decode::next_byte;
+use json::decode::start;
 ghost use mathlib.Core.Path.{_≡_};
 ghost use Rattle.text.specs.Strings.{decode};
 ghost use Rattle.text.specs.Tokens.{isDigit};
@@ -48,11 +48,7 @@ fn id_byte(b: u8) -> bool
 pub(crate) fn is_id(name: &[u8]) -> bool
     ensures { λ r. ⌜ r ≡ isId (decode (now (name .entry))) ⌝ }
 {
-    let mut at = Cursor {
-        at: 0,
-        code: 0,
-        left: 0,
-    };
+    let mut at = start();
     let mut passed: usize = 0;
     loop {
         match next_byte(name, at) {

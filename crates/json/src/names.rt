@@ -1,8 +1,8 @@
 // Names compared decoded: with each other and with a byte string. A comparison stops at the first difference.
 use crate::bytes::peek;
-use crate::decode::start;
 use crate::decode::Next;
 use crate::decode::next_byte;
+use crate::decode::start;
 use laws::Order;
 ghost use mathlib.Core.Path.{_≡_};
 ghost use Rattle.laws.specs.Lists.{partOf};

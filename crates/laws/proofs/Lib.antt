@@ -2,3 +2,4 @@
 pub mod Places
 pub mod Picks
 pub mod Orders
+pub mod Tables

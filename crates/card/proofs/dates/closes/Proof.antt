@@ -26,12 +26,12 @@ enum-told-2 c = search needs
 returns-3 : tie.Need-returns-3
 returns-3 c =
     let x = c .before .before .before .before .before .before .args in
-    sym (fraction-end (x .last) (x .b) (c .before .before .before .before .before .before .pre) (rest (now (x .content)) (x .after)) (none-left (now (x .content)) (x .after) (c .before .before .next-byte .ensures) (c .enum-told .given .1)) (c .before .before .before .before .if1 .left) (c .before .before .before .if2 .left))
+    sym (fraction-end (x .last) (x .b) (c .before .before .before .before .before .before .pre) (rest (now (x .content)) (x .after)) (none-left (now (x .content)) (x .after) (c .before .before .next-byte .ensures .0) (c .enum-told .given .1)) (c .before .before .before .before .if1 .left) (c .before .before .before .if2 .left))
 
 returns-4 : tie.Need-returns-4
 returns-4 c =
     let x = c .before .before .before .before .before .before .args in
-    sym (fraction-more (x .last) (x .b) (c .before .before .before .before .before .before .pre) (rest (now (x .content)) (x .after)) (byte-left (now (x .content)) (x .after) (c .before .before .next-byte .ensures) (c .enum-told2 .given .1)))
+    sym (fraction-more (x .last) (x .b) (c .before .before .before .before .before .before .pre) (rest (now (x .content)) (x .after)) (byte-left (now (x .content)) (x .after) (c .before .before .next-byte .ensures .0) (c .enum-told2 .given .1)))
 
 pub closes-spec : {M : Type 1} → statement M
 closes-spec =

@@ -18,9 +18,12 @@ Inv-loop content head₀ at₀ i₀ head at i = Begun (decode content) head (res
 abbrev μ-loop : tie.MeasureT-loop
 μ-loop content head₀ at₀ i₀ head at i = 19 - i
 
+start-requires : tie.Need-start-requires Inv-loop μ-loop
+start-requires c κs = search needs
+
 loop-holds : tie.Need-loop-holds Inv-loop μ-loop
 unfolding conts
-loop-holds c = begun _ _ refl
+loop-holds c = rw (c .start .ensures) (begun _ _ refl)
 
 next-byte-requires : tie.Need-next-byte-requires Inv-loop μ-loop
 next-byte-requires c κs = search needs
@@ -32,7 +35,7 @@ enum-told : tie.Need-enum-told Inv-loop μ-loop
 enum-told c = search needs
 
 returns : tie.Need-returns Inv-loop μ-loop
-returns c = sym (begun-over (c .before .before .before .before .loop .inv) (c .before .before .before .loop-test .taken) (none-left (now (c .before .before .before .before .before .before .args .content)) (c .before .before .before .before .loop .at) (c .before .before .next-byte .ensures) (c .enum-told .given .1)))
+returns c = sym (begun-over (c .before .before .before .before .loop .inv) (c .before .before .before .loop-test .taken) (none-left (now (c .before .before .before .before .before .before .before .args .content)) (c .before .before .before .before .loop .at) (c .before .before .next-byte .ensures .0) (c .enum-told .given .1)))
 
 array-read-suits : tie.Need-array-read-suits Inv-loop μ-loop
 array-read-suits c = search needs
@@ -41,7 +44,7 @@ suits-requires : tie.Need-suits-requires Inv-loop μ-loop
 suits-requires c κs = search needs
 
 returns-2 : tie.Need-returns-2 Inv-loop μ-loop
-returns-2 c = sym (begun-other (c .before .before .before .before .before .before .before .loop .inv) (c .before .before .before .before .before .before .loop-test .taken) (byte-left (now (c .before .before .before .before .before .before .before .before .before .args .content)) (c .before .before .before .before .before .before .before .loop .at) (c .before .before .before .before .before .next-byte .ensures) (c .before .before .before .b .given .1)) (sym (c .before .suits .ensures) ∙ not-true _ (c .if1 .taken)))
+returns-2 c = sym (begun-other (c .before .before .before .before .before .before .before .loop .inv) (c .before .before .before .before .before .before .loop-test .taken) (byte-left (now (c .before .before .before .before .before .before .before .before .before .before .args .content)) (c .before .before .before .before .before .before .before .loop .at) (c .before .before .before .before .before .next-byte .ensures .0) (c .before .before .before .b .given .1)) (sym (c .before .suits .ensures) ∙ not-true _ (c .if1 .taken)))
 
 array-write-head : tie.Need-array-write-head Inv-loop μ-loop
 array-write-head c = search needs
@@ -53,7 +56,7 @@ loop-less : tie.Need-loop-less Inv-loop μ-loop
 loop-less c = search needs
 
 loop-again : tie.Need-loop-again Inv-loop μ-loop
-loop-again c = begun-on (c .before .before .before .before .before .before .before .loop .inv) (c .before .before .before .before .before .before .loop-test .taken) (byte-left (now (c .before .before .before .before .before .before .before .before .before .args .content)) (c .before .before .before .before .before .before .before .loop .at) (c .before .before .before .before .before .next-byte .ensures) (c .before .before .before .b .given .1)) (sym (c .before .suits .ensures) ∙ not-false _ (c .if1 .left))
+loop-again c = begun-on (c .before .before .before .before .before .before .before .loop .inv) (c .before .before .before .before .before .before .loop-test .taken) (byte-left (now (c .before .before .before .before .before .before .before .before .before .before .args .content)) (c .before .before .before .before .before .before .before .loop .at) (c .before .before .before .before .before .next-byte .ensures .0) (c .before .before .before .b .given .1)) (sym (c .before .suits .ensures) ∙ not-false _ (c .if1 .left))
 
 slice-aggregate-in-range : tie.Need-slice-aggregate-in-range Inv-loop μ-loop
 slice-aggregate-in-range c = sym (c .before .before .loop .inv .full)
@@ -76,6 +79,7 @@ is-time-spec =
     (tie.spec
     Inv-loop
     μ-loop
+    start-requires
     loop-holds
     next-byte-requires
     enum-known-b
