@@ -1,11 +1,15 @@
 // Reading: a text becomes rows, or is refused.
+//   limits   the limits of reading
 //   bytes    the byte at a place
 //   chars    one step inside a string
 //   strings  where a string ends
 //   decode   a string's decoded bytes, one at a time
 //   names    names compared decoded
+//   tokens   white space, literals and numbers
 pub mod bytes;
 mod chars;
 pub mod decode;
+mod limits;
 pub mod names;
 pub mod strings;
+mod tokens;

@@ -1,3 +1,4 @@
 pub mod Scan
 pub mod Lists
+pub mod Bounds
 pub mod Order

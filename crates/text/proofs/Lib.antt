@@ -2,3 +2,13 @@
 pub mod Walks
 pub mod Laws
 pub mod Standing
+pub mod Fewer
+pub mod Induction
+pub mod Documents
+pub mod Spelling
+pub mod StringSpecimens
+pub mod TokenEnds
+pub mod TokenBytes
+pub mod Placing
+pub mod Outcomes
+pub mod Promise

@@ -4,17 +4,19 @@
 --     inside, after, alone           what is inside the first value stands from the next row on; what follows it, `below + 1` rows further
 --     stands-unique, value-unique    a table says which values stand in it: no two trees stand at one row and end before the same row
 --     filled-stands, table-stands    the table that reading leaves: the tree stands in it from row 0 on
---     Going and its laws             a walk along the values that stand between two rows
+--     start-at                       the place where a value starts is a word of its row
+--     Going, Keeping and their laws  a walk along the values that stand between two rows, and one that keeps what is known of them
 -- Assumes nothing.
-use Prim.Native.Nat.{ℕ, suc, _<_, _≤_, _+_, _-_, _*_}
+use Prim.Native.Nat.{ℕ, zero, suc, _<_, _≤_, _+_, _-_, _*_}
 use mathlib.Core.Path.{_≡_, refl, sym, ap, _∙_}
-use mathlib.Core.List.{List, [], _∷_, _++_, append-assoc}
+use mathlib.Core.List.{List, _++_, append-assoc}
+use native.Mathlib.Decide.{decLe}
 use native.Mathlib.Omega.{arith}
-use lib.ListN.{length, getD, drop, replicate, length-append, length-drop}
-use lib.Seq.{drop-drop, drop-at, getD-drop}
+use lib.ListN.{length, getD, drop, replicate, length-append, length-drop, List·getD-append}
+use lib.Seq.{drop-drop, drop-at, getD-drop, getD-append-add}
 use Rattle.laws.specs.Lists.{filled}
 use Rattle.text.specs.Limits.{rowWords}
-use Rattle.text.specs.Tree.{Bracket, square, curly, kindIn, Forest, none, leaf, node, size, rowsOf}
+use Rattle.text.specs.Tree.{Bracket, square, curly, kindIn, Forest, none, leaf, node, size, rowsOf, startsOf}
 use Rattle.text.specs.Standing.{Stands, StandsTo}
 use Rattle.text.specs.Firsts.{Some, kindAt, nameStart, nameEnd, startAt, endAt, insideAt, belowAt, restAt, firstOf, Kinds}
 use Rattle.text.specs.Reader.{good}
@@ -213,6 +215,44 @@ pub table-stands : {table : List ℕ} (words : ℕ) (f : Forest) (to : ℕ) → 
 unfolding tableOf
 table-stands words f to e = rw e (filled-stands words f)
 
+-- ---- where the values start ----
+
+starts-length : (f : Forest) → length (startsOf f) ≡ size f
+unfolding startsOf size
+starts-length none = refl
+starts-length (leaf kind ns ne from to rest) = omega (arith, starts-length rest)
+starts-length (node b ns ne from to inside rest) = simp length-append (omega (arith, starts-length inside, starts-length rest))
+
+-- the start of the i-th value from row k on, those inside others counted too, is the word of its row
+pub start-at : {t : List ℕ} {k end : ℕ} (f : Forest) → StandsTo t k end f → (i : ℕ) → i < size f → getD (startsOf f) i 0 ≡ getD t ((k + i) * rowWords + 3) 0
+unfolding startsOf size
+start-at none h i lt = absurd (omega arith)
+start-at {t} {k} {end} (leaf kind ns ne from to rest) h zero lt =
+    let place : k + 0 ≡ k = omega arith in
+    rw place (sym (row-at (leaf kind ns ne from to rest) tt (h .stands) .start))
+start-at {t} {k} {end} (leaf kind ns ne from to rest) h (suc i) lt =
+    let place : k + suc i ≡ k + 1 + 0 + i = omega arith in
+    rw place (start-at rest (after (leaf kind ns ne from to rest) tt h) i (omega arith))
+start-at {t} {k} {end} (node b ns ne from to within rest) h zero lt =
+    let place : k + 0 ≡ k = omega arith in
+    rw place (sym (row-at (node b ns ne from to within rest) tt (h .stands) .start))
+start-at {t} {k} {end} (node b ns ne from to within rest) h (suc i) lt = elim (decLe (size within) i) [
+  | yes le ↦
+      let f : Forest = node b ns ne from to within rest in
+      let place : k + suc i ≡ k + 1 + size within + (i - size within) = omega arith in
+      let n = starts-length within in
+      let split : i ≡ length (startsOf within) + (i - size within) = omega arith in
+      ap (λ (j : ℕ). getD (startsOf within ++ startsOf rest) j 0) split
+      ∙ getD-append-add (startsOf within) (startsOf rest) (i - size within) 0
+      ∙ rw place (start-at rest (after f tt h) (i - size within) (omega arith))
+  | no le ↦
+      let f : Forest = node b ns ne from to within rest in
+      let place : k + suc i ≡ k + 1 + i = omega arith in
+      let n = starts-length within in
+      List·getD-append (startsOf within) (startsOf rest) 0 i (omega arith)
+      ∙ rw place (start-at within (inside f tt (h .stands)) i (omega arith))
+]
+
 -- ---- a walk ----
 
 -- A walk along the values from row `from` to row `end`, now at row `at`: what f says of the values from the start it says of those that are left.
@@ -245,3 +285,32 @@ module _ {A : Type 0} (t : List ℕ) (from end : ℕ) (f : Forest → A) where
     -- the end
     pub ended : end ≤ at → (vs : Forest) → StandsTo t from end vs → f none ≡ f vs
     ended le vs s = rw (g vs s .2, none-at (g vs s .0) (g vs s .1) le)
+
+-- The same where something is known of the values from the start, P, which those that are left keep.
+module _ {A : Type 0} (P : Forest → Type 0) (keep : (ws : Forest) → Some ws → P ws → P (restAt ws)) (t : List ℕ) (from end : ℕ) (f : Forest → A) where
+  abbrev pub Keeping : ℕ → Type 0
+  Keeping at = (vs : Forest) → P vs → StandsTo t from end vs → (ws : Forest) × P ws × StandsTo t at end ws × (f vs ≡ f ws)
+
+  pub keeps-start : Keeping from
+  keeps-start vs p s = (vs, p, s, refl)
+
+  module _ (at : ℕ) (g : Keeping at) where
+    pub keeps-here : (vs : Forest) → P vs → StandsTo t from end vs → at < end → (ws : Forest) × Some ws × P ws × StandsTo t at end ws × (f vs ≡ f ws)
+    keeps-here vs p s lt = let (ws, q, h, e) = g vs p s in (ws, some-at ws h lt, q, h, e)
+
+    pub keeps-on : at < end → ((ws : Forest) → Some ws → P ws → StandsTo t at end ws → f ws ≡ f (restAt ws)) → (n : ℕ)
+        → n ≡ getD t (at * rowWords + 5) 0 → Keeping (at + 1 + n)
+    keeps-on lt step n e vs p s =
+        let (ws, z, q, h, x) = keeps-here vs p s lt in
+        (restAt ws, keep ws z q, rw (e ∙ row-at ws z (h .stands) .below) (after ws z h), x ∙ step ws z q h)
+
+    pub keeps-hit : at < end → (r : A) → ((ws : Forest) → Some ws → P ws → StandsTo t at end ws → r ≡ f ws) → (vs : Forest) → P vs
+        → StandsTo t from end vs → r ≡ f vs
+    keeps-hit lt r this vs p s = let (ws, z, q, h, x) = keeps-here vs p s lt in this ws z q h ∙ sym x
+
+    pub keeps-any : at < end → (Q : A → Type 0) → ((ws : Forest) → Some ws → P ws → StandsTo t at end ws → Q (f ws)) → (vs : Forest) → P vs
+        → StandsTo t from end vs → Q (f vs)
+    keeps-any lt Q this vs p s = let (ws, z, q, h, x) = keeps-here vs p s lt in rw x (this ws z q h)
+
+    pub keeps-ended : end ≤ at → (vs : Forest) → P vs → StandsTo t from end vs → f none ≡ f vs
+    keeps-ended le vs p s = let (ws, q, h, x) = g vs p s in rw (x, none-at ws h le)

@@ -3,6 +3,7 @@ pub mod Text
 pub mod Chars
 pub mod Strings
 pub mod Spelling
+pub mod Broken
 pub mod Sheet
 pub mod Tokens
 pub mod Tree
@@ -11,4 +12,8 @@ pub mod Firsts
 pub mod Reader
 pub mod Whole
 pub mod Doc
+pub mod Distinct
+pub mod Placed
+pub mod Promised
 pub mod Writing
+pub mod Fewer

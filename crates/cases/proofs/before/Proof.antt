@@ -1,0 +1,55 @@
+-- `cases::before` meets its contract: the place stays inside the line. Assumes nothing.
+use mathlib.Core.List.{List}
+use mathlib.Core.Path.{sym}
+use Prim.Native.Nat.{ℕ, _≤_, _-_}
+use lib.ListN.{length}
+use lib.Seq.{length-take-le}
+use denote.Ref.{now}
+use Rattle.io.specs.Counts.{Counts}
+use borrow.Author.Needs.{needs}
+use Rattle.cases.proofs.before.Statement.{statement}
+use Rattle.cases.proofs.before.Tie as tie
+
+counted : (line : List ℕ) (at : ℕ) → at ≤ length line → Counts at line
+counted line at h = (h, sym (length-take-le at line h))
+
+abbrev Inv-loop : tie.InvT-loop
+Inv-loop line byte at₀ at = at ≤ length line
+
+abbrev μ-loop : tie.MeasureT-loop
+μ-loop line byte at₀ at = length line - at
+
+loop-holds : tie.Need-loop-holds Inv-loop μ-loop
+loop-holds c = search needs
+
+shared-slice-read-if1 : tie.Need-shared-slice-read-if1 Inv-loop μ-loop
+shared-slice-read-if1 c = search needs
+
+add-at : tie.Need-add-at Inv-loop μ-loop
+add-at c = search needs
+
+loop-less : tie.Need-loop-less Inv-loop μ-loop
+loop-less c = search needs
+
+loop-again : tie.Need-loop-again Inv-loop μ-loop
+loop-again c = search needs
+
+returns : tie.Need-returns Inv-loop μ-loop
+returns c = counted (now (c .before .before .args .line)) (c .before .loop .at) (c .before .loop .inv)
+
+returns-2 : tie.Need-returns-2 Inv-loop μ-loop
+returns-2 c = counted (now (c .before .before .before .before .args .line)) (c .before .before .before .loop .at) (c .before .before .before .loop .inv)
+
+pub before-spec : {M : Type 1} → statement M
+before-spec =
+    tie.close
+    (tie.spec
+    Inv-loop
+    μ-loop
+    loop-holds
+    shared-slice-read-if1
+    add-at
+    loop-less
+    loop-again
+    returns
+    returns-2)

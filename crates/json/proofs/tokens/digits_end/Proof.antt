@@ -1,0 +1,43 @@
+-- `json::tokens::digits_end` meets its contract: the digits from `at` on end where those from `from` on end. Assumes nothing.
+use mathlib.Core.Path.{_≡_, refl, sym, _∙_}
+use Prim.Native.Nat.{_-_}
+use native.Mathlib.Omega.{arith}
+use lib.ListN.{length}
+use borrow.Author.Needs.{needs}
+use Rattle.text.specs.Tokens.{isDigit, digitsEnd}
+use Rattle.text.proofs.TokenEnds.{run-byte, digits-on, digits-end}
+use Rattle.json.proofs.tokens.digits_end.Statement.{statement}
+use Rattle.json.proofs.tokens.digits_end.Tie as tie
+
+abbrev Inv-loop : tie.InvT-loop
+Inv-loop text from at₀ at = digitsEnd text at ≡ digitsEnd text from
+
+abbrev μ-loop : tie.MeasureT-loop
+μ-loop text from at₀ at = length text - at
+
+loop-holds : tie.Need-loop-holds Inv-loop μ-loop
+loop-holds c = refl
+
+digit-at-requires : tie.Need-digit-at-requires Inv-loop μ-loop
+digit-at-requires c κs = search needs
+
+add-at : tie.Need-add-at Inv-loop μ-loop
+add-at c =
+    omega (arith, run-byte isDigit (c .before .before .before .before .args .text .now) refl (c .before .before .loop .at) (sym (c .before .digit-at .ensures) ∙ c .if1 .taken))
+
+loop-less : tie.Need-loop-less Inv-loop μ-loop
+loop-less c =
+    omega (arith, run-byte isDigit (c .before .before .before .before .args .text .now) refl (c .before .before .loop .at) (sym (c .before .digit-at .ensures) ∙ c .if1 .taken))
+
+loop-again : tie.Need-loop-again Inv-loop μ-loop
+loop-again c =
+    sym (digits-on (c .before .before .before .before .args .text .now) (c .before .before .loop .at) (sym (c .before .digit-at .ensures) ∙ c .if1 .taken)) ∙ c .before .before .loop .inv
+
+returns : tie.Need-returns Inv-loop μ-loop
+returns c =
+    sym (digits-end (c .before .before .before .before .args .text .now) (c .before .before .loop .at) (sym (c .before .digit-at .ensures) ∙ c .if1 .left)) ∙ c .before .before .loop .inv
+
+pub digits-end-spec : {M : Type 1} → statement M
+digits-end-spec =
+    tie.close
+    (tie.spec Inv-loop μ-loop loop-holds digit-at-requires add-at loop-less loop-again returns)

@@ -1,0 +1,76 @@
+-- `json::tokens::number` meets its contract: each part where the one before it ends. Assumes nothing.
+use mathlib.Core.Path.{_≡_, refl}
+use mathlib.Core.Logic.{⊎-elim}
+use Prim.Native.Nat.{ℕ}
+use native.Mathlib.Omega.{arith}
+use borrow.Author.Needs.{needs}
+use Rattle.text.specs.declared.Token.{Token}
+use Rattle.text.specs.declared.Token.the-variants.{End, No2, No3}
+use Rattle.text.specs.Tokens.{thenAt, fracAt, expAt, numberAt}
+use Rattle.json.proofs.tokens.number.Statement.{statement}
+use Rattle.json.proofs.tokens.number.Tie as tie
+
+-- what has not ended is the answer, whatever should follow
+first-stopped : (c : tie.At-match-keys2) (f : ℕ → Token) → c .before .int .result ≡ thenAt f (c .before .int .result)
+first-stopped c f = go (c .before .int .result) refl
+  where
+    go : (w : Token) → c .before .int .result ≡ w → w ≡ thenAt f w
+    go (End to) e = absurd (⊎-elim (λ x. omega arith) (λ x. omega arith) (rw e at (c .match .keys2)))
+    go (No2 p) e = refl
+    go (No3 p) e = refl
+
+then-stopped : (c : tie.At-match2-keys2) (f : ℕ → Token) → c .before .frac .result ≡ thenAt f (c .before .frac .result)
+then-stopped c f = go (c .before .frac .result) refl
+  where
+    go : (w : Token) → c .before .frac .result ≡ w → w ≡ thenAt f w
+    go (End to) e = absurd (⊎-elim (λ x. omega arith) (λ x. omega arith) (rw e at (c .match2 .keys2)))
+    go (No2 p) e = refl
+    go (No3 p) e = refl
+
+minus-end-requires : tie.Need-minus-end-requires
+minus-end-requires c κs = search needs
+
+int-requires : tie.Need-int-requires
+int-requires c κs = search needs
+
+enum-known-whole : tie.Need-enum-known-whole
+enum-known-whole c = search needs
+
+returns : tie.Need-returns
+unfolding numberAt
+returns c =
+    let s = first-stopped c (fracAt (c .before .before .before .before .args .text .now)) in
+    rw (← c .before .before .minus-end .ensures, ← c .before .int .ensures, ← s) (first-stopped c (expAt (c .before .before .before .before .args .text .now)))
+
+frac-requires : tie.Need-frac-requires
+frac-requires c κs = search needs
+
+enum-known-part : tie.Need-enum-known-part
+enum-known-part c = search needs
+
+returns-2 : tie.Need-returns-2
+unfolding numberAt
+returns-2 c =
+    rw (← c .before .before .before .before .before .before .minus-end .ensures, ← c .before .before .before .before .before .int .ensures, c .before .before .before .whole .given .1, ← c .before .frac .ensures) (then-stopped c (expAt (c .before .before .before .before .before .before .before .before .args .text .now)))
+
+exp-requires : tie.Need-exp-requires
+exp-requires c κs = search needs
+
+returns-3 : tie.Need-returns-3
+unfolding numberAt
+returns-3 c =
+    rw (← c .before .before .before .before .before .before .before .before .before .minus-end .ensures, ← c .before .before .before .before .before .before .before .before .int .ensures, c .before .before .before .before .before .before .whole .given .1, ← c .before .before .before .before .frac .ensures, c .before .before .part .given .1) (c .exp .ensures)
+
+pub number-spec : {M : Type 1} → statement M
+number-spec =
+    tie.close
+    (tie.spec
+    minus-end-requires
+    int-requires
+    enum-known-whole
+    returns
+    frac-requires
+    enum-known-part
+    returns-2
+    exp-requires
+    returns-3)

@@ -1,0 +1,189 @@
+// White space, and the tokens of the values that hold no others: literals, numbers, strings.
+use crate::bytes::peek;
+use crate::strings::string_end;
+use text::Token;
+ghost use mathlib.Core.Path.{_≡_};
+ghost use Prim.Native.Nat.{_≤_};
+ghost use lib.ListN.{length};
+ghost use Rattle.text.specs.Text.{byteAt};
+ghost use Rattle.text.specs.Tokens as tokens;
+
+// Does white space stand at a place?
+fn space_at(text: &[u8], at: usize) -> bool
+    ensures { λ r. ⌜ r ≡ tokens.isSpace (byteAt (now (text .entry)) at) ⌝ }
+{
+    let b = peek(text, at);
+    if b == 32 {
+        return true;
+    }
+    if b == 9 {
+        return true;
+    }
+    if b == 10 {
+        return true;
+    }
+    b == 13
+}
+
+// Does a digit stand at a place?
+fn digit_at(text: &[u8], at: usize) -> bool
+    ensures { λ r. ⌜ r ≡ tokens.isDigit (byteAt (now (text .entry)) at) ⌝ }
+{
+    let b = peek(text, at);
+    if b < 48 {
+        return false;
+    }
+    b < 58
+}
+
+// The place after the white space from a place on.
+pub(crate) fn skip(text: &[u8], from: usize) -> usize
+    ensures { λ r. ⌜ r ≡ tokens.skip (now (text .entry)) from ⌝ }
+{
+    let mut at = from;
+    while space_at(text, at) {
+        at += 1;
+    }
+    at
+}
+
+// The place after the digits from a place on.
+fn digits_end(text: &[u8], from: usize) -> usize
+    ensures { λ r. ⌜ r ≡ tokens.digitsEnd (now (text .entry)) from ⌝ }
+{
+    let mut at = from;
+    while digit_at(text, at) {
+        at += 1;
+    }
+    at
+}
+
+// The bytes of a word.
+fn word(text: &[u8], lit: &[u8], from: usize) -> Token
+    ensures { λ r. ⌜ r ≡ tokens.wordAt (now (text .entry)) (now (lit .entry)) from ⌝ }
+{
+    let mut at = from;
+    let mut i: usize = 0;
+    loop {
+        let want = peek(lit, i);
+        if want == 256 {
+            return Token::End(at);
+        }
+        let b = peek(text, at);
+        if b != want {
+            return Token::No2(at);
+        }
+        at += 1;
+        i += 1;
+    }
+}
+
+// One digit or more.
+fn digits(text: &[u8], at: usize) -> Token
+    ensures { λ r. ⌜ r ≡ tokens.digitsAt (now (text .entry)) at ⌝ }
+{
+    if digit_at(text, at) {
+        return Token::End(digits_end(text, at + 1));
+    }
+    Token::No2(at)
+}
+
+// The place after a minus, if there is one.
+fn minus_end(text: &[u8], at: usize) -> usize
+    ensures { λ r. ⌜ r ≡ tokens.minusEnd (now (text .entry)) at ⌝ }
+{
+    if peek(text, at) == 45 { at + 1 } else { at }
+}
+
+// A number's whole part: a zero, or digits that start with no zero.
+fn int(text: &[u8], at: usize) -> Token
+    ensures { λ r. ⌜ r ≡ tokens.intAt (now (text .entry)) at ⌝ }
+{
+    if peek(text, at) == 48 {
+        return Token::End(at + 1);
+    }
+    digits(text, at)
+}
+
+// A number's fraction, if there is one.
+fn frac(text: &[u8], at: usize) -> Token
+    ensures { λ r. ⌜ r ≡ tokens.fracAt (now (text .entry)) at ⌝ }
+{
+    if peek(text, at) == 46 {
+        return digits(text, at + 1);
+    }
+    Token::End(at)
+}
+
+// The place after a sign of the exponent, if there is one.
+fn sign_end(text: &[u8], at: usize) -> usize
+    ensures { λ r. ⌜ r ≡ tokens.signEnd (now (text .entry)) at ⌝ }
+{
+    let b = peek(text, at);
+    if b == 45 {
+        return at + 1;
+    }
+    if b == 43 {
+        return at + 1;
+    }
+    at
+}
+
+// A number's exponent, if there is one.
+fn exp(text: &[u8], at: usize) -> Token
+    ensures { λ r. ⌜ r ≡ tokens.expAt (now (text .entry)) at ⌝ }
+{
+    let b = peek(text, at);
+    if b == 101 {
+        return digits(text, sign_end(text, at + 1));
+    }
+    if b == 69 {
+        return digits(text, sign_end(text, at + 1));
+    }
+    Token::End(at)
+}
+
+fn number(text: &[u8], at: usize) -> Token
+    ensures { λ r. ⌜ r ≡ tokens.numberAt (now (text .entry)) at ⌝ }
+{
+    let whole = int(text, minus_end(text, at));
+    let Token::End(point) = whole else {
+        return whole;
+    };
+    let part = frac(text, point);
+    let Token::End(e) = part else {
+        return part;
+    };
+    exp(text, e)
+}
+
+// The kind that a first byte begins, or 0.
+pub(crate) fn kind_of(b: u16) -> usize
+    ensures { λ r. ⌜ r ≡ tokens.kindBy b ⌝ }
+{
+    match b {
+        110 => 1,
+        102 => 2,
+        116 => 3,
+        45 => 4,
+        34 => 5,
+        91 => 6,
+        123 => 7,
+        48..=57 => 4,
+        _ => 0,
+    }
+}
+
+// The token of a kind from 1 to 5 whose first byte stands at a place.
+pub(crate) fn token_end(text: &[u8], kind: usize, at: usize) -> Token
+    requires { ⌜ at ≤ length (now text) ⌝ }
+    ensures { λ r. ⌜ r ≡ tokens.tokenAt (now (text .entry)) kind at ⌝ }
+{
+    match kind {
+        1 => word(text, b"null", at),
+        2 => word(text, b"false", at),
+        3 => word(text, b"true", at),
+        4 => number(text, at),
+        _ => string_end(text, at + 1),
+    }
+}

@@ -1,0 +1,43 @@
+-- Parts of a list (specs/Lists.antt), element by element:
+--     part-none, part-more     a part from a place to itself is empty; any other has the element at its start, and then the part from the next place on
+--     part-getD                an element of a part is one of the list
+--     part-part                a part of a part is a part of the list
+-- Assumes nothing.
+use Prim.Native.Nat.{ℕ, suc, _+_, _-_, _≤_, _<_}
+use mathlib.Core.Path.{_≡_, sym, _∙_}
+use mathlib.Core.List.{List, [], _∷_}
+use native.Mathlib.Nat.{add-assoc}
+use native.Mathlib.Omega.{arith}
+use lib.ListN.{length, getD}
+use lib.Seq.{getD-take, getD-drop, ext-getD}
+use borrow.Author.Tests.{le-leb}
+use Rattle.laws.specs.Lists.{partOf}
+use Rattle.laws.proofs.Places.{drop-byte}
+use Rattle.laws.proofs.Splits.{length-part}
+
+pub part-none : (l : List ℕ) (i : ℕ) → i ≤ length l → partOf l i i ≡ []
+unfolding partOf
+part-none l i h = let n : i - i ≡ 0 = omega arith in rw (le-leb i (length l) h, le-leb i i (omega arith), n)
+
+pub part-more : (l : List ℕ) (i e : ℕ) → i < e → e ≤ length l → partOf l i e ≡ getD l i 256 ∷ partOf l (i + 1) e
+unfolding partOf
+part-more l i e h k =
+    let n : e - i ≡ suc (e - (i + 1)) = omega arith in
+    rw (le-leb e (length l) k, le-leb i e (omega arith), le-leb (i + 1) e (omega arith), n, drop-byte l i (omega arith))
+
+pub part-getD : (l : List ℕ) (i e k d : ℕ) → e ≤ length l → i + k < e → getD (partOf l i e) k d ≡ getD l (i + k) d
+unfolding partOf
+part-getD l i e k d h lt =
+    rw (le-leb e (length l) h, le-leb i e (omega arith), getD-take (e - i) _ k d (omega arith), getD-drop)
+
+module _ (l : List ℕ) (a e i j : ℕ) (h : a ≤ e) (k : e ≤ length l) (p : i ≤ j) (q : j ≤ e - a) where
+  pub part-part : partOf (partOf l a e) i j ≡ partOf l (a + i) (a + j)
+  part-part =
+      let n = length-part l a e h k in
+      let m = length-part (partOf l a e) i j p (omega arith) in
+      let o = length-part l (a + i) (a + j) (omega arith) (omega arith) in
+      ext-getD 0 (partOf (partOf l a e) i j) (partOf l (a + i) (a + j)) (omega arith)
+      (λ x lt.
+      part-getD (partOf l a e) i j x 0 (omega arith) (omega arith)
+      ∙ part-getD l a e (i + x) 0 k (omega arith)
+      ∙ rw (sym (add-assoc a i x)) (sym (part-getD l (a + i) (a + j) x 0 (omega arith) (omega arith))))

@@ -1,0 +1,225 @@
+-- The reading layer's promise: the one file on which the layers above rely. What is passed on here is all that they may ask of a text that was read.
+--
+-- An answer and a table that meet reading's contract, `paper r ≡ sheetOf (wholeOf L words t)` and `table ≡ tableOf words (wholeOf L words t)`:
+--     rows-tree             after `Rows n` there is one tree of n values whose rows are the table's first n (`Filled`, specs/Promised.antt): one root,
+--                           that stands in the text (`Placed`, specs/Placed.antt), names distinct, limits kept
+--     refusal-is            after `Refused r` the definition refuses with r, and the table is zero
+--     paper-unique, refused-unique, answer-is, same-outcome      the answer and the table are determined
+--
+-- The values that stand in a table from a row on, first value first (specs/Standing.antt, specs/Firsts.antt):
+--     row-at                its six words: kind, name start and end, start and end, number of values below; and the row is inside the table
+--     inside                what is inside it stands from the next row on, `below` rows
+--     next, after, within   what follows it stands `below + 1` rows further, and ends before the same row
+--     alone                 it stands there by itself, whatever follows
+--     some-at, none-at      there is a value before the end of the rows, and none at it
+--     start-at              the start of each value, by its row
+--     stands-unique, value-unique      a table has one tree only
+--     rows-length           six words to a value
+--     Going .., Keeping ..  walks along the values between two rows
+--
+-- The same values in the text:
+--     spot, bounds          its name's places, that it is not empty, inside the text and between the places around it; its first byte begins its kind
+--     next-after            it ends before the next one starts
+--     elements-at, members-at          what is inside an array or an object stands strictly within it
+--     rest-at, keep-placed  what follows it is placed too
+--     name-at, no-name-at   a member's name stands in quotes, before its value, and spells; elements and the root have the name 0, 0
+--     token-at, string-at, number-at   the bytes of a value by its kind; a string's inside spells
+--     placed-kinds          values that hold no others have kinds 1 to 5
+--
+-- The document of a text and its tree (specs/Doc.antt):
+--     doc-first             it is that of the first value alone
+--     doc-kind, doc-token, doc-scalar, doc-below, doc-array, doc-object      its kind, token and parts are those of the row
+--     members-first, members-none      the members, one value after the other
+--     content-part, label-part         the content of a string and a name as written are parts of the text
+--     count-root, count-doc, count-members      it has as many values as the tree
+-- Assumes nothing.
+use Prim.Native.Nat.{ℕ, _*_, _≤_}
+use mathlib.Core.Path.{_≡_, refl, ap, _∙_}
+use mathlib.Core.List.{List, []}
+use mathlib.Core.Bool.{Bool, true, false, cond}
+use native.Mathlib.Omega.{arith}
+use lib.Dec.{ltb}
+use borrow.Author.Tests.{ltb-false}
+use Rattle.laws.specs.Lists.{filled}
+use Rattle.text.specs.Limits.{Limits}
+use Rattle.text.specs.Tree.{Bracket, Forest, size}
+use Rattle.text.specs.Firsts.{Some, endAt, restAt}
+use Rattle.text.specs.Placed.{Placed}
+use Rattle.text.specs.Promised.{Promised, Filled}
+use Rattle.text.specs.Reader.{Read, good, bad}
+use Rattle.text.specs.Tokens.{skip}
+use Rattle.text.specs.Whole.{readOf, fitOf, wholeOf, sheetOf, tableOf}
+use Rattle.text.specs.Sheet.{paper}
+use Rattle.text.specs.declared.Refusal.{Refusal}
+use Rattle.text.specs.declared.Refusal.the-variants.{Small}
+use Rattle.text.specs.declared.Reading.the-variants.{Rows, Refused}
+use Rattle.text.proofs.Induction.{read-accepted}
+use Rattle.text.proofs.Fewer.{value-fits}
+use Rattle.text.proofs.Placing.{placed-text, single-value}
+use Rattle.text.proofs.Documents.{distinct-names}
+pub use Rattle.text.proofs.Outcomes.{paper-unique, refused-unique, answerOf, answer-is, Outcome, same-outcome}
+pub use Rattle.text.proofs.Standing.{
+  rows-length,
+  RowAt,
+  row-at,
+  inside,
+  next,
+  alone,
+  first-and-rest,
+  first-size,
+  after,
+  within,
+  some-at,
+  none-at,
+  stands-unique,
+  value-unique,
+  filled-stands,
+  table-stands,
+  start-at,
+  Going,
+  started,
+  here,
+  go-on,
+  hit,
+  hit-any,
+  ended,
+  Keeping,
+  keeps-start,
+  keeps-here,
+  keeps-on,
+  keeps-hit,
+  keeps-any,
+  keeps-ended,
+}
+pub use Rattle.text.proofs.Placing.{
+  in-order,
+  token-kind,
+  placed-kinds,
+  Within,
+  spot,
+  bounds,
+  next-after,
+  token-at,
+  string-at,
+  number-at,
+  elements-at,
+  members-at,
+  rest-at,
+  name-at,
+  no-name-at,
+}
+pub use Rattle.text.proofs.Documents.{
+  doc-first,
+  doc-kind,
+  doc-token,
+  doc-scalar,
+  doc-below,
+  doc-array,
+  doc-object,
+  members-first,
+  members-none,
+  content-part,
+  label-part,
+  count-members,
+  count-doc,
+  count-root,
+}
+
+-- ---- a text that is read ----
+
+pub promised : (L : Limits) (t : List ℕ) (f : Forest) (to : ℕ) → readOf L t ≡ good f to → Promised L t f
+promised L t f to e =
+    let a = read-accepted L t f to e in
+    let one = single-value L t (L .depth) 0 0 (skip t 0) 0 f (a .end) (a .value) in
+    let count = value-fits L t (L .depth) 0 0 (skip t 0) 0 f (a .end) (a .value) in
+    record {
+      some = one .some;
+      alone = one .alone;
+      placed = placed-text L t f to e;
+      distinct = λ u. distinct-names L t u f to e;
+      short = a .short;
+      few = omega arith;
+    }
+
+-- ---- a text that is read for a table ----
+
+-- it is read, and the rows have room
+pub record Fits (L : Limits) (words : ℕ) (t : List ℕ) (f : Forest) (to : ℕ) : Type 0 where
+  pub read : readOf L t ≡ good f to
+  pub room : L .words * size f ≤ words
+
+pub whole-good : (L : Limits) (words : ℕ) (t : List ℕ) (f : Forest) (to : ℕ) → wholeOf L words t ≡ good f to → Fits L words t f to
+unfolding wholeOf fitOf
+whole-good L words t f to e = go (readOf L t) refl e
+  where
+    fit : (g : Forest) (end : ℕ) → readOf L t ≡ good g end → (x : Bool) → ltb words (L .words * size g) ≡ x
+        → cond x (bad (Small (size g))) (good g end) ≡ good f to → Fits L words t f to
+    fit g end h true l p = let z : _≡_ {A = ℕ} 0 1 = cc in absurd (omega arith)
+    fit g end h false l p =
+        let same : g ≡ f = cc in
+        let room = ltb-false words (L .words * size g) l in
+        record { read = h ∙ p; room = rw (← same) room }
+
+    go : (r : Read) → readOf L t ≡ r → fitOf L words r ≡ good f to → Fits L words t f to
+    go (bad r) h q = let z : _≡_ {A = ℕ} 0 1 = cc in absurd (omega arith)
+    go (good g end) h q = fit g end h (ltb words (L .words * size g)) refl q
+
+-- an answer and a table that meet reading's contract
+module _ (L : Limits) (words : ℕ) (t table : List ℕ) (is : table ≡ tableOf words (wholeOf L words t)) where
+  -- accepted: the tree, and what is promised of it
+  pub record Tabled (n : ℕ) : Type 0 where
+    pub tree : Forest
+    pub end : ℕ
+    pub whole : wholeOf L words t ≡ good tree end
+    pub count : size tree ≡ n
+    pub room : L .words * n ≤ words
+    pub filled-by : Filled L t table n tree
+
+  tabled : (f : Forest) (to : ℕ) → wholeOf L words t ≡ good f to → Tabled (size f)
+  tabled f to w =
+      let fits = whole-good L words t f to w in
+      record {
+        tree = f;
+        end = to;
+        whole = w;
+        count = refl;
+        room = fits .room;
+        filled-by = record { promised = promised L t f to (fits .read); stands = table-stands words f to (is ∙ ap (tableOf words) w) };
+      }
+
+  pub rows-tree : (n : ℕ) → paper (Rows n) ≡ sheetOf (wholeOf L words t) → Tabled n
+  rows-tree n e = go (wholeOf L words t) refl (answer-is (Rows n) (wholeOf L words t) e)
+    where
+      go : (r : Read) → wholeOf L words t ≡ r → Rows n ≡ answerOf (wholeOf L words t) → Tabled n
+      go (good f to) w q =
+          let answer : Rows n ≡ Rows (size f) = q ∙ ap answerOf w in
+          let same : n ≡ size f = cc in
+          rw same (tabled f to w)
+      go (bad r) w q =
+          let answer : Rows n ≡ Refused r = q ∙ ap answerOf w in
+          let z : _≡_ {A = ℕ} 0 1 = cc in
+          absurd (omega arith)
+
+  -- refused: the definition refuses so, and the table is zero
+  pub record Refuses (r : Refusal) : Type 0 where
+    pub whole : wholeOf L words t ≡ bad r
+    pub cleared : table ≡ filled words []
+
+  pub refusal-is : (r : Refusal) → paper (Refused r) ≡ sheetOf (wholeOf L words t) → Refuses r
+  unfolding tableOf
+  refusal-is r e = go (wholeOf L words t) refl (answer-is (Refused r) (wholeOf L words t) e)
+    where
+      go : (R : Read) → wholeOf L words t ≡ R → Refused r ≡ answerOf (wholeOf L words t) → Refuses r
+      go (good f to) w q =
+          let answer : Refused r ≡ Rows (size f) = q ∙ ap answerOf w in
+          let z : _≡_ {A = ℕ} 0 1 = cc in
+          absurd (omega arith)
+      go (bad s) w q =
+          let answer : Refused r ≡ Refused s = q ∙ ap answerOf w in
+          let same : s ≡ r = cc in
+          record { whole = w ∙ ap bad same; cleared = is ∙ ap (tableOf words) w }
+
+-- ---- for a walk that keeps where the values stand ----
+
+pub keep-placed : (t : List ℕ) (b : Bracket) (to : ℕ) (f : Forest) → Some f → (from : ℕ) × Placed t b f from to → (from : ℕ) × Placed t b (restAt f) from to
+keep-placed t b to f s (from, p) = (endAt f, rest-at p s)

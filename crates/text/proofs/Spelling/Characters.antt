@@ -1,0 +1,68 @@
+-- The step is right about one character:
+--     char-spelled, spelled-char     the step at i is c of n bytes exactly if the text has n bytes from i on, and they spell c
+--     within-text                    the same for a text that is put together of what comes before, the spelling and the rest
+--     one-char, one-length           so the character at a place is unique, and so is its length
+--     some-bytes                     a spelling has a byte
+-- No bound on the elements of the text is asked: what is no byte is taken as the end.
+-- Assumes nothing.
+use mathlib.Core.Path.{_≡_, refl, sym, ap, subst, _∙_}
+use mathlib.Core.List.{List, [], _++_}
+use Prim.Native.Nat.{ℕ, _+_, _≤_, _<_}
+use native.Mathlib.Omega.{arith}
+use lib.ListN.{length, take, drop, length-drop, take-append-drop}
+use lib.Seq.{take-at, length-take-le, drop-append-seam}
+use Rattle.laws.proofs.Splits.{within, at-seam}
+use Rattle.text.specs.Chars.{stepAt}
+use Rattle.text.specs.Spelling.{Spell}
+use Rattle.text.specs.declared.Step.{Step}
+use Rattle.text.specs.declared.Step.the-variants.{Char}
+use Rattle.text.proofs.Walks.{char-inside}
+use Rattle.text.proofs.Spelling.Taken.{spelled-step}
+use Rattle.text.proofs.Spelling.Steps.{CharAt, StandsAt, stands-at}
+
+pub char-at : (t : List ℕ) (i : ℕ) {c n : ℕ} → stepAt t i ≡ Char c n → CharAt t i c n
+char-at t i e = subst (StandsAt t i) e (stands-at t i)
+
+-- the text has n bytes from i on, and they spell c
+pub record Spelled (t : List ℕ) (i c n : ℕ) : Type 0 where
+  pub in-range : i + n ≤ length t
+  pub spelled : Spell (take n (drop i t)) c
+
+pub char-spelled : (t : List ℕ) (i c n : ℕ) → stepAt t i ≡ Char c n → Spelled t i c n
+char-spelled t i c n e =
+    let a = char-at t i e in
+    let l = char-inside t i e in
+    let m = a .size in
+    let in-text = within t i (a .bytes) (a .rest) (a .split) (omega arith) in
+    record { in-range = omega arith; spelled = rw (a .split, take-at (a .bytes) (a .rest) n m) (a .spelled) }
+
+pub spelled-char : (t : List ℕ) (i c n : ℕ) → Spelled t i c n → stepAt t i ≡ Char c n
+spelled-char t i c n s =
+    let h = s .in-range in
+    let size : length (take n (drop i t)) ≡ n = length-take-le n (drop i t) (simp length-drop (omega arith)) in
+    spelled-step t i (s .spelled) (drop n (drop i t)) (sym (take-append-drop n (drop i t))) ∙ ap (Char c) size
+
+pub within-text : (u w r : List ℕ) {c : ℕ} → Spell w c → stepAt (u ++ w ++ r) (length u) ≡ Char c (length w)
+within-text u w r s = spelled-step (u ++ w ++ r) (length u) s r (at-seam u w r)
+
+-- ---- the character at a place is unique ----
+
+at-first : {w : List ℕ} {c : ℕ} → Spell w c → (r : List ℕ) → stepAt (w ++ r) 0 ≡ Char c (length w)
+at-first {w} s r = spelled-step (w ++ r) 0 s r refl
+
+pub some-bytes : {w : List ℕ} {c : ℕ} → Spell w c → 0 < length w
+some-bytes {w} s = char-inside (w ++ []) 0 (at-first s []) .size .some
+
+module _ {v w : List ℕ} {c d : ℕ} (s : Spell v c) (p : Spell w d) (x y : List ℕ) (e : v ++ x ≡ w ++ y) where
+  both-steps : _≡_ {A = Step} (Char c (length v)) (Char d (length w))
+  both-steps = sym (at-first s x) ∙ ap (λ (t : List ℕ). stepAt t 0) e ∙ at-first p y
+
+  pub one-char : c ≡ d
+  one-char = let q = both-steps in cc
+
+  pub one-length : length v ≡ length w
+  one-length = let q = both-steps in cc
+
+  -- what follows it is the same, too
+  pub one-rest : x ≡ y
+  one-rest = sym (drop-append-seam v x) ∙ ap (drop (length v)) e ∙ rw one-length (drop-append-seam w y)

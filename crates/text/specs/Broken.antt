@@ -1,0 +1,30 @@
+-- What a string's refused place is, by rules and not by a reader: the beginning of a character that a byte can't continue (2), and what stands
+-- where a character should and is none (3). No step is named here. Assumes nothing: these are definitions.
+use Prim.Native.Nat.{ℕ, _≤_, _<_}
+use mathlib.Core.Path.{_≡_}
+use mathlib.Core.List.{List, [], _∷_, _++_}
+use lib.ListN.{length}
+use Rattle.text.specs.Spelling.{HexDigit, FourDigits, Short, Spell}
+
+-- some hexadecimal digits
+pub data HexDigits : List ℕ → Type 0 where
+  none : HexDigits []
+  more : {b v : ℕ} {w : List ℕ} → HexDigit b v → HexDigits w → HexDigits (b ∷ w)
+
+-- the beginning of a character and the byte after it, 256 at the end of the text, with which RFC 8259's grammar doesn't go on: a control or the
+-- end where a character must stand, no letter of an escape, no hexadecimal digit where one of four must stand
+pub data Cut : (begun : List ℕ) (next : ℕ) → Type 0 where
+  control : {b : ℕ} → b < 32 → Cut [] b
+  ended : {b : ℕ} → 256 ≤ b → Cut [] b
+  letter : {b : ℕ} → (b ≡ 117 → ⊥) → ((c : ℕ) → Short b c → ⊥) → Cut (92 ∷ []) b
+  digit : {w : List ℕ} {b : ℕ} → HexDigits w → length w < 4 → ((v : ℕ) → HexDigit b v → ⊥) → Cut (92 ∷ 117 ∷ w) b
+
+-- bytes that begin as only a character does: with a byte of 128 or more, or with a complete \u escape
+pub data Aims : List ℕ → Type 0 where
+  high : {b : ℕ} {r : List ℕ} → 128 ≤ b → b < 256 → Aims (b ∷ r)
+  escape : {w : List ℕ} {u : ℕ} → FourDigits w u → (r : List ℕ) → Aims (92 ∷ 117 ∷ w ++ r)
+
+-- 01: bytes that begin so, and with no character: ill-formed UTF-8, a surrogate that stands alone, a noncharacter
+pub record Ill (bytes : List ℕ) : Type 0 where
+  pub aims : Aims bytes
+  pub misses : (w r : List ℕ) (c : ℕ) → bytes ≡ w ++ r → Spell w c → ⊥

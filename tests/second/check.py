@@ -1,0 +1,48 @@
+"""Holds the second implementation to the rulings and specimens: python3 tests/second/check.py"""
+import sys
+
+import intake
+from rulings import OK, RULINGS, SPECIMENS
+
+
+def answer(case):
+    """What the second implementation says of a case, as (number, second, table, output)."""
+    if case["service"] == "localize":
+        number, second, written, table, output = intake.localize(case["text"], case["language"], case["words"], case["room"])
+        return number, second, table, output[:written] if number == 0 else output
+    number, second, table = getattr(intake, case["service"])(case["text"], case["words"])
+    return number, second, table, b""
+
+
+def fault(case):
+    """Why a case fails, or None."""
+    number, second, table, output = answer(case)
+    wanted = case["wanted"]
+    if number and (any(table) or any(output)):
+        return "not zero after a refusal"
+    if len(table) != case["words"]:
+        return "a table of another length"
+    if wanted == OK or isinstance(wanted, bytes):
+        if number:
+            return f"refused with {number} {second}"
+        return f"wrote {output}" if isinstance(wanted, bytes) and output != wanted else None
+    return None if (number, second) == wanted else f"answered {number} {second}"
+
+
+def main():
+    faults = 0
+    for case in RULINGS + SPECIMENS:
+        why = fault(case)
+        if why:
+            faults += 1
+            print(f"{case['service']} {case['text'][:200]!r}: {why}, wanted {case['wanted']}")
+    rows = intake.read(b'{"a":[1]}', 18)
+    if rows != (0, 3, [7, 0, 0, 0, 9, 2, 6, 2, 3, 5, 8, 1, 4, 0, 0, 6, 7, 0]):
+        faults += 1
+        print("the three rows:", rows)
+    print(f"{len(RULINGS)} inputs of rulings, {len(SPECIMENS) + 1} specimens, {faults} faults")
+    return 1 if faults else 0
+
+
+if __name__ == "__main__":
+    sys.exit(main())
