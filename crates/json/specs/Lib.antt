@@ -1,1 +1,3 @@
 pub mod Cursors
+pub mod Rows
+pub mod Parts

@@ -12,3 +12,4 @@ pub mod TokenBytes
 pub mod Placing
 pub mod Outcomes
 pub mod Promise
+pub mod Stores

@@ -1,0 +1,42 @@
+-- The words of a row, and what a row that is stored asks. Assumes nothing: these are definitions.
+use Prim.Native.Nat.{ℕ, _+_, _*_, _<_, _≤_}
+use mathlib.Core.List.{List, [], _∷_}
+use lib.ListN.{getD}
+use Rattle.text.specs.Limits.{rowWords}
+
+-- word i of row k of a table, and 0 where the table has it not
+abbrev pub wordOf : List ℕ → ℕ → ℕ → ℕ
+wordOf table k i = getD table (k * rowWords + i) 0
+
+-- 01's order of the words: kind, name start, name end, value start, value end, number of values below
+abbrev pub kindIn : List ℕ → ℕ → ℕ
+kindIn table k = wordOf table k 0
+
+abbrev pub nameStartIn : List ℕ → ℕ → ℕ
+nameStartIn table k = wordOf table k 1
+
+abbrev pub nameEndIn : List ℕ → ℕ → ℕ
+nameEndIn table k = wordOf table k 2
+
+abbrev pub startIn : List ℕ → ℕ → ℕ
+startIn table k = wordOf table k 3
+
+abbrev pub endIn : List ℕ → ℕ → ℕ
+endIn table k = wordOf table k 4
+
+abbrev pub belowIn : List ℕ → ℕ → ℕ
+belowIn table k = wordOf table k 5
+
+-- a number fits a word of 32 bits
+abbrev pub Word : ℕ → Type 0
+Word x = x < 4294967296
+
+-- a row has room in a table of so many words, and its own words fit
+pub record Row (words row kind ns ne from to below : ℕ) : Type 0 where
+  pub room : row * rowWords + rowWords ≤ words
+  pub kind-fits : Word kind
+  pub ns-fits : Word ns
+  pub ne-fits : Word ne
+  pub from-fits : Word from
+  pub to-fits : Word to
+  pub below-fits : Word below

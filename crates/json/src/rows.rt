@@ -1,0 +1,90 @@
+// Rows of a lent table. No other module knows which word of a row says what.
+use crate::limits::ROW_WORDS;
+ghost use mathlib.Core.Path.{_≡_};
+ghost use mathlib.Core.List.{[], _∷_};
+ghost use Prim.Native.Nat.{_*_, _<_};
+ghost use lib.ListN.{length};
+ghost use lib.Seq.{sets};
+ghost use Rattle.text.specs.Limits.{rowWords};
+ghost use Rattle.json.specs.Rows.{Row, wordOf, kindIn, nameStartIn, nameEndIn, startIn, endIn, belowIn};
+
+// Stores a row.
+pub(crate) fn put_row(
+    table: &mut [u32],
+    row: usize,
+    kind: usize,
+    ns: usize,
+    ne: usize,
+    from: usize,
+    to: usize,
+    below: usize,
+)
+    requires { ⌜ Row (length (now table)) row kind ns ne from to below ⌝ }
+    ensures { λ _. ⌜ now (table .exit) ≡ sets (now (table .entry)) (row * rowWords) (kind ∷ ns ∷ ne ∷ from ∷ to ∷ below ∷ []) ⌝ }
+{
+    let at = row * ROW_WORDS;
+    table[at] = kind as u32;
+    table[at + 1] = ns as u32;
+    table[at + 2] = ne as u32;
+    table[at + 3] = from as u32;
+    table[at + 4] = to as u32;
+    table[at + 5] = below as u32;
+}
+
+// A word of a row, or 0 where the table has it not.
+fn word(table: &[u32], row: usize, i: usize) -> usize
+    requires { ⌜ i < rowWords ⌝ }
+    ensures { λ r. ⌜ r ≡ wordOf (now (table .entry)) row i ⌝ }
+{
+    if table.len() <= row {
+        return 0;
+    }
+    let at = row * ROW_WORDS + i;
+    if at < table.len() {
+        table[at] as usize
+    } else {
+        0
+    }
+}
+
+// A value's kind: 1 null, 2 false, 3 true, 4 number, 5 string, 6 array, 7 object; 0 past the table's end.
+pub fn kind(table: &[u32], row: usize) -> usize
+    ensures { λ r. ⌜ r ≡ kindIn (now (table .entry)) row ⌝ }
+{
+    word(table, row, 0)
+}
+
+// Where its name starts, after the quote.
+pub fn name_start(table: &[u32], row: usize) -> usize
+    ensures { λ r. ⌜ r ≡ nameStartIn (now (table .entry)) row ⌝ }
+{
+    word(table, row, 1)
+}
+
+// Where its name ends, before the quote.
+pub fn name_end(table: &[u32], row: usize) -> usize
+    ensures { λ r. ⌜ r ≡ nameEndIn (now (table .entry)) row ⌝ }
+{
+    word(table, row, 2)
+}
+
+// Where it starts itself.
+pub fn value_start(table: &[u32], row: usize) -> usize
+    ensures { λ r. ⌜ r ≡ startIn (now (table .entry)) row ⌝ }
+{
+    word(table, row, 3)
+}
+
+// Where it ends.
+pub fn value_end(table: &[u32], row: usize) -> usize
+    ensures { λ r. ⌜ r ≡ endIn (now (table .entry)) row ⌝ }
+{
+    word(table, row, 4)
+}
+
+// How many values are below it.
+pub fn below(table: &[u32], row: usize) -> usize
+    ensures { λ r. ⌜ r ≡ belowIn (now (table .entry)) row ⌝ }
+{
+    word(table, row, 5)
+}
