@@ -6,3 +6,7 @@ pub mod Times
 pub mod Words
 pub mod Columns
 pub mod Search
+pub mod Roles
+pub mod Along
+pub mod Members
+pub mod Separators

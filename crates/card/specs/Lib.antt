@@ -1,2 +1,4 @@
 pub mod Types
 pub mod Table
+pub mod Rows
+pub mod Marks

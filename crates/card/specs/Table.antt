@@ -2,11 +2,11 @@
 use Prim.Native.Nat.{ℕ, _-_, _/_, _%_, _≤_}
 use mathlib.Core.Path.{_≡_}
 use mathlib.Core.List.{List, [], _∷_, _++_, map}
-use mathlib.Core.Bool.{Bool, false, cond}
+use mathlib.Core.Bool.{Bool, false, not, cond, _&&_}
 use lib.ListN.{length, take, drop}
 use lib.Dec.{eqb}
 use Rattle.laws.specs.Order.{same}
-use Rattle.text.specs.Doc.{Name}
+use Rattle.text.specs.Doc.{Name, Members, seek, isThere}
 use Rattle.contact.specs.Schema.{ObjectType, card, name, nameComponent, address, addressComponent, emailAddress, phone, any, Known, properties}
 use Rattle.card.specs.Types.{numberOf, typeAt}
 
@@ -37,8 +37,8 @@ pub record Entry : Type 0 where
 abbrev pub entriesOf : ObjectType → List Entry
 entriesOf o = map (λ (k : Known). record { owner = o; known = k }) (properties o)
 
-unfoldable pub table : List Entry
-table =
+unfoldable pub entries : List Entry
+entries =
     entriesOf card
     ++ entriesOf name
     ++ entriesOf nameComponent
@@ -56,6 +56,10 @@ isOwned o e = eqb (numberOf (e .owner)) (numberOf o)
 -- the entry of the property of that name
 abbrev pub isProperty : ObjectType → Name → Entry → Bool
 isProperty o n e = cond (isOwned o e) (same n (e .known .spelling)) false
+
+-- the entry of a mandatory property that is not among the members
+abbrev pub isMissing : ObjectType → Members → Entry → Bool
+isMissing o ms e = cond (isOwned o e) (e .known .mandatory && not (isThere (seek (e .known .spelling) ms))) false
 
 -- the code counts them too, and a law says that they agree
 abbrev pub count : ℕ

@@ -1,19 +1,22 @@
 -- What the code's types stand for. Assumes nothing: these are definitions.
 use Prim.Native.Nat.{ℕ, _-_, _/_, _%_}
+use mathlib.Core.Path.{_≡_}
 use mathlib.Core.List.{List}
 use mathlib.Core.Bool.{cond}
 use lib.Dec.{leb, eqb}
 use Rattle.text.specs.Text.{bytes}
 use Rattle.contact.specs.Schema.{ObjectType, card, name, nameComponent, address, addressComponent, emailAddress, phone, anyString, exactly, flag, yes, count, time, free, ids, any, simple, objectOf, listOf, mapOf}
 use Rattle.contact.specs.Schema as S
-use Rattle.card.specs.declared.schema.Object.{Object}
-use Rattle.card.specs.declared.schema.Object.the-variants.{Card, Name, NameComponent, Address, AddressComponent, EmailAddress, Phone}
-use Rattle.card.specs.declared.schema.Keys.{Keys}
-use Rattle.card.specs.declared.schema.Keys.the-variants.{Free, Ids}
-use Rattle.card.specs.declared.schema.Item.{Item}
-use Rattle.card.specs.declared.schema.Item.the-variants.{Any, AnyString, TypeName, Version, Flag, Yes, Count, Time, ObjectOf, AnyObject}
-use Rattle.card.specs.declared.schema.Ty.{Ty}
-use Rattle.card.specs.declared.schema.Ty.the-variants.{One, ListOf, MapOf}
+use Rattle.card.specs.declared.types.Object.{Object}
+use Rattle.card.specs.declared.types.Object.the-variants.{Card, Name, NameComponent, Address, AddressComponent, EmailAddress, Phone}
+use Rattle.card.specs.declared.types.Keys.{Keys}
+use Rattle.card.specs.declared.types.Keys.the-variants.{Free, Ids}
+use Rattle.card.specs.declared.types.Item.{Item}
+use Rattle.card.specs.declared.types.Item.the-variants.{Any, AnyString, TypeName, Version, Flag, Yes, Count, Time, ObjectOf, AnyObject}
+use Rattle.card.specs.declared.types.Role.{Role}
+use Rattle.card.specs.declared.types.Role.the-variants.{As, Other}
+use Rattle.card.specs.declared.types.Ty.{Ty}
+use Rattle.card.specs.declared.types.Ty.the-variants.{One, ListOf, MapOf}
 
 abbrev pub objectType : Object → ObjectType
 objectType Card = card
@@ -64,6 +67,29 @@ abbrev pub typeOf : Ty → S.Ty
 typeOf (One i) = itemType i
 typeOf (ListOf i) = listOf (itemType i)
 typeOf (MapOf k i) = mapOf (keysOf k) (itemType i)
+
+-- ---- roles
+
+-- it is no object type
+abbrev pub NotObject : S.Ty → Type 0
+NotObject any = Prim.Unit {0}
+NotObject (simple l) = Prim.Unit {0}
+NotObject (objectOf o) = ⊥
+NotObject (listOf ty) = Prim.Unit {0}
+NotObject (mapOf keys ty) = Prim.Unit {0}
+
+-- the answer says whether a type is an object type, and which
+abbrev pub AsObject : Role → S.Ty → Type 0
+AsObject (As o) ty = ty ≡ objectOf (objectType o)
+AsObject Other ty = NotObject ty
+
+-- the type of the members of a type that is no object type
+abbrev pub innerType : S.Ty → S.Ty
+innerType any = any
+innerType (simple l) = any
+innerType (objectOf o) = any
+innerType (listOf ty) = ty
+innerType (mapOf keys ty) = ty
 
 -- ---- what the numbers of the code's table stand for
 

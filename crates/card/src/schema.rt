@@ -1,60 +1,24 @@
-// The types of a card and the one table of their known properties.
+// The one table of the known properties of a card's types.
 // A new property is a line in NAMES and one in KNOWN, at its type's place; the proofs compute over both and need no change.
+use crate::rows::has;
+use crate::types::Item;
+use crate::types::Keys;
+use crate::types::Object;
+use crate::types::Ty;
 use json::names::name_is;
 use json::names::part_is;
 ghost use mathlib.Core.Path.{_≡_};
-ghost use mathlib.Core.Bool.{true, cond};
-ghost use lib.Dec.{eqb};
 ghost use Prim.Native.Nat.{_*_, _≤_, _<_};
 ghost use lib.ListN.{length, getD, drop};
 ghost use Rattle.laws.specs.Order.{same};
 ghost use Rattle.text.specs.Strings.{decode, nameOf};
-ghost use Rattle.contact.specs.Schema.{properties, typeIn, fits};
+ghost use Rattle.text.specs.Tree.{Forest};
+ghost use Rattle.text.specs.Standing.{StandsTo};
+ghost use Rattle.text.specs.Doc.{membersOf, seek, isThere};
+ghost use Rattle.contact.specs.Schema.{properties, typeIn};
+ghost use Rattle.contact.specs.Judge.{lacking};
 ghost use Rattle.card.specs.Types.{numberOf, objectType, typeName, typeOf, itemType, objectAt, itemAt, typeAt};
-ghost use Rattle.card.specs.Table.{count, nameWidth, wordOf, WordEnd, table, noEntry, isOwned, isProperty, CodeOf};
-
-// Object types.
-pub enum Object {
-    Card,
-    Name,
-    NameComponent,
-    Address,
-    AddressComponent,
-    EmailAddress,
-    Phone,
-}
-
-// The keys of a map: any, or Ids.
-pub enum Keys {
-    Free,
-    Ids,
-}
-
-// What a value may have to be, or each value of a list or a map.
-pub enum Item {
-    // of an unknown property: nothing is judged
-    Any,
-    AnyString,
-    // the name of that object type
-    TypeName(Object),
-    // "1.0"
-    Version,
-    Flag,
-    // a value of a set: true
-    Yes,
-    // an unsigned integer from the one to the other
-    Count(u64, u64),
-    Time,
-    ObjectOf(Object),
-    // an object whose members aren't judged
-    AnyObject,
-}
-
-pub enum Ty {
-    One(Item),
-    ListOf(Item),
-    MapOf(Keys, Item),
-}
+ghost use Rattle.card.specs.Table.{count, nameWidth, wordOf, WordEnd, entries, noEntry, isOwned, isProperty, isMissing, CodeOf};
 
 // ---- the table
 
@@ -116,7 +80,7 @@ const TYPE_NAMES: [u8; 140] = *b"\
     Phone               ";
 
 // How many properties the table has, and the bytes for each name.
-pub(crate) const COUNT: usize = 53;
+const COUNT: usize = 53;
 
 const WIDTH: usize = 20;
 
@@ -271,9 +235,9 @@ fn word_at(names: &[u8], i: usize) -> &[u8]
 }
 
 // Is a name of a text, decoded, that of property i?
-pub(crate) fn named(text: &[u8], s: usize, e: usize, i: usize) -> bool
+fn named(text: &[u8], s: usize, e: usize, i: usize) -> bool
     requires { ⌜ i < count ⌝ }
-    ensures { λ r. ⌜ r ≡ same (nameOf (now (text .entry)) s e) (getD table i noEntry .known .spelling) ⌝ }
+    ensures { λ r. ⌜ r ≡ same (nameOf (now (text .entry)) s e) (getD entries i noEntry .known .spelling) ⌝ }
 {
     name_is(text, s, e, word_at(&NAMES, i))
 }
@@ -336,22 +300,22 @@ fn type_of(code: u32) -> Ty
 // What the table says of property i besides its name.
 fn code_at(i: usize) -> u32
     requires { ⌜ i < count ⌝ }
-    ensures { λ r. ⌜ CodeOf r (getD table i noEntry) ⌝ }
+    ensures { λ r. ⌜ CodeOf r (getD entries i noEntry) ⌝ }
 {
     KNOWN[i]
 }
 
-pub(crate) fn is_needed(i: usize) -> bool
+fn is_needed(i: usize) -> bool
     requires { ⌜ i < count ⌝ }
-    ensures { λ r. ⌜ r ≡ getD table i noEntry .known .mandatory ⌝ }
+    ensures { λ r. ⌜ r ≡ getD entries i noEntry .known .mandatory ⌝ }
 {
     code_at(i) / MUST % 2 == 1
 }
 
 // Is property i one of the object type's?
-pub(crate) fn is_owned(o: Object, i: usize) -> bool
+fn is_owned(o: Object, i: usize) -> bool
     requires { ⌜ i < count ⌝ }
-    ensures { λ r. ⌜ r ≡ isOwned (objectType o) (getD table i noEntry) ⌝ }
+    ensures { λ r. ⌜ r ≡ isOwned (objectType o) (getD entries i noEntry) ⌝ }
 {
     code_at(i) / HAS == number_of(o)
 }
@@ -359,12 +323,51 @@ pub(crate) fn is_owned(o: Object, i: usize) -> bool
 // Is a name of a text, decoded, that of property i of the object type?
 fn is_property(text: &[u8], o: Object, s: usize, e: usize, i: usize) -> bool
     requires { ⌜ i < count ⌝ }
-    ensures { λ r. ⌜ r ≡ isProperty (objectType o) (nameOf (now (text .entry)) s e) (getD table i noEntry) ⌝ }
+    ensures { λ r. ⌜ r ≡ isProperty (objectType o) (nameOf (now (text .entry)) s e) (getD entries i noEntry) ⌝ }
 {
     if !is_owned(o, i) {
         return false;
     }
     named(text, s, e, i)
+}
+
+// Is property i among the members of the rows from .. end?
+fn has_property(text: &[u8], table: &[u32], from: usize, end: usize, i: usize) -> bool
+    requires { ⌜ i < count ⌝ }
+    requires { ⌜ ((f : Forest) × StandsTo (now table) from end f) ⌝ }
+    ensures { λ r. ⌜ ((f : Forest) → StandsTo (now (table .entry)) from end f → r ≡ isThere (seek (getD entries i noEntry .known .spelling) (membersOf (now (text .entry)) f))) ⌝ }
+{
+    has(text, table, from, end, word_at(&NAMES, i))
+}
+
+// Is property i a mandatory one of the object type, and not there?
+fn is_missing(text: &[u8], table: &[u32], from: usize, end: usize, o: Object, i: usize) -> bool
+    requires { ⌜ i < count ⌝ }
+    requires { ⌜ ((f : Forest) × StandsTo (now table) from end f) ⌝ }
+    ensures { λ r. ⌜ ((f : Forest) → StandsTo (now (table .entry)) from end f → r ≡ isMissing (objectType o) (membersOf (now (text .entry)) f) (getD entries i noEntry)) ⌝ }
+{
+    if !is_owned(o, i) {
+        return false;
+    }
+    if !is_needed(i) {
+        return false;
+    }
+    !has_property(text, table, from, end, i)
+}
+
+// Is a mandatory member of the object type missing?
+pub(crate) fn is_lacking(text: &[u8], table: &[u32], from: usize, end: usize, o: Object) -> bool
+    requires { ⌜ ((f : Forest) × StandsTo (now table) from end f) ⌝ }
+    ensures { λ r. ⌜ ((f : Forest) → StandsTo (now (table .entry)) from end f → r ≡ lacking (properties (objectType o)) (membersOf (now (text .entry)) f)) ⌝ }
+{
+    let mut i: usize = 0;
+    while i < COUNT {
+        if is_missing(text, table, from, end, o, i) {
+            return true;
+        }
+        i = i + 1;
+    }
+    false
 }
 
 // The type of a member of that name in an object of that type.
@@ -379,42 +382,4 @@ pub(crate) fn type_in(text: &[u8], o: Object, s: usize, e: usize) -> Ty
         i = i + 1;
     }
     Ty::One(Item::Any)
-}
-
-// The JSON kinds: 1 null, 2 false, 3 true, 4 number, 5 string, 6 array, 7 object.
-fn is_flag(kind: usize) -> bool
-    ensures { λ r. ⌜ r ≡ cond (eqb kind 2) true (eqb kind 3) ⌝ }
-{
-    if kind == 2 {
-        return true;
-    }
-    kind == 3
-}
-
-fn item_fits(item: Item, kind: usize) -> bool
-    ensures { λ r. ⌜ r ≡ fits (itemType item) kind ⌝ }
-{
-    match item {
-        Item::Any => true,
-        Item::AnyString => kind == 5,
-        Item::TypeName(_) => kind == 5,
-        Item::Version => kind == 5,
-        Item::Flag => is_flag(kind),
-        Item::Yes => is_flag(kind),
-        Item::Count(_, _) => kind == 4,
-        Item::Time => kind == 5,
-        Item::ObjectOf(_) => kind == 7,
-        Item::AnyObject => kind == 7,
-    }
-}
-
-// May a value of that kind have the type?
-pub(crate) fn kind_fits(ty: Ty, kind: usize) -> bool
-    ensures { λ r. ⌜ r ≡ fits (typeOf ty) kind ⌝ }
-{
-    match ty {
-        Ty::One(item) => item_fits(item, kind),
-        Ty::ListOf(_) => kind == 6,
-        Ty::MapOf(_, _) => kind == 7,
-    }
 }

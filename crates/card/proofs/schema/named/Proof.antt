@@ -5,7 +5,7 @@ use denote.Ref.{now}
 use Rattle.contact.specs.Schema.{properties}
 use Rattle.text.specs.Strings.{nameOf}
 use Rattle.laws.specs.Order.{same}
-use Rattle.card.specs.Table.{table}
+use Rattle.card.specs.Table.{entries}
 use Rattle.card.proofs.Columns.{name-at}
 use Rattle.card.proofs.schema.named.Statement.{statement}
 use Rattle.card.proofs.schema.named.Tie as tie
@@ -20,7 +20,7 @@ name-is-requires : tie.Need-name-is-requires
 name-is-requires c κs = search needs
 
 returns : tie.Need-returns
-unfolding table properties
+unfolding entries properties
 returns c = c .name-is .ensures ∙ ap (same (nameOf (now (c .before .before .before .before .args .text)) (c .before .before .before .before .args .s) (c .before .before .before .before .args .e))) (c .before .word-at .ensures ∙ name-at (c .before .before .before .before .args .i) (c .before .before .before .before .pre))
 
 pub named-spec : {M : Type 1} → statement M

@@ -1,8 +1,8 @@
--- `card::schema::item_fits` meets its contract: each arm by what its pattern says of the type. Assumes nothing.
+-- `card::types::item_fits` meets its contract: each arm by what its pattern says of the type. Assumes nothing.
 use mathlib.Core.Path.{_∙_}
 use borrow.Author.Needs.{needs}
-use Rattle.card.proofs.schema.item_fits.Statement.{statement}
-use Rattle.card.proofs.schema.item_fits.Tie as tie
+use Rattle.card.proofs.types.item_fits.Statement.{statement}
+use Rattle.card.proofs.types.item_fits.Tie as tie
 
 enum-told : tie.Need-enum-told
 enum-told c = search needs

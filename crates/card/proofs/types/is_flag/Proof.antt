@@ -1,7 +1,7 @@
--- `card::schema::is_flag` meets its contract. Assumes nothing.
+-- `card::types::is_flag` meets its contract. Assumes nothing.
 use Rattle.laws.proofs.Picks.{picks}
-use Rattle.card.proofs.schema.is_flag.Statement.{statement}
-use Rattle.card.proofs.schema.is_flag.Tie as tie
+use Rattle.card.proofs.types.is_flag.Statement.{statement}
+use Rattle.card.proofs.types.is_flag.Tie as tie
 
 returns : tie.Need-returns
 returns c = search picks

@@ -1,8 +1,8 @@
--- `card::schema::kind_fits` meets its contract: each arm by what its pattern says of the type. Assumes nothing.
+-- `card::types::kind_fits` meets its contract: each arm by what its pattern says of the type. Assumes nothing.
 use mathlib.Core.Path.{_∙_}
 use borrow.Author.Needs.{needs}
-use Rattle.card.proofs.schema.kind_fits.Statement.{statement}
-use Rattle.card.proofs.schema.kind_fits.Tie as tie
+use Rattle.card.proofs.types.kind_fits.Statement.{statement}
+use Rattle.card.proofs.types.kind_fits.Tie as tie
 
 enum-known-ty : tie.Need-enum-known-ty
 enum-known-ty c = search needs
