@@ -8,5 +8,10 @@ pub mod Columns
 pub mod Search
 pub mod Roles
 pub mod Along
-pub mod Members
+pub mod ValueLaws
 pub mod Separators
+pub mod PartLaws
+pub mod PointerLaws
+pub mod MemberLaws
+pub mod PathLaws
+pub mod EntryLaws

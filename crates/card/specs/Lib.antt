@@ -2,3 +2,8 @@ pub mod Types
 pub mod Table
 pub mod Rows
 pub mod Marks
+pub mod Parts
+pub mod Pointers
+pub mod Entries
+pub mod Members
+pub mod Paths

@@ -3,3 +3,4 @@ pub mod Handed
 pub mod Ways
 pub mod Items
 pub mod Closing
+pub mod Endings

@@ -96,12 +96,14 @@ module _ (L : Limits) (t : List ℕ) (ns ne at n : ℕ) where
   object-many zero h m = absurd (h refl)
   object-many (suc depth) h m = container-many L curly (membersAt L t depth) ns ne at n m
 
-  pub array-open : (depth : ℕ) → (depth ≡ 0 → ⊥) → n < L .values → arrayAt L t depth ns ne at n ≡ closeOf square ns ne at (elementsAt L t (depth - 1) (at + 1) (n + 1))
+  pub array-open : (depth : ℕ) → (depth ≡ 0 → ⊥) → n < L .values
+      → arrayAt L t depth ns ne at n ≡ closeOf square ns ne at (elementsAt L t (depth - 1) (at + 1) (n + 1))
   unfolding arrayAt
   array-open zero h m = absurd (h refl)
   array-open (suc depth) h m = rw sub-one (container-open L square (elementsAt L t depth) ns ne at n m)
 
-  pub object-open : (depth : ℕ) → (depth ≡ 0 → ⊥) → n < L .values → objectAt L t depth ns ne at n ≡ closeOf curly ns ne at (membersAt L t (depth - 1) (at + 1) (n + 1))
+  pub object-open : (depth : ℕ) → (depth ≡ 0 → ⊥) → n < L .values
+      → objectAt L t depth ns ne at n ≡ closeOf curly ns ne at (membersAt L t (depth - 1) (at + 1) (n + 1))
   unfolding objectAt
   object-open zero h m = absurd (h refl)
   object-open (suc depth) h m = rw sub-one (container-open L curly (membersAt L t depth) ns ne at n m)

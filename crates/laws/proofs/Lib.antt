@@ -1,5 +1,5 @@
--- Facts that speak of no format: the element at a place, runs of a list, the outcomes of a test, the order of two runs of bytes, rules of a table,
--- buffers being cleared, and runs of stores.
+-- Facts that speak of no format: places and parts of a list, runs, the outcomes of a test, the order of two runs of bytes, rules of a table, and
+-- buffers being cleared.
 pub mod Places
 pub mod Bounds
 pub mod Splits
@@ -9,4 +9,6 @@ pub mod Orders
 pub mod Tables
 pub mod Parts
 pub mod Cleared
+pub mod Decides
+pub mod Bools
 pub mod Sets

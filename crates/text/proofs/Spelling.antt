@@ -3,8 +3,8 @@
 --     Taken, Steps          a spelled character is taken, and what a step says stands there
 --     Characters            the step is right about one character, which is unique
 --     Refused               the step is right about what is no character
---     Ends                  reading a string goes through bytes that spell, and stops behind them
---     Answers               so a string's end, its 2 and its 3 are each exactly where the rules say
+--     Through               reading a string goes through bytes that spell, and stops behind them
+--     Ends                  so a string's end, its 2 and its 3 are each exactly where the rules say
 --     Decoded               the list of code points is unique, and decoding hands out its UTF-8
 --     Encoding              UTF-8 is bytes, and tells good code points apart
 pub mod Codes
@@ -13,7 +13,7 @@ pub mod Taken
 pub mod Steps
 pub mod Characters
 pub mod Refused
+pub mod Through
 pub mod Ends
-pub mod Answers
 pub mod Decoded
 pub mod Encoding

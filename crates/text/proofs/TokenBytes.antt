@@ -23,7 +23,7 @@ use Rattle.text.specs.Placed.{Quoted, isNumeric, Numeral, TokenIn, null,
 use Rattle.text.specs.declared.Token.{Token}
 use Rattle.text.specs.declared.Token.the-variants.{End, No2, No3}
 use Rattle.text.proofs.TokenEnds.{Span, run-on, run-end, run-byte, token-span}
-use Rattle.text.proofs.Spelling.Answers.{ended-spells}
+use Rattle.text.proofs.Spelling.Ends.{ended-spells}
 
 -- ---- the kind of a first byte ----
 

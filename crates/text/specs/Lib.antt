@@ -17,3 +17,10 @@ pub mod Placed
 pub mod Promised
 pub mod Writing
 pub mod Fewer
+pub mod Abnf
+pub mod Grammar
+pub mod Rfc
+pub mod Seats
+pub mod Meaning
+pub mod Fault
+pub mod Labels

@@ -22,7 +22,7 @@ use Rattle.text.proofs.Walks.{decode-at, past-piece}
 use Rattle.text.proofs.Spelling.Codes.{by-utf8}
 use Rattle.text.proofs.Spelling.Taken.{backslash-step, spelled-step}
 use Rattle.text.proofs.Spelling.Characters.{some-bytes, one-char, one-rest}
-use Rattle.text.proofs.Spelling.Answers.{ended-spells}
+use Rattle.text.proofs.Spelling.Ends.{ended-spells}
 
 -- ---- the list of code points is unique ----
 

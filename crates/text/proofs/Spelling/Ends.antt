@@ -1,111 +1,118 @@
--- Reading a string goes through what spells, and stops behind it:
---     through              from the first place of bytes that spell it answers what it answers from the place behind them
---     closed, closed-at    bytes that spell, and a quote: the string ends behind the quote
---     stops                from any place on, bytes that spell stand up to some place, and no character there: what stands there answers
+-- What reading a string from a place on answers, by rules. Each holds exactly if the answer is given (`answers`, `answered`):
+--     ended-spells, spells-ended     it ends at e: the bytes up to the quote before e spell some code points
+--     no2-cut, cut-no2               2 at p: bytes that spell, and then the beginning of a character that the byte at p can't continue
+--     no3-ill, ill-no3               3 at p: bytes that spell up to p, and there bytes that aim at a character and begin with none
+-- No bound on the elements of the text is asked: what is no byte is taken as the end.
 -- Assumes nothing.
-use mathlib.Core.Path.{_≡_, refl, sym, ap, _∙_}
-use mathlib.Core.List.{List, [], _∷_, _++_, append-assoc}
-use Prim.Native.Nat.{ℕ, zero, suc, _+_, _-_, _<_}
-use native.Mathlib.Nat.{add-zero}
+use mathlib.Core.Path.{_≡_, ap, subst, _∙_}
+use mathlib.Core.List.{List}
+use Prim.Native.Nat.{ℕ, _+_, _-_, _≤_, _<_}
 use native.Mathlib.Omega.{arith}
-use lib.ListN.{length, drop, length-append}
-use Rattle.laws.proofs.Splits.{first-there, beyond, at-seam}
+use lib.ListN.{length, drop}
+use Rattle.laws.specs.Lists.{partOf}
+use Rattle.laws.proofs.Places.{inside}
+use Rattle.laws.proofs.Splits.{part-there, there-part, length-part}
 use Rattle.text.specs.Text.{byteAt}
-use Rattle.text.specs.Chars.{stepAt, stepBy}
+use Rattle.text.specs.Chars.{stepAt}
 use Rattle.text.specs.Strings.{onStep, stringEnd}
-use Rattle.text.specs.Spelling.{Spells, none, more}
+use Rattle.text.specs.Spelling.{Spells}
+use Rattle.text.specs.Broken.{Ill}
 use Rattle.text.specs.declared.Step.{Step}
 use Rattle.text.specs.declared.Step.the-variants.{Close, Char, Bad2, Bad3}
-use Rattle.text.specs.declared.Token.the-variants.{End}
-use Rattle.text.proofs.Walks.{end-at, char-inside}
-use Rattle.text.proofs.Spelling.Taken.{spelled-step}
-use Rattle.text.proofs.Spelling.Steps.{CharAt}
-use Rattle.text.proofs.Spelling.Characters.{char-at}
+use Rattle.text.specs.declared.Token.{Token}
+use Rattle.text.specs.declared.Token.the-variants.{End, No2, No3}
+use Rattle.text.proofs.Walks.{end-at}
+use Rattle.text.proofs.Spelling.Steps.{CutAt, StandsAt, stands-at}
+use Rattle.text.proofs.Spelling.Refused.{cut-step, step-cut, ill-step, step-ill, step-place}
+use Rattle.text.proofs.Spelling.Through.{SpellsTo, NoChar, stops, through, quote-ends}
 
--- ---- what spells is read through ----
+-- ---- the answers by rules ----
 
-pub through : (t : List ℕ) (i : ℕ) {w cs : List ℕ} → Spells w cs → (r : List ℕ) → drop i t ≡ w ++ r → stringEnd t i ≡ stringEnd t (i + length w)
-through t i none r e = ap (stringEnd t) (sym (add-zero i))
-through t i (more {w} {u} {c} s rest) r e =
-    let e1 : drop i t ≡ w ++ (u ++ r) = e ∙ append-assoc w u r in
-    let place : i + length w + length u ≡ i + length (w ++ u) = omega (arith, length-append w u) in
-    end-at t i (Char c (length w)) (spelled-step t i s (u ++ r) e1) ∙ through t (i + length w) rest r (beyond t i w (u ++ r) e1) ∙ ap (stringEnd t) place
-
-pub quote-ends : (t : List ℕ) (i : ℕ) → byteAt t i ≡ 34 → stringEnd t i ≡ End (i + 1)
-unfolding stepBy
-quote-ends t i e = let s : stepAt t i ≡ Close = rw e in end-at t i Close s
-
-pub closed-at : (t : List ℕ) (i : ℕ) {w cs : List ℕ} → Spells w cs → (r : List ℕ) → drop i t ≡ w ++ 34 ∷ r → stringEnd t i ≡ End (i + length w + 1)
-closed-at t i {w} s r e =
-    let q : byteAt t (i + length w) ≡ 34 = first-there t (i + length w) 34 r (beyond t i w (34 ∷ r) e) 256 in
-    through t i s (34 ∷ r) e ∙ quote-ends t (i + length w) q
-
-pub closed : (u w r : List ℕ) {cs : List ℕ} → Spells w cs → stringEnd (u ++ w ++ 34 ∷ r) (length u) ≡ End (length u + length w + 1)
-closed u w r s = closed-at (u ++ w ++ 34 ∷ r) (length u) s r (at-seam u w (34 ∷ r))
-
--- ---- where reading stops ----
-
--- the bytes from i up to q spell some code points
-pub record SpellsTo (t : List ℕ) (i q : ℕ) : Type 0 where
-  pub bytes : List ℕ
-  pub rest : List ℕ
+-- the bytes from i up to a quote spell some code points, and e is the place behind the quote
+pub record Closed (t : List ℕ) (i e : ℕ) : Type 0 where
+  pub after : i < e
+  pub within-text : e ≤ length t
+  pub quote : byteAt t (e - 1) ≡ 34
   pub codes : List ℕ
-  pub split : drop i t ≡ bytes ++ rest
-  pub place : i + length bytes ≡ q
-  pub spelled : Spells bytes codes
+  pub spelled : Spells (partOf t i (e - 1)) codes
 
-spells-none : (t : List ℕ) (i : ℕ) → SpellsTo t i i
-spells-none t i = record { bytes = []; rest = drop i t; codes = []; split = refl; place = omega arith; spelled = none }
+-- the bytes from i up to some place spell, and from there on begins a character that the byte at p can't continue
+pub record Refused2 (t : List ℕ) (i p : ℕ) : Type 0 where
+  pub from : ℕ
+  pub spells : SpellsTo t i from
+  pub cut : CutAt t from p
 
-spells-more : (t : List ℕ) (i q : ℕ) {c n : ℕ} → CharAt t i c n → SpellsTo t (i + n) q → SpellsTo t i q
-spells-more t i q {c} {n} a s =
-    let w = a .bytes in
-    let u = s .bytes in
-    let m = a .size in
+-- the bytes from i up to p spell, and from p on stand bytes that aim at a character and begin with none
+pub record Refused3 (t : List ℕ) (i p : ℕ) : Type 0 where
+  pub spells : SpellsTo t i p
+  pub ill : Ill (drop p t)
+
+abbrev pub Answers : List ℕ → ℕ → Token → Type 0
+Answers t i (End e) = Closed t i e
+Answers t i (No2 p) = Refused2 t i p
+Answers t i (No3 p) = Refused3 t i p
+
+-- ---- bytes that spell, as a part of the text ----
+
+pub part-spells : (t : List ℕ) (i q : ℕ) → q ≤ length t → (s : SpellsTo t i q) → Spells (partOf t i q) (s .codes)
+part-spells t i q h s =
     let p = s .place in
-    let e1 : drop (i + n) t ≡ a .rest = rw m at (beyond t i w (a .rest) (a .split)) in
-    let e2 : drop i t ≡ w ++ u ++ s .rest = a .split ∙ rw (← e1, s .split, append-assoc) in
-    record { bytes = w ++ u; rest = s .rest; codes = c ∷ s .codes; split = e2; place = omega (arith, length-append w u); spelled = more (a .spelled) (s .spelled) }
+    let part : partOf t i q ≡ s .bytes = rw p at (part-there t i (s .bytes) (s .rest) (s .split) (omega arith)) in
+    rw part (s .spelled)
 
-abbrev pub NoChar : Step → Type 0
-NoChar Close = Prim.Unit {0}
-NoChar (Char c n) = ⊥
-NoChar (Bad2 p) = Prim.Unit {0}
-NoChar (Bad3 p) = Prim.Unit {0}
+pub spells-part : (t : List ℕ) (i q : ℕ) {cs : List ℕ} → i ≤ q → q ≤ length t → Spells (partOf t i q) cs → SpellsTo t i q
+spells-part t i q {cs} h k s =
+    let n = length-part t i q h k in
+    record { bytes = partOf t i q; rest = drop q t; codes = cs; split = there-part t i q h k; place = omega arith; spelled = s }
 
--- reading from i on stops at a place up to which the bytes spell, at something that is no character
-pub record Stops (t : List ℕ) (i : ℕ) : Type 0 where
-  pub at : ℕ
-  pub spells : SpellsTo t i at
-  pub step : Step
-  pub here : stepAt t at ≡ step
-  pub no-char : NoChar step
-  pub answer : stringEnd t i ≡ onStep (stringEnd t) at step
+-- ---- both ways ----
 
-stops-later : (t : List ℕ) (i : ℕ) {c n : ℕ} → stepAt t i ≡ Char c n → Stops t (i + n) → Stops t i
-stops-later t i {c} {n} e s =
-    record {
-      at = s .at;
-      spells = spells-more t i (s .at) (char-at t i e) (s .spells);
-      step = s .step;
-      here = s .here;
-      no-char = s .no-char;
-      answer = end-at t i (Char c n) e ∙ s .answer;
-    }
+module _ (t : List ℕ) (i : ℕ) where
+  closed-part : (q : ℕ) → SpellsTo t i q → byteAt t q ≡ 34 → Closed t i (q + 1)
+  closed-part q s h =
+      let p = s .place in
+      let l = inside t q (omega arith) in
+      let last : q + 1 - 1 ≡ q = omega arith in
+      record { after = omega arith; within-text = omega arith; quote = rw last h; codes = s .codes; spelled = rw last (part-spells t i q (omega arith) s) }
 
--- by the number of bytes left, f
-stops-in : (f : ℕ) (t : List ℕ) (i : ℕ) → length t - i < f → Stops t i
-stops-in zero t i h = absurd (omega arith)
-stops-in (suc f) t i h = go (stepAt t i) refl (λ j l. stops-in f t j l)
-  where
-    stop : (s : Step) → NoChar s → stepAt t i ≡ s → Stops t i
-    stop s n e = record { at = i; spells = spells-none t i; step = s; here = e; no-char = n; answer = end-at t i s e }
+  stopped : (at : ℕ) → SpellsTo t i at → (s : Step) → stepAt t at ≡ s → NoChar s → Answers t i (onStep (stringEnd t) at s)
+  stopped at s Close e n = closed-part at s (subst (StandsAt t at) e (stands-at t at))
+  stopped at s (Char c m) e n = absurd n
+  stopped at s (Bad2 p) e n = record { from = at; spells = s; cut = step-cut t at p e }
+  stopped at s (Bad3 p) e n = rw (step-place t at p e) (record { spells = s; ill = step-ill t at p e })
 
-    go : (s : Step) → stepAt t i ≡ s → ((j : ℕ) → length t - j < f → Stops t j) → Stops t i
-    go Close e later = stop Close tt e
-    go (Char c n) e later = let l = char-inside t i e in stops-later t i e (later (i + n) (omega arith))
-    go (Bad2 p) e later = stop (Bad2 p) tt e
-    go (Bad3 p) e later = stop (Bad3 p) tt e
+  pub answers : Answers t i (stringEnd t i)
+  answers = let s = stops t i in rw (s .answer) (stopped (s .at) (s .spells) (s .step) (s .here) (s .no-char))
 
-pub stops : (t : List ℕ) (i : ℕ) → Stops t i
-stops t i = stops-in (suc (length t - i)) t i (omega arith)
+  -- reading goes through what spells, up to q
+  up-to : (q : ℕ) → SpellsTo t i q → stringEnd t i ≡ stringEnd t q
+  up-to q s = through t i (s .spelled) (s .rest) (s .split) ∙ ap (stringEnd t) (s .place)
+
+  pub answered : (k : Token) → Answers t i k → stringEnd t i ≡ k
+  answered (End e) a =
+      let h = a .after in
+      let l = a .within-text in
+      let last : e - 1 + 1 ≡ e = omega arith in
+      up-to (e - 1) (spells-part t i (e - 1) (omega arith) (omega arith) (a .spelled)) ∙ quote-ends t (e - 1) (a .quote) ∙ ap End last
+  answered (No2 p) a = up-to (a .from) (a .spells) ∙ end-at t (a .from) (Bad2 p) (cut-step t (a .from) p (a .cut))
+  answered (No3 p) a = up-to p (a .spells) ∙ end-at t p (Bad3 p) (ill-step t p (a .ill))
+
+  -- ---- the same for each answer ----
+
+  pub ended-spells : (e : ℕ) → stringEnd t i ≡ End e → Closed t i e
+  ended-spells e q = subst (Answers t i) q answers
+
+  pub spells-ended : (e : ℕ) → Closed t i e → stringEnd t i ≡ End e
+  spells-ended e = answered (End e)
+
+  pub no2-cut : (p : ℕ) → stringEnd t i ≡ No2 p → Refused2 t i p
+  no2-cut p q = subst (Answers t i) q answers
+
+  pub cut-no2 : (p : ℕ) → Refused2 t i p → stringEnd t i ≡ No2 p
+  cut-no2 p = answered (No2 p)
+
+  pub no3-ill : (p : ℕ) → stringEnd t i ≡ No3 p → Refused3 t i p
+  no3-ill p q = subst (Answers t i) q answers
+
+  pub ill-no3 : (p : ℕ) → Refused3 t i p → stringEnd t i ≡ No3 p
+  ill-no3 p = answered (No3 p)

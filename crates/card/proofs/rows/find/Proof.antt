@@ -6,7 +6,7 @@ use denote.Ref.{now}
 use Rattle.card.specs.Rows.{Finds}
 use Rattle.card.specs.declared.rows.Found.the-variants.{At, Nothing}
 use Rattle.card.proofs.Along.{Along, along, along-here, along-on, along-hit, along-end}
-use Rattle.card.proofs.Members.{seekIn, seek-hit, seek-on, seek-end}
+use Rattle.card.proofs.ValueLaws.{seekIn, seek-hit, seek-on, seek-end}
 use Rattle.card.proofs.rows.find.Statement.{statement}
 use Rattle.card.proofs.rows.find.Tie as tie
 

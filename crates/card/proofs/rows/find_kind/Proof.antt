@@ -7,7 +7,7 @@ use mathlib.Core.Option.{Option}
 use Rattle.text.specs.Doc.{Property}
 use Rattle.card.specs.declared.rows.Found.the-variants.{At, Nothing}
 use Rattle.card.specs.Rows.{Finds, ofKind}
-use Rattle.card.proofs.Members.{seekIn, value-kind, by-found, by-nothing}
+use Rattle.card.proofs.ValueLaws.{seekIn, value-kind, by-found, by-nothing}
 use Rattle.card.proofs.rows.find_kind.Statement.{statement}
 use Rattle.card.proofs.rows.find_kind.Tie as tie
 

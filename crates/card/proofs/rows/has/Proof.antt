@@ -5,7 +5,7 @@ use denote.Ref.{now}
 use mathlib.Core.Bool.{true, false}
 use mathlib.Core.Option.{Option}
 use Rattle.text.specs.Doc.{Property, isThere}
-use Rattle.card.proofs.Members.{seekIn, by-found, by-nothing}
+use Rattle.card.proofs.ValueLaws.{seekIn, by-found, by-nothing}
 use Rattle.card.proofs.rows.has.Statement.{statement}
 use Rattle.card.proofs.rows.has.Tie as tie
 

@@ -6,7 +6,7 @@ use mathlib.Core.Bool.{true, false}
 use mathlib.Core.Option.{Option}
 use Rattle.text.specs.Doc.{Property, isThere}
 use Rattle.card.specs.Rows.{ofKind}
-use Rattle.card.proofs.Members.{seekIn, by-found, by-nothing}
+use Rattle.card.proofs.ValueLaws.{seekIn, by-found, by-nothing}
 use Rattle.card.proofs.rows.has_kind.Statement.{statement}
 use Rattle.card.proofs.rows.has_kind.Tie as tie
 

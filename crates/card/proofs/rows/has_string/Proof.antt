@@ -6,7 +6,7 @@ use mathlib.Core.Bool.{false}
 use mathlib.Core.Option.{Option}
 use Rattle.text.specs.Doc.{Property}
 use Rattle.contact.specs.Rules.{hasKind}
-use Rattle.card.proofs.Members.{seekIn, by-found, by-nothing}
+use Rattle.card.proofs.ValueLaws.{seekIn, by-found, by-nothing}
 use Rattle.card.proofs.rows.has_string.Statement.{statement}
 use Rattle.card.proofs.rows.has_string.Tie as tie
 

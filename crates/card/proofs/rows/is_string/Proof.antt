@@ -5,7 +5,7 @@ use borrow.Author.Needs.{needs}
 use denote.Ref.{now}
 use borrow.Author.Tests.{eq-eqb, ne-eqb}
 use Rattle.contact.specs.Rules.{isString}
-use Rattle.card.proofs.Members.{value-kind, value-token}
+use Rattle.card.proofs.ValueLaws.{value-kind, value-token}
 use Rattle.card.proofs.rows.is_string.Statement.{statement}
 use Rattle.card.proofs.rows.is_string.Tie as tie
 

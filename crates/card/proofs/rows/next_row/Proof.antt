@@ -2,7 +2,7 @@
 use native.Mathlib.Omega.{arith}
 use borrow.Author.Needs.{needs}
 use mathlib.Core.List.{[]}
-use Rattle.card.proofs.Members.{value-room}
+use Rattle.card.proofs.ValueLaws.{value-room}
 use Rattle.card.proofs.rows.next_row.Statement.{statement}
 use Rattle.card.proofs.rows.next_row.Tie as tie
 

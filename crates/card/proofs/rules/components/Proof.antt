@@ -6,7 +6,7 @@ use mathlib.Core.Option.{Option}
 use Rattle.text.specs.Firsts.{insideAt}
 use Rattle.text.specs.Doc.{Property, membersOf}
 use Rattle.card.specs.Marks.{fresh, tally, marksIn, listIn}
-use Rattle.card.proofs.Members.{value-members, value-below, found-here, by-found, by-nothing}
+use Rattle.card.proofs.ValueLaws.{value-members, value-below, found-here, by-found, by-nothing}
 use Rattle.card.proofs.rules.components.Statement.{statement}
 use Rattle.card.proofs.rules.components.Tie as tie
 

@@ -6,7 +6,7 @@ use borrow.Author.Tests.{eq-eqb, ne-eqb}
 use mathlib.Core.List.{[]}
 use Rattle.text.specs.Firsts.{insideAt}
 use Rattle.contact.specs.Rules.{isSeparator}
-use Rattle.card.proofs.Members.{value-kind, value-members, value-below, value-room}
+use Rattle.card.proofs.ValueLaws.{value-kind, value-members, value-below, value-room}
 use Rattle.card.proofs.rules.is_separator.Statement.{statement}
 use Rattle.card.proofs.rules.is_separator.Tie as tie
 

@@ -17,7 +17,8 @@ use Rattle.json.specs.Rows.{nameStartIn, nameEndIn}
 use Rattle.json.proofs.members.named.Statement.{statement}
 use Rattle.json.proofs.members.named.Tie as tie
 
-first-named : (t name : List ℕ) (f : Forest) → Some f → named t name f ≡ cond (same (nameOf t (nameStart f) (nameEnd f)) name) true (named t name (restAt f))
+first-named : (t name : List ℕ) (f : Forest) → Some f
+    → named t name f ≡ cond (same (nameOf t (nameStart f) (nameEnd f)) name) true (named t name (restAt f))
 unfolding named
 first-named t name none s = absurd s
 first-named t name (leaf kind ns ne from to rest) s = refl
@@ -40,7 +41,8 @@ abbrev μ-loop : tie.MeasureT-loop
 
 loop-holds : tie.Need-loop-holds Inv-loop μ-loop
 loop-holds c =
-    started (c .before .before .args .table .now) (c .before .before .args .first) (c .before .before .args .end) (named (c .before .before .args .text .now) (nameOf (c .before .before .args .text .now) (c .before .before .args .ns) (c .before .before .args .ne)))
+    started (c .before .before .args .table .now) (c .before .before .args .first) (c .before .before .args .end)
+    (named (c .before .before .args .text .now) (nameOf (c .before .before .args .text .now) (c .before .before .args .ns) (c .before .before .args .ne)))
 
 name-start-requires : tie.Need-name-start-requires Inv-loop μ-loop
 name-start-requires c κs = search needs
@@ -67,7 +69,8 @@ below-requires c κs = search needs
 
 add-row-2 : tie.Need-add-row-2 Inv-loop μ-loop
 add-row-2 c =
-    omega (arith, c .before .before .before .before .before .before .before .shared-slice-known2 .given (c .before .before .before .before .before .before .loop .row * 6 + 5))
+    omega
+    (arith, c .before .before .before .before .before .before .before .shared-slice-known2 .given (c .before .before .before .before .before .before .loop .row * 6 + 5))
 
 loop-less : tie.Need-loop-less Inv-loop μ-loop
 loop-less c = omega arith
@@ -77,7 +80,8 @@ loop-again c =
     let a = c .before .before .before .before .before .before .before .before .before .args in
     let l = c .before .before .before .before .before .before .loop in
     let name = nameOf (a .text .now) (a .ns) (a .ne) in
-    go-on (a .table .now) (a .first) (a .end) (named (a .text .now) name) (l .row) (l .inv) (c .before .before .before .before .before .loop-test .taken)
+    go-on (a .table .now) (a .first) (a .end) (named (a .text .now) name) (l .row) (l .inv)
+    (c .before .before .before .before .before .loop-test .taken)
     (λ ws z h. tested (a .text .now) name (a .table .now) (l .row) (a .end) (c .before .before .before .before .name-start .result) (c .before .before .before .name-end .result) (c .before .before .same-name .result) (c .before .before .before .before .name-start .ensures) (c .before .before .before .name-end .ensures) (c .before .before .same-name .ensures) ws z h ∙ rw (c .before .if1 .left))
     (c .below .result) (c .below .ensures)
 

@@ -8,7 +8,8 @@ use Rattle.json.proofs.values.close.Statement.{statement}
 use Rattle.json.proofs.values.close.Tie as tie
 
 -- where the inside was read, what is required says so
-opened : (c : tie.After-put-row-arg) → Closable (c .before .before .before .before .before .args .count) (Next (c .before .before .inside .given .0 .0) (c .before .before .inside .given .0 .1 .0))
+opened : (c : tie.After-put-row-arg)
+    → Closable (c .before .before .before .before .before .args .count) (Next (c .before .before .inside .given .0 .0) (c .before .before .inside .given .0 .1 .0))
 opened c = rw (c .before .before .inside .given .1) at (c .before .before .before .before .before .pre .0)
 
 enum-known-inside : tie.Need-enum-known-inside
@@ -24,7 +25,15 @@ put-row-requires : tie.Need-put-row-requires
 put-row-requires c κs =
     let p = c .before .before .before .before .before .pre .1 in
     let o = opened c in
-    record { room = p .room; kind-fits = p .kind-fits; ns-fits = p .ns-fits; ne-fits = p .ne-fits; from-fits = p .from-fits; to-fits = o .1 .1; below-fits = omega arith }
+    record {
+      room = p .room;
+      kind-fits = p .kind-fits;
+      ns-fits = p .ns-fits;
+      ne-fits = p .ne-fits;
+      from-fits = p .from-fits;
+      to-fits = o .1 .1;
+      below-fits = omega arith;
+    }
 
 enum-known-inside-2 : tie.Need-enum-known-inside-2
 enum-known-inside-2 c = search needs

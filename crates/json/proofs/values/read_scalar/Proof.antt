@@ -11,8 +11,12 @@ use Rattle.json.proofs.values.read_scalar.Statement.{statement}
 use Rattle.json.proofs.values.read_scalar.Tie as tie
 
 -- the place where a token has ended
-ended : (c : tie.After-to) → Span (c .before .before .before .before .before .before .args .text .now) (c .before .before .before .before .before .before .args .at + 1) (c .to .given .0 .0)
-ended c = token-span (c .before .before .before .before .before .before .args .text .now) (c .before .before .before .before .before .before .args .kind) (c .before .before .before .before .before .before .args .at) (c .to .given .0 .0) (c .before .before .before .before .before .before .pre .0 .inside) (sym (c .before .before .token-end .ensures) ∙ c .to .given .1)
+ended : (c : tie.After-to)
+    → Span (c .before .before .before .before .before .before .args .text .now) (c .before .before .before .before .before .before .args .at + 1) (c .to .given .0 .0)
+ended c =
+    token-span (c .before .before .before .before .before .before .args .text .now) (c .before .before .before .before .before .before .args .kind)
+    (c .before .before .before .before .before .before .args .at) (c .to .given .0 .0)
+    (c .before .before .before .before .before .before .pre .0 .inside) (sym (c .before .before .token-end .ensures) ∙ c .to .given .1)
 
 returns : tie.Need-returns
 returns c =
@@ -47,19 +51,32 @@ returns-2 : tie.Need-returns-2
 unfolding size rowsOf
 returns-2 c =
     let a = c .before .before .before .before .before .before .before .before .before .before .before .args in
-    let to = c .before .before .before .before .before .to .given .0 .0 in
-    let s = ended (c .before .before .before .before .before) in
-    record { trees = leaf (a .kind) (a .ns) (a .ne) (a .at) to none; is = scalar-end (upTo (a .limit)) (a .text .now) (a .kind) (a .ns) (a .ne) (a .at) (a .count) (c .before .before .before .before .before .before .before .before .if1 .left) to (sym (c .before .before .before .before .before .before .before .token-end .ensures) ∙ c .before .before .before .before .before .to .given .1); count = omega arith; table = c .before .before .put-row .ensures; later = omega arith; inside = s .inside; few = omega arith }
+    let e = c .before .before .before .before .before in
+    let to = e .to .given .0 .0 in
+    let s = ended e in
+    let less = c .before .before .before .before .before .before .before .before .if1 .left in
+    let token = sym (e .before .before .token-end .ensures) ∙ e .to .given .1 in
+    record {
+      trees = leaf (a .kind) (a .ns) (a .ne) (a .at) to none;
+      is = scalar-end (upTo (a .limit)) (a .text .now) (a .kind) (a .ns) (a .ne) (a .at) (a .count) less to token;
+      count = omega arith;
+      table = c .before .before .put-row .ensures;
+      later = omega arith;
+      inside = s .inside;
+      few = omega arith;
+    }
 
 returns-3 : tie.Need-returns-3
 returns-3 c =
     let a = c .before .before .before .before .before .before .before .args in
-    scalar-no2 (upTo (a .limit)) (a .text .now) (a .kind) (a .ns) (a .ne) (a .at) (a .count) (c .before .before .before .before .if1 .left) (c .before .p .given .0 .0) (sym (c .before .before .before .token-end .ensures) ∙ c .before .p .given .1)
+    scalar-no2 (upTo (a .limit)) (a .text .now) (a .kind) (a .ns) (a .ne) (a .at) (a .count) (c .before .before .before .before .if1 .left)
+    (c .before .p .given .0 .0) (sym (c .before .before .before .token-end .ensures) ∙ c .before .p .given .1)
 
 returns-4 : tie.Need-returns-4
 returns-4 c =
     let a = c .before .before .before .before .before .before .before .args in
-    scalar-no3 (upTo (a .limit)) (a .text .now) (a .kind) (a .ns) (a .ne) (a .at) (a .count) (c .before .before .before .before .if1 .left) (c .before .p2 .given .0 .0) (sym (c .before .before .before .token-end .ensures) ∙ c .before .p2 .given .1)
+    scalar-no3 (upTo (a .limit)) (a .text .now) (a .kind) (a .ns) (a .ne) (a .at) (a .count) (c .before .before .before .before .if1 .left)
+    (c .before .p2 .given .0 .0) (sym (c .before .before .before .token-end .ensures) ∙ c .before .p2 .given .1)
 
 pub read-scalar-spec : {M : Type 1} → statement M
 read-scalar-spec =

@@ -43,17 +43,27 @@ module _ (t : ℕ) where
   pub close-requires : lts.Need-close-requires (calls t) (array-at t) array.Post
   close-requires c κs =
       let e = c .before .before .before in
-      let s = c .before .before .before .before .before .before .before .before .before in
+      let s = e .before .before .before .before .before .before in
       let a = s .args in
-      let p = s .pre .1 in
-      (closable (elementsAt (upTo (a .limit)) (a .text .now) (a .depth - 1) (a .at + 1) (a .count + 1)) (a .text .now) (a .limit) (a .at + 1) (a .count) (a .table .now) (e .read-elements .last .1 .0) (e .read-elements .result) (p .0 .short) (p .0 .wide) (e .read-elements .ensures), omega (arith, p .0 .room, e .read-elements .kept .1 .0))
+      let p = s .pre .1 .0 in
+      let k = e .read-elements in
+      let inner = elementsAt (upTo (a .limit)) (a .text .now) (a .depth - 1) (a .at + 1) (a .count + 1) in (
+        closable inner (a .text .now) (a .limit) (a .at + 1) (a .count) (a .table .now) (k .last .1 .0) (k .result) (p .short) (p .wide) (k .ensures),
+        omega (arith, p .room, k .kept .1 .0),
+      )
 
   pub same-length : lts.Need-same-length (calls t) (array-at t) array.Post
   same-length c = search needs
 
   pub returns-3 : lts.Need-returns-3 (calls t) (array-at t) array.Post
   returns-3 c =
+      let z = c .before .before .close in
       let e = c .before .before .before .before .before .before in
-      let a = c .before .before .before .before .before .before .before .before .before .before .before .before .args in
-      rw (array-open (upTo (a .limit)) (a .text .now) (a .ns) (a .ne) (a .at) (a .count) (a .depth) (c .before .before .before .before .before .before .before .before .before .if1 .left) (c .before .before .before .before .before .before .before .before .if2 .left))
-      (closed square (elementsAt (upTo (a .limit)) (a .text .now) (a .depth - 1) (a .at + 1) (a .count + 1)) (a .ns) (a .ne) (a .at) (a .count) (a .text .now) (a .limit) (a .table .now) (e .read-elements .last .1 .0) (c .before .before .close .last .0) (e .read-elements .result) (c .before .before .close .result) (e .read-elements .ensures) (c .before .before .close .ensures))
+      let k = e .read-elements in
+      let o = e .before .before in
+      let a = o .before .before .before .before .args in
+      let inner = elementsAt (upTo (a .limit)) (a .text .now) (a .depth - 1) (a .at + 1) (a .count + 1) in
+      let opened = array-open (upTo (a .limit)) (a .text .now) (a .ns) (a .ne) (a .at) (a .count) (a .depth) (o .before .if1 .left) (o .if2 .left) in
+      rw opened
+      (closed square inner (a .ns) (a .ne) (a .at) (a .count) (a .text .now) (a .limit) (a .table .now) (k .last .1 .0) (z .last .0) (k .result)
+      (z .result) (k .ensures) (z .ensures))

@@ -18,10 +18,14 @@ calls t = (read-key-reads.Asked, read-key-reads.Learnt, value-below t, value.Pos
 
 module _ (t : ℕ) where
   -- where the name is closed, what `read_key` ensures says where
-  closed : (c : lts.After-k (calls t) (member-at t) member.Post) → let a = c .before .before .before .before .before .before .args in Named (a .text .now) (a .table .now) (a .first) (a .count) (a .at) (Value (c .k .given .0 .0) (c .k .given .0 .1 .0))
+  closed : (c : lts.After-k (calls t) (member-at t) member.Post)
+      → let a = c .before .before .before .before .before .before .args in
+      Named (a .text .now) (a .table .now) (a .first) (a .count) (a .at) (Value (c .k .given .0 .0) (c .k .given .0 .1 .0))
   closed c = rw (c .k .given .1) at (c .before .before .read-key .ensures)
 
-  broken : (c : lts.After-k2 (calls t) (member-at t) member.Post) → let a = c .before .before .before .before .before .before .args in Named (a .text .now) (a .table .now) (a .first) (a .count) (a .at) (Broken (c .k2 .given .0 .0))
+  broken : (c : lts.After-k2 (calls t) (member-at t) member.Post)
+      → let a = c .before .before .before .before .before .before .args in
+      Named (a .text .now) (a .table .now) (a .first) (a .count) (a .at) (Broken (c .k2 .given .0 .0))
   broken c = rw (c .k2 .given .1) at (c .before .before .read-key .ensures)
 
   pub read-key-requires : lts.Need-read-key-requires (calls t) (member-at t) member.Post
@@ -46,12 +50,16 @@ module _ (t : ℕ) where
 
   pub returns : lts.Need-returns (calls t) (member-at t) member.Post
   returns c =
-      let a = c .before .before .before .before .before .before .before .before .before .before .before .args in
-      let k = closed (c .before .before .before .before .before) in
-      let ne = c .before .before .before .before .before .k .given .0 .0 in
-      let from = c .before .before .before .before .before .k .given .0 .1 .0 in
-      λ done s. rw (k .is done s (a .limit) (valueAt (upTo (a .limit)) (a .text .now) (a .depth)) (a .count))
-      (took-from (valueAt (upTo (a .limit)) (a .text .now) (a .depth) (a .at + 1) ne from (a .count)) (a .text .now) (a .limit) (a .at) from (a .count) (a .table .now) (c .before .before .read-value .last .1 .0) (c .before .before .read-value .result) (omega (arith, k .inside)) (c .before .before .read-value .ensures))
+      let v = c .before .before .read-value in
+      let n = c .before .before .before .before .before in
+      let a = n .before .before .before .before .before .before .args in
+      let k = closed n in
+      let ne = n .k .given .0 .0 in
+      let from = n .k .given .0 .1 .0 in
+      let value = valueAt (upTo (a .limit)) (a .text .now) (a .depth) in
+      let later =
+      took-from (value (a .at + 1) ne from (a .count)) (a .text .now) (a .limit) (a .at) from (a .count) (a .table .now) (v .last .1 .0) in
+      λ done s. rw (k .is done s (a .limit) value (a .count)) (later (v .result) (omega (arith, k .inside)) (v .ensures))
 
   pub same-length-2 : lts.Need-same-length-2 (calls t) (member-at t) member.Post
   same-length-2 c = search needs

@@ -18,7 +18,8 @@ use Rattle.json.proofs.bytes.peek.Reads as peek-reads
 use Rattle.json.proofs.values.+read_array+read_elements+read_member+read_members+read_object+read_value.Proof.Measures.{members-at, member-below}
 
 abbrev pub Inv-loop : lts.InvT-loop
-Inv-loop text table₀ limit depth from first start b at₀ count₀ table at count = Upto text (memberOf (upTo limit) text (valueAt (upTo limit) text depth)) 125 start limit first table₀ at count table
+Inv-loop text table₀ limit depth from first start b at₀ count₀ table at count =
+    Upto text (memberOf (upTo limit) text (valueAt (upTo limit) text depth)) 125 start limit first table₀ at count table
 
 abbrev pub μ-loop : lts.MeasureT-loop
 μ-loop text table₀ limit depth from first start b at₀ count₀ table at count = length text - at
@@ -36,7 +37,9 @@ module _ (t : ℕ) where
   abbrev Opened : Type 0
   Opened = lts.Else1 (calls t) (members-at t) members.Post Inv-loop μ-loop
 
-  opening : (o : Opened) → Open (o .before .before .before .before .before .args .text .now) 125 (o .before .before .before .before .before .args .from) (o .before .before .skip .result)
+  opening : (o : Opened)
+      → let a = o .before .before .before .before .before .args in
+      Open (a .text .now) 125 (a .from) (o .before .before .skip .result)
   opening o = record { is = o .before .before .skip .ensures; some = λ q. o .if1 .left (o .before .peek .ensures .0 ∙ q) }
 
   -- the place where an item has been read, and from there the places before it
@@ -50,8 +53,15 @@ module _ (t : ℕ) where
   start v = v .before .before .before .before .before .before .before .before .before .before .before .before
 
   -- what the item's reader ensures there, by the case that was matched
-  gone : (v : Item) → let a = start v .args in let l = loop v .loop in Gone (item (start v) (l .inv .done) (l .at) (l .count)) (a .text .now) (a .limit) (l .at) (l .count) (l .table) (v .before .before .before .before .read-member .last .1 .0) (v .v .given .0 .0) (v .v .given .0 .1 .0)
-  gone v = let u = loop v .loop .inv in (rw (v .v .given .1) at (v .before .before .before .before .read-member .ensures)) (u .done) (upto-stands u (start v .pre .1 .room))
+  gone : (v : Item)
+      → let a = start v .args in
+      let l = loop v .loop in
+      let R = item (start v) (l .inv .done) (l .at) (l .count) in
+      Gone R (a .text .now) (a .limit) (l .at) (l .count) (l .table) (v .before .before .before .before .read-member .last .1 .0) (v .v .given .0 .0)
+      (v .v .given .0 .1 .0)
+  gone v =
+      let u = loop v .loop .inv in
+      (rw (v .v .given .1) at (v .before .before .before .before .read-member .ensures)) (u .done) (upto-stands u (start v .pre .1 .room))
 
   kept : (v : Item) → length (v .before .before .before .before .read-member .last .1 .0) ≡ length (start v .args .table .now)
   kept v = v .before .before .before .before .read-member .kept .1 .0 ∙ upto-length (loop v .loop .inv)
@@ -72,7 +82,8 @@ module _ (t : ℕ) where
       let s = c .before .before .before .before .before in
       let a = s .args in
       let p = s .pre .1 in
-      inside-none (a .text .now) (item s) 125 (a .from) (c .before .before .skip .result) (a .limit) (a .first) (a .table .now) (c .before .before .skip .ensures) (omega arith) (omega arith) (p .inside) (p .few)
+      inside-none (a .text .now) (item s) 125 (a .from) (c .before .before .skip .result) (a .limit) (a .first) (a .table .now)
+      (c .before .before .skip .ensures) (omega arith) (omega arith) (p .inside) (p .few)
 
   pub loop-holds : lts.Need-loop-holds (calls t) (members-at t) members.Post Inv-loop μ-loop
   loop-holds c =
@@ -102,7 +113,10 @@ module _ (t : ℕ) where
   returns-2 c =
       let l = c .before .before .before .before .before .before in
       let o = c .enum-told .given in
-      rw (o .1) (upto-stop (l .loop .inv) (opening (l .before)) ((rw (o .1) at (c .before .before .before .before .read-member .ensures)) (l .loop .inv .done) (upto-stands (l .loop .inv) (l .before .before .before .before .before .before .pre .1 .room))))
+      let e =
+      (rw (o .1) at (c .before .before .before .before .read-member .ensures)) (l .loop .inv .done)
+      (upto-stands (l .loop .inv) (l .before .before .before .before .before .before .pre .1 .room)) in
+      rw (o .1) (upto-stop (l .loop .inv) (opening (l .before)) e)
 
   pub skip-requires-2 : lts.Need-skip-requires-2 (calls t) (members-at t) members.Post Inv-loop μ-loop
   skip-requires-2 c κs = search needs
@@ -121,7 +135,9 @@ module _ (t : ℕ) where
   unfolding membersAt
   returns-3 c =
       let v = c .before .before .before .before in
-      upto-done (loop v .loop .inv) (gone v) (c .before .before .skip2 .result) (c .before .before .skip2 .ensures) (opening (v .before .before .before .before .before .before .before)) (start v .pre .1 .inside) (omega arith) (omega arith)
+      let x = c .before .before .skip2 in
+      upto-done (loop v .loop .inv) (gone v) (x .result) (x .ensures) (opening (v .before .before .before .before .before .before .before))
+      (start v .pre .1 .inside) (omega arith) (omega arith)
 
   pub same-length-3 : lts.Need-same-length-3 (calls t) (members-at t) members.Post Inv-loop μ-loop
   same-length-3 c = kept (c .before .before .before .before .before)
@@ -130,11 +146,16 @@ module _ (t : ℕ) where
   unfolding membersAt
   returns-4 c =
       let v = c .before .before .before .before .before in
-      upto-bad (loop v .loop .inv) (gone v) (c .before .before .before .skip2 .result) (c .before .before .before .skip2 .ensures) (opening (v .before .before .before .before .before .before .before)) (λ q. c .before .if2 .left (c .before .before .peek2 .ensures .0 ∙ q)) (λ q. c .if3 .taken (c .before .before .peek2 .ensures .0 ∙ q))
+      let x = c .before .before .before .skip2 in
+      let b = c .before .before .peek2 in
+      upto-bad (loop v .loop .inv) (gone v) (x .result) (x .ensures) (opening (v .before .before .before .before .before .before .before))
+      (λ q. c .before .if2 .left (b .ensures .0 ∙ q))
+      (λ q. c .if3 .taken (b .ensures .0 ∙ q))
 
   pub add-skip : lts.Need-add-skip (calls t) (members-at t) members.Post Inv-loop μ-loop
   add-skip c =
-      let i = inside (start (c .before .before .before .before .before) .args .text .now) (c .before .before .before .skip2 .result) (omega arith) in omega arith
+      let i = inside (start (c .before .before .before .before .before) .args .text .now) (c .before .before .before .skip2 .result) (omega arith) in
+      omega arith
 
   pub skip-requires-3 : lts.Need-skip-requires-3 (calls t) (members-at t) members.Post Inv-loop μ-loop
   skip-requires-3 c κs = search needs
@@ -142,9 +163,14 @@ module _ (t : ℕ) where
   pub loop-less : lts.Need-loop-less (calls t) (members-at t) members.Post Inv-loop μ-loop
   loop-less c =
       let v = c .before .before .before .before .before .before in
-      omega (arith, more-later (loop v .loop .inv) (gone v) (c .before .before .before .before .skip2 .result) (c .before .before .before .before .skip2 .ensures) (omega arith) (c .skip3 .result) (c .skip3 .ensures))
+      let x = c .before .before .before .before .skip2 in
+      let m = more-later (loop v .loop .inv) (gone v) (x .result) (x .ensures) (omega arith) (c .skip3 .result) (c .skip3 .ensures) in
+      omega arith
 
   pub loop-again : lts.Need-loop-again (calls t) (members-at t) members.Post Inv-loop μ-loop
   loop-again c =
       let v = c .before .before .before .before .before .before in
-      upto-more (loop v .loop .inv) (gone v) (c .before .before .before .before .skip2 .result) (c .before .before .before .before .skip2 .ensures) (λ q. c .before .before .if2 .left (c .before .before .before .peek2 .ensures .0 ∙ q)) (omega arith) (c .skip3 .result) (c .skip3 .ensures)
+      let x = c .before .before .before .before .skip2 in
+      upto-more (loop v .loop .inv) (gone v) (x .result) (x .ensures)
+      (λ q. c .before .before .if2 .left (c .before .before .before .peek2 .ensures .0 ∙ q)) (omega arith)
+      (c .skip3 .result) (c .skip3 .ensures)

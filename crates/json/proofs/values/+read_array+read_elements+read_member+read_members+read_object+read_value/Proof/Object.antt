@@ -43,17 +43,27 @@ module _ (t : ℕ) where
   pub close-requires : lts.Need-close-requires (calls t) (object-at t) object.Post
   close-requires c κs =
       let e = c .before .before .before in
-      let s = c .before .before .before .before .before .before .before .before .before in
+      let s = e .before .before .before .before .before .before in
       let a = s .args in
-      let p = s .pre .1 in
-      (closable (membersAt (upTo (a .limit)) (a .text .now) (a .depth - 1) (a .at + 1) (a .count + 1)) (a .text .now) (a .limit) (a .at + 1) (a .count) (a .table .now) (e .read-members .last .1 .0) (e .read-members .result) (p .0 .short) (p .0 .wide) (e .read-members .ensures), omega (arith, p .0 .room, e .read-members .kept .1 .0))
+      let p = s .pre .1 .0 in
+      let k = e .read-members in
+      let inner = membersAt (upTo (a .limit)) (a .text .now) (a .depth - 1) (a .at + 1) (a .count + 1) in (
+        closable inner (a .text .now) (a .limit) (a .at + 1) (a .count) (a .table .now) (k .last .1 .0) (k .result) (p .short) (p .wide) (k .ensures),
+        omega (arith, p .room, k .kept .1 .0),
+      )
 
   pub same-length : lts.Need-same-length (calls t) (object-at t) object.Post
   same-length c = search needs
 
   pub returns-3 : lts.Need-returns-3 (calls t) (object-at t) object.Post
   returns-3 c =
+      let z = c .before .before .close in
       let e = c .before .before .before .before .before .before in
-      let a = c .before .before .before .before .before .before .before .before .before .before .before .before .args in
-      rw (object-open (upTo (a .limit)) (a .text .now) (a .ns) (a .ne) (a .at) (a .count) (a .depth) (c .before .before .before .before .before .before .before .before .before .if1 .left) (c .before .before .before .before .before .before .before .before .if2 .left))
-      (closed curly (membersAt (upTo (a .limit)) (a .text .now) (a .depth - 1) (a .at + 1) (a .count + 1)) (a .ns) (a .ne) (a .at) (a .count) (a .text .now) (a .limit) (a .table .now) (e .read-members .last .1 .0) (c .before .before .close .last .0) (e .read-members .result) (c .before .before .close .result) (e .read-members .ensures) (c .before .before .close .ensures))
+      let k = e .read-members in
+      let o = e .before .before in
+      let a = o .before .before .before .before .args in
+      let inner = membersAt (upTo (a .limit)) (a .text .now) (a .depth - 1) (a .at + 1) (a .count + 1) in
+      let opened = object-open (upTo (a .limit)) (a .text .now) (a .ns) (a .ne) (a .at) (a .count) (a .depth) (o .before .if1 .left) (o .if2 .left) in
+      rw opened
+      (closed curly inner (a .ns) (a .ne) (a .at) (a .count) (a .text .now) (a .limit) (a .table .now) (k .last .1 .0) (z .last .0) (k .result)
+      (z .result) (k .ensures) (z .ensures))

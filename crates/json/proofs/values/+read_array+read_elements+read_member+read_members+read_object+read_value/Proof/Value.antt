@@ -15,7 +15,8 @@ use Rattle.json.proofs.values.+read_array+read_elements+read_member+rea
 
 -- what is known of the functions that it calls
 abbrev pub calls : ℕ → lts.Claims
-calls t = (kind-at-reads.Asked, kind-at-reads.Learnt, array-below t, array.Post, object-below t, object.Post, read-scalar-reads.Asked, read-scalar-reads.Learnt)
+calls t =
+    (kind-at-reads.Asked, kind-at-reads.Learnt, array-below t, array.Post, object-below t, object.Post, read-scalar-reads.Asked, read-scalar-reads.Learnt)
 
 module _ (t : ℕ) where
   pub kind-at-requires : lts.Need-kind-at-requires (calls t) (value-at t) value.Post
@@ -23,14 +24,17 @@ module _ (t : ℕ) where
 
   pub returns : lts.Need-returns (calls t) (value-at t) value.Post
   returns c =
-      let a = c .before .before .before .before .args in
-      value-none (upTo (a .limit)) (a .text .now) (a .ns) (a .ne) (a .at) (a .count) (a .depth) (c .before .kind-at .result) (c .before .kind-at .ensures) (c .if1 .taken)
+      let k = c .before in
+      let a = k .before .before .before .args in
+      value-none (upTo (a .limit)) (a .text .now) (a .ns) (a .ne) (a .at) (a .count) (a .depth) (k .kind-at .result) (k .kind-at .ensures)
+      (c .if1 .taken)
 
   pub read-array-requires : lts.Need-read-array-requires (calls t) (value-at t) value.Post
   read-array-requires c κs =
-      let a = c .before .before .before .before .before .before .args in
-      let p = c .before .before .before .before .before .before .pre in
-      let i = kind-inside (a .text .now) (a .at) (c .before .before .before .kind-at .result) (c .before .before .before .kind-at .ensures) (c .before .before .if1 .left) in
+      let k = c .before .before .before in
+      let s = k .before .before .before in
+      let p = s .pre in
+      let i = kind-inside (s .args .text .now) (s .args .at) (k .kind-at .result) (k .kind-at .ensures) (c .before .before .if1 .left) in
       omega arith
 
   pub same-length : lts.Need-same-length (calls t) (value-at t) value.Post
@@ -38,14 +42,18 @@ module _ (t : ℕ) where
 
   pub returns-2 : lts.Need-returns-2 (calls t) (value-at t) value.Post
   returns-2 c =
-      let a = c .before .before .before .before .before .before .before .before .before .args in
-      rw (value-array (upTo (a .limit)) (a .text .now) (a .ns) (a .ne) (a .at) (a .count) (a .depth) (c .before .before .before .before .before .before .kind-at .result) (c .before .before .before .before .before .before .kind-at .ensures) (c .before .before .before .before .if2 .taken)) (c .before .before .read-array .ensures)
+      let k = c .before .before .before .before .before .before in
+      let a = k .before .before .before .args in
+      let is =
+      value-array (upTo (a .limit)) (a .text .now) (a .ns) (a .ne) (a .at) (a .count) (a .depth) (k .kind-at .result) (k .kind-at .ensures) in
+      rw (is (c .before .before .before .before .if2 .taken)) (c .before .before .read-array .ensures)
 
   pub read-object-requires : lts.Need-read-object-requires (calls t) (value-at t) value.Post
   read-object-requires c κs =
-      let a = c .before .before .before .before .before .before .before .args in
-      let p = c .before .before .before .before .before .before .before .pre in
-      let i = kind-inside (a .text .now) (a .at) (c .before .before .before .before .kind-at .result) (c .before .before .before .before .kind-at .ensures) (c .before .before .before .if1 .left) in
+      let k = c .before .before .before .before in
+      let s = k .before .before .before in
+      let p = s .pre in
+      let i = kind-inside (s .args .text .now) (s .args .at) (k .kind-at .result) (k .kind-at .ensures) (c .before .before .before .if1 .left) in
       omega arith
 
   pub same-length-2 : lts.Need-same-length-2 (calls t) (value-at t) value.Post
@@ -53,14 +61,17 @@ module _ (t : ℕ) where
 
   pub returns-3 : lts.Need-returns-3 (calls t) (value-at t) value.Post
   returns-3 c =
-      let a = c .before .before .before .before .before .before .before .before .before .before .args in
-      rw (value-object (upTo (a .limit)) (a .text .now) (a .ns) (a .ne) (a .at) (a .count) (a .depth) (c .before .before .before .before .before .before .before .kind-at .result) (c .before .before .before .before .before .before .before .kind-at .ensures) (c .before .before .before .before .if3 .taken)) (c .before .before .read-object .ensures)
+      let k = c .before .before .before .before .before .before .before in
+      let a = k .before .before .before .args in
+      let is =
+      value-object (upTo (a .limit)) (a .text .now) (a .ns) (a .ne) (a .at) (a .count) (a .depth) (k .kind-at .result) (k .kind-at .ensures) in
+      rw (is (c .before .before .before .before .if3 .taken)) (c .before .before .read-object .ensures)
 
   pub read-scalar-requires : lts.Need-read-scalar-requires (calls t) (value-at t) value.Post
   read-scalar-requires c κs =
-      let a = c .before .before .before .before .before .before .before .args in
-      let p = c .before .before .before .before .before .before .before .pre in
-      let i = kind-small (byteAt (a .text .now) (a .at)) in
+      let s = c .before .before .before .before .before .before .before in
+      let p = s .pre in
+      let i = kind-small (byteAt (s .args .text .now) (s .args .at)) in
       omega (arith, c .before .before .before .before .kind-at .ensures)
 
   pub same-length-3 : lts.Need-same-length-3 (calls t) (value-at t) value.Post
@@ -68,5 +79,10 @@ module _ (t : ℕ) where
 
   pub returns-4 : lts.Need-returns-4 (calls t) (value-at t) value.Post
   returns-4 c =
-      let a = c .before .before .before .before .before .before .before .before .before .before .args in
-      rw (value-scalar (upTo (a .limit)) (a .text .now) (a .ns) (a .ne) (a .at) (a .count) (a .depth) (c .before .before .before .before .before .before .before .kind-at .result) (c .before .before .before .before .before .before .before .kind-at .ensures) (c .before .before .before .before .before .before .if1 .left) (c .before .before .before .before .before .if2 .left) (c .before .before .before .before .if3 .left)) (c .before .before .read-scalar .ensures)
+      let k = c .before .before .before .before .before .before .before in
+      let a = k .before .before .before .args in
+      let is =
+      value-scalar (upTo (a .limit)) (a .text .now) (a .ns) (a .ne) (a .at) (a .count) (a .depth) (k .kind-at .result) (k .kind-at .ensures) in
+      rw
+      (is (c .before .before .before .before .before .before .if1 .left) (c .before .before .before .before .before .if2 .left) (c .before .before .before .before .if3 .left))
+      (c .before .before .read-scalar .ensures)

@@ -1,0 +1,56 @@
+use mathlib.Core.Path.{_≡_, refl, sym, ap}
+use native.Mathlib.Omega.{arith}
+use lib.ListN.{length}
+use denote.Ref.{now}
+use borrow.Author.Needs.{needs}
+use Rattle.json.proofs.Handed.{handed}
+use Rattle.json.specs.Cursors.{rest}
+use Rattle.contact.specs.Pointer.{pointerOf}
+use Rattle.card.proofs.PartLaws.{tailOf, tail-on, ends, goes}
+use Rattle.card.proofs.parts.next_part.Statement.{statement}
+use Rattle.card.proofs.parts.next_part.Tie as tie
+
+abbrev Inv-loop : tie.InvT-loop
+Inv-loop key c₀ c = tailOf (pointerOf (rest key c)) ≡ tailOf (pointerOf (rest key c₀))
+
+abbrev μ-loop : tie.MeasureT-loop
+μ-loop key c₀ c = length (rest key c)
+
+loop-holds : tie.Need-loop-holds Inv-loop μ-loop
+loop-holds c = refl
+
+next-byte-requires : tie.Need-next-byte-requires Inv-loop μ-loop
+next-byte-requires c κs = search needs
+
+enum-told : tie.Need-enum-told Inv-loop μ-loop
+enum-told c = search needs
+
+returns : tie.Need-returns Inv-loop μ-loop
+returns c = ends _ (rw (← c .before .before .before .loop .inv, ← c .before .before .next-byte .ensures .0, c .enum-told .given .1))
+
+enum-known-b : tie.Need-enum-known-b Inv-loop μ-loop
+enum-known-b c = search needs
+
+returns-2 : tie.Need-returns-2 Inv-loop μ-loop
+returns-2 c = goes _ _ (rw (← c .before .before .before .before .before .loop .inv, ← c .before .before .before .before .next-byte .ensures .0, c .before .before .b .given .1, c .if1 .taken))
+
+loop-less : tie.Need-loop-less Inv-loop μ-loop
+loop-less c = omega (arith, ap length (handed (now (c .before .before .before .before .before .before .before .args .key)) (c .before .before .before .before .before .loop .c) (c .before .before .before .before .next-byte .ensures .0) (c .before .before .b .given .1)))
+
+loop-again : tie.Need-loop-again Inv-loop μ-loop
+loop-again c = rw (← c .before .before .before .before .before .loop .inv, ← c .before .before .before .before .next-byte .ensures .0, c .before .before .b .given .1) (sym (tail-on _ (rest (now (c .before .before .before .before .before .before .before .args .key)) (c .before .before .b .given .0 .1 .0)) (c .if1 .left)))
+
+pub next-part-spec : {M : Type 1} → statement M
+next-part-spec =
+    tie.close
+    (tie.spec
+    Inv-loop
+    μ-loop
+    loop-holds
+    next-byte-requires
+    enum-told
+    returns
+    enum-known-b
+    returns-2
+    loop-less
+    loop-again)

@@ -1,0 +1,74 @@
+use borrow.Author.Tests.{ne-eqb}
+use mathlib.Core.Path.{_≡_, refl, ap}
+use native.Mathlib.Omega.{arith}
+use lib.ListN.{length}
+use denote.Ref.{now}
+use borrow.Author.Needs.{needs}
+use Rattle.json.proofs.Handed.{handed}
+use Rattle.json.specs.Cursors.{rest}
+use Rattle.text.specs.Strings.{conts, decode}
+use Rattle.contact.specs.Pointer.{badTilde}
+use Rattle.card.proofs.pointers.has_bad_tilde.Statement.{statement}
+use Rattle.card.proofs.pointers.has_bad_tilde.Tie as tie
+
+abbrev Inv-loop : tie.InvT-loop
+Inv-loop key c₀ c = badTilde (rest key c) ≡ badTilde (decode key)
+
+abbrev μ-loop : tie.MeasureT-loop
+μ-loop key c₀ c = length (rest key c)
+
+start-requires : tie.Need-start-requires Inv-loop μ-loop
+start-requires c κs = search needs
+
+loop-holds : tie.Need-loop-holds Inv-loop μ-loop
+unfolding conts
+loop-holds c = rw (c .start .ensures) refl
+
+next-byte-requires : tie.Need-next-byte-requires Inv-loop μ-loop
+next-byte-requires c κs = search needs
+
+enum-known-b : tie.Need-enum-known-b Inv-loop μ-loop
+enum-known-b c = search needs
+
+enum-told : tie.Need-enum-told Inv-loop μ-loop
+enum-told c = search needs
+
+returns : tie.Need-returns Inv-loop μ-loop
+returns c = rw (← c .before .before .before .loop .inv, ← c .before .before .next-byte .ensures .0, c .enum-told .given .1)
+
+zero-or-one-requires : tie.Need-zero-or-one-requires Inv-loop μ-loop
+zero-or-one-requires c κs = search needs
+
+returns-2 : tie.Need-returns-2 Inv-loop μ-loop
+returns-2 c = rw (← c .before .before .before .before .before .before .before .loop .inv, ← c .before .before .before .before .before .before .next-byte .ensures .0, c .before .before .before .before .b .given .1, c .before .before .if1 .taken, ← c .before .zero-or-one .ensures, c .if2 .taken)
+
+loop-less : tie.Need-loop-less Inv-loop μ-loop
+loop-less c = omega (arith, ap length (handed (now (c .before .before .before .before .before .before .before .before .before .before .args .key)) (c .before .before .before .before .before .before .before .loop .c) (c .before .before .before .before .before .before .next-byte .ensures .0) (c .before .before .before .before .b .given .1)))
+
+loop-again : tie.Need-loop-again Inv-loop μ-loop
+loop-again c = rw (← c .before .before .before .before .before .before .before .loop .inv, ← c .before .before .before .before .before .before .next-byte .ensures .0, c .before .before .before .before .b .given .1, c .before .before .if1 .taken, ← c .before .zero-or-one .ensures, c .if2 .left)
+
+loop-less-2 : tie.Need-loop-less-2 Inv-loop μ-loop
+loop-less-2 c = omega (arith, ap length (handed (now (c .before .before .before .before .before .before .before .before .args .key)) (c .before .before .before .before .before .loop .c) (c .before .before .before .before .next-byte .ensures .0) (c .before .before .b .given .1)))
+
+loop-again-2 : tie.Need-loop-again-2 Inv-loop μ-loop
+loop-again-2 c = rw (← c .before .before .before .before .before .loop .inv, ← c .before .before .before .before .next-byte .ensures .0, c .before .before .b .given .1, ne-eqb _ 126 (c .if1 .left))
+
+pub has-bad-tilde-spec : {M : Type 1} → statement M
+has-bad-tilde-spec =
+    tie.close
+    (tie.spec
+    Inv-loop
+    μ-loop
+    start-requires
+    loop-holds
+    next-byte-requires
+    enum-known-b
+    enum-told
+    returns
+    zero-or-one-requires
+    returns-2
+    loop-less
+    loop-again
+    loop-less-2
+    loop-again-2)

@@ -1,0 +1,118 @@
+use mathlib.Core.Path.{_≡_, refl, sym, _∙_}
+use lib.ListN.{length}
+use denote.Ref.{now}
+use borrow.Author.Needs.{needs}
+use Rattle.json.specs.Cursors.{rest}
+use Rattle.text.specs.Strings.{conts, decode}
+use Rattle.contact.specs.Pointer.{pointerOf, parts}
+use Rattle.laws.specs.declared.Order.the-variants.{Less, More}
+use Rattle.card.specs.Pointers.{pointerOrder}
+use Rattle.card.proofs.PointerLaws.{order-first, order-ends, order-left, order-right, order-on, fewer}
+use Rattle.card.proofs.pointers.key_order.Statement.{statement}
+use Rattle.card.proofs.pointers.key_order.Tie as tie
+
+abbrev Inv-loop : tie.InvT-loop
+Inv-loop a b x₀ y₀ x y = pointerOrder (pointerOf (rest a x)) (pointerOf (rest b y)) ≡ pointerOrder (pointerOf (decode a)) (pointerOf (decode b))
+
+abbrev μ-loop : tie.MeasureT-loop
+μ-loop a b x₀ y₀ x y = length (parts (pointerOf (rest a x)))
+
+start-requires : tie.Need-start-requires Inv-loop μ-loop
+start-requires c κs = search needs
+
+start-requires-2 : tie.Need-start-requires-2 Inv-loop μ-loop
+start-requires-2 c κs = search needs
+
+loop-holds : tie.Need-loop-holds Inv-loop μ-loop
+unfolding conts
+loop-holds c = rw (c .before .start .ensures, c .start2 .ensures) refl
+
+names-order-requires : tie.Need-names-order-requires Inv-loop μ-loop
+names-order-requires c κs = search needs
+
+enum-told : tie.Need-enum-told Inv-loop μ-loop
+enum-told c = search needs
+
+returns : tie.Need-returns Inv-loop μ-loop
+returns c = sym (order-first (pointerOf (rest (now (c .before .before .before .before .before .before .before .before .args .a)) (c .before .before .before .loop .x))) (pointerOf (rest (now (c .before .before .before .before .before .before .before .before .args .b)) (c .before .before .before .loop .y))) Less (sym (c .before .before .names-order .ensures) ∙ c .enum-told .given .1) refl refl refl) ∙ c .before .before .before .loop .inv
+
+enum-told-2 : tie.Need-enum-told-2 Inv-loop μ-loop
+enum-told-2 c = search needs
+
+returns-2 : tie.Need-returns-2 Inv-loop μ-loop
+returns-2 c = sym (order-first (pointerOf (rest (now (c .before .before .before .before .before .before .before .before .args .a)) (c .before .before .before .loop .x))) (pointerOf (rest (now (c .before .before .before .before .before .before .before .before .args .b)) (c .before .before .before .loop .y))) More (sym (c .before .before .names-order .ensures) ∙ c .enum-told2 .given .1) refl refl refl) ∙ c .before .before .before .loop .inv
+
+enum-told-3 : tie.Need-enum-told-3 Inv-loop μ-loop
+enum-told-3 c = search needs
+
+next-part-requires : tie.Need-next-part-requires Inv-loop μ-loop
+next-part-requires c κs = search needs
+
+enum-told-4 : tie.Need-enum-told-4 Inv-loop μ-loop
+enum-told-4 c = search needs
+
+next-part-requires-2 : tie.Need-next-part-requires-2 Inv-loop μ-loop
+next-part-requires-2 c κs = search needs
+
+enum-told-5 : tie.Need-enum-told-5 Inv-loop μ-loop
+enum-told-5 c = search needs
+
+enum-told-6 : tie.Need-enum-told-6 Inv-loop μ-loop
+enum-told-6 c = search needs
+
+returns-3 : tie.Need-returns-3 Inv-loop μ-loop
+returns-3 c = sym (order-ends (pointerOf (rest (now (c .before .before .before .before .before .before .before .before .before .before .before .before .before .before .args .a)) (c .before .before .before .before .before .before .before .before .before .loop .x))) (pointerOf (rest (now (c .before .before .before .before .before .before .before .before .before .before .before .before .before .before .args .b)) (c .before .before .before .before .before .before .before .before .before .loop .y))) (sym (c .before .before .before .before .before .before .before .before .names-order .ensures) ∙ c .before .before .before .before .before .before .enum-told3 .given .1) (rw (c .before .before .before .enum-told4 .given .1) at (c .before .before .before .before .before .next-part .ensures)) (rw (c .enum-told5 .given .1) at (c .before .before .next-part2 .ensures))) ∙ c .before .before .before .before .before .before .before .before .before .loop .inv
+
+returns-4 : tie.Need-returns-4 Inv-loop μ-loop
+returns-4 c = sym (order-left (pointerOf (rest (now (c .before .before .before .before .before .before .before .before .before .before .before .before .before .before .args .a)) (c .before .before .before .before .before .before .before .before .before .loop .x))) (pointerOf (rest (now (c .before .before .before .before .before .before .before .before .before .before .before .before .before .before .args .b)) (c .before .before .before .before .before .before .before .before .before .loop .y))) (sym (c .before .before .before .before .before .before .before .before .names-order .ensures) ∙ c .before .before .before .before .before .before .enum-told3 .given .1) (rw (c .before .before .before .enum-told4 .given .1) at (c .before .before .before .before .before .next-part .ensures)) (rw (c .enum-told6 .given .1) at (c .before .before .next-part2 .ensures))) ∙ c .before .before .before .before .before .before .before .before .before .loop .inv
+
+enum-known-x2 : tie.Need-enum-known-x2 Inv-loop μ-loop
+enum-known-x2 c = search needs
+
+next-part-requires-3 : tie.Need-next-part-requires-3 Inv-loop μ-loop
+next-part-requires-3 c κs = search needs
+
+enum-told-7 : tie.Need-enum-told-7 Inv-loop μ-loop
+enum-told-7 c = search needs
+
+returns-5 : tie.Need-returns-5 Inv-loop μ-loop
+returns-5 c = sym (order-right (pointerOf (rest (now (c .before .before .before .before .before .before .before .before .before .before .before .before .before .before .before .args .a)) (c .before .before .before .before .before .before .before .before .before .before .loop .x))) (pointerOf (rest (now (c .before .before .before .before .before .before .before .before .before .before .before .before .before .before .before .args .b)) (c .before .before .before .before .before .before .before .before .before .before .loop .y))) (sym (c .before .before .before .before .before .before .before .before .before .names-order .ensures) ∙ c .before .before .before .before .before .before .before .enum-told3 .given .1) (rw (c .before .before .before .before .x2 .given .1) at (c .before .before .before .before .before .before .next-part .ensures)) (rw (c .enum-told7 .given .1) at (c .before .before .next-part3 .ensures))) ∙ c .before .before .before .before .before .before .before .before .before .before .loop .inv
+
+enum-known-y2 : tie.Need-enum-known-y2 Inv-loop μ-loop
+enum-known-y2 c = search needs
+
+loop-less : tie.Need-loop-less Inv-loop μ-loop
+loop-less c = fewer (pointerOf (rest (now (c .before .before .before .before .before .before .before .before .before .before .before .before .before .before .before .before .args .a)) (c .before .before .before .before .before .before .before .before .before .before .before .loop .x))) (rw (c .before .before .before .before .before .x2 .given .1) at (c .before .before .before .before .before .before .before .next-part .ensures))
+
+loop-again : tie.Need-loop-again Inv-loop μ-loop
+loop-again c = sym (order-on (pointerOf (rest (now (c .before .before .before .before .before .before .before .before .before .before .before .before .before .before .before .before .args .a)) (c .before .before .before .before .before .before .before .before .before .before .before .loop .x))) (pointerOf (rest (now (c .before .before .before .before .before .before .before .before .before .before .before .before .before .before .before .before .args .b)) (c .before .before .before .before .before .before .before .before .before .before .before .loop .y))) (sym (c .before .before .before .before .before .before .before .before .before .before .names-order .ensures) ∙ c .before .before .before .before .before .before .before .before .enum-told3 .given .1) (rw (c .before .before .before .before .before .x2 .given .1) at (c .before .before .before .before .before .before .before .next-part .ensures)) (rw (c .before .y2 .given .1) at (c .before .before .before .next-part3 .ensures))) ∙ c .before .before .before .before .before .before .before .before .before .before .before .loop .inv
+
+pub key-order-spec : {M : Type 1} → statement M
+key-order-spec =
+    tie.close
+    (tie.spec
+    Inv-loop
+    μ-loop
+    start-requires
+    start-requires-2
+    loop-holds
+    names-order-requires
+    enum-told
+    returns
+    enum-told-2
+    returns-2
+    enum-told-3
+    next-part-requires
+    enum-told-4
+    next-part-requires-2
+    enum-told-5
+    enum-told-6
+    returns-3
+    returns-4
+    enum-known-x2
+    next-part-requires-3
+    enum-told-7
+    returns-5
+    enum-known-y2
+    loop-less
+    loop-again)

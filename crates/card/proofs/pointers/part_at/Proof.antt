@@ -1,0 +1,66 @@
+use mathlib.Core.Path.{_≡_, refl, sym, ap, _∙_}
+use native.Mathlib.Omega.{arith}
+use denote.Ref.{now}
+use borrow.Author.Needs.{needs}
+use Rattle.json.specs.Cursors.{rest}
+use Rattle.text.specs.Strings.{conts, decode}
+use Prim.Native.Nat.{_≤_, _-_}
+use Rattle.contact.specs.Pointer.{pointerOf}
+use Rattle.card.specs.Pointers.{strip}
+use Rattle.card.proofs.PointerLaws.{strip-on, strip-keeps}
+use Rattle.card.proofs.pointers.part_at.Statement.{statement}
+use Rattle.card.proofs.pointers.part_at.Tie as tie
+
+abbrev Inv-loop : tie.InvT-loop
+Inv-loop key parts c₀ counter₀ c counter = (pointerOf (rest key c) ≡ strip counter (pointerOf (decode key))) × (counter ≤ parts)
+
+abbrev μ-loop : tie.MeasureT-loop
+μ-loop key parts c₀ counter₀ c counter = parts - counter
+
+start-requires : tie.Need-start-requires Inv-loop μ-loop
+start-requires c κs = search needs
+
+loop-holds : tie.Need-loop-holds Inv-loop μ-loop
+unfolding conts strip
+loop-holds c = (rw (c .start .ensures) refl, omega arith)
+
+next-part-requires : tie.Need-next-part-requires Inv-loop μ-loop
+next-part-requires c κs = search needs
+
+enum-known-on : tie.Need-enum-known-on Inv-loop μ-loop
+enum-known-on c = search needs
+
+enum-told : tie.Need-enum-told Inv-loop μ-loop
+enum-told c = search needs
+
+returns : tie.Need-returns Inv-loop μ-loop
+returns c = c .before .before .before .before .loop .inv .0 ∙ strip-keeps (c .before .before .before .before .loop .counter) (c .before .before .before .before .before .before .before .args .parts) (pointerOf (decode (now (c .before .before .before .before .before .before .before .args .key)))) (sym (c .before .before .before .before .loop .inv .0) ∙ (rw (c .enum-told .given .1) at (c .before .before .next-part .ensures))) (omega arith)
+
+add-counter : tie.Need-add-counter Inv-loop μ-loop
+add-counter c = search needs
+
+loop-less : tie.Need-loop-less Inv-loop μ-loop
+loop-less c = search needs
+
+loop-again : tie.Need-loop-again Inv-loop μ-loop
+loop-again c = (sym (strip-on (c .before .before .before .before .before .loop .counter) (pointerOf (decode (now (c .before .before .before .before .before .before .before .before .args .key)))) (sym (c .before .before .before .before .before .loop .inv .0) ∙ (rw (c .before .on .given .1) at (c .before .before .before .next-part .ensures)))), omega arith)
+
+returns-2 : tie.Need-returns-2 Inv-loop μ-loop
+returns-2 c = c .before .loop .inv .0 ∙ ap (λ n. strip n (pointerOf (decode (now (c .before .before .before .before .args .key))))) (omega arith)
+
+pub part-at-spec : {M : Type 1} → statement M
+part-at-spec =
+    tie.close
+    (tie.spec
+    Inv-loop
+    μ-loop
+    start-requires
+    loop-holds
+    next-part-requires
+    enum-known-on
+    enum-told
+    returns
+    add-counter
+    loop-less
+    loop-again
+    returns-2)
