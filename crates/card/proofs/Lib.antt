@@ -15,3 +15,6 @@ pub mod PointerLaws
 pub mod MemberLaws
 pub mod PathLaws
 pub mod EntryLaws
+pub mod PointerOrders
+pub mod EntryOrders
+pub mod RunLaws

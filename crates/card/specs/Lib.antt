@@ -7,3 +7,4 @@ pub mod Pointers
 pub mod Entries
 pub mod Members
 pub mod Paths
+pub mod Runs

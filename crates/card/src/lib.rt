@@ -10,7 +10,9 @@
 //   parts     one part of a pointer, read off a key as the key is decoded
 //   paths     where a pointer leads
 //   pointers  keys as pointers: prefixes, order, bad tildes
+//   runs      where a name parts a run of sorted entries
 //   sheet     the answers in the refusal sheet's numbers
+//   sort      rows of entries, in the order of their pointers
 mod dates;
 mod entries;
 mod members;
@@ -19,7 +21,9 @@ mod paths;
 mod pointers;
 mod rows;
 mod rules;
+mod runs;
 mod schema;
 pub mod sheet;
+mod sort;
 mod types;
 mod values;

@@ -3,8 +3,6 @@
 //   %*N,K;    N bytes more, each the one that stands K bytes before it
 //   %=A,B;    the bytes of the base text from A up to B
 // and every other byte stands for itself. What doesn't fit into ROOM bytes is dropped.
-pub mod sheet;
-
 ghost use Prim.Native.Nat.{_+_, _<_, _≤_};
 ghost use lib.ListN.{length};
 ghost use Rattle.io.specs.Counts.{Counts};

@@ -27,3 +27,4 @@ pub mod Every
 pub mod Room
 pub mod Contract
 pub mod Again
+pub mod Readback

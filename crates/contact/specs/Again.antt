@@ -5,12 +5,13 @@ use mathlib.Core.List.{List}
 use lib.ListN.{length}
 use Rattle.laws.specs.Lists.{partOf}
 use Rattle.text.specs.Limits.{Limits}
-use Rattle.text.specs.Tree.{Forest}
+use Rattle.text.specs.Tree.{Forest, size}
 use Rattle.text.specs.Doc.{Name, Doc, Members, docOf, countOf}
 use Rattle.text.specs.Distinct.{Distinct}
 use Rattle.text.specs.Placed.{TokenIn}
 use Rattle.text.specs.Writing.{written}
 use Rattle.text.specs.Labels.{Labelled, Every}
+use Rattle.text.specs.Writable.{Lexeme}
 use Rattle.contact.specs.Verdict.{failed, judgedOf}
 use Rattle.contact.specs.Patch.{entriesOf, applied}
 use Rattle.contact.specs.Localize.{start}
@@ -26,10 +27,12 @@ pub record TokenOf (t : List ℕ) (kind : ℕ) (token : List ℕ) : Type 0 where
 
 -- the document x beside a text t that was read for a table of so many words, with the tree f
 pub record Modest (L : Limits) (words : ℕ) (t : List ℕ) (f : Forest) (x : Doc) : Type 0 where
-  -- no name twice in one object (4); each label says its name, each token is one of the text (2 and 3)
+  -- no name twice in one object (4); each label says its name, each token is one of the text and a token of its kind (2 and 3)
   pub distinct : Distinct x
   pub labels : Every Labelled (TokenOf t) x
-  -- no more values than are allowed (6) and have rows (7)
+  pub lexemes : Every Labelled Lexeme x
+  -- no more values than the text has, so no more than are allowed (6) and have rows (7)
+  pub fewer : countOf x ≤ size f
   pub values : countOf x ≤ L .values
   pub rows : L .words * countOf x ≤ words
   -- no longer than the text would be without white space (1)

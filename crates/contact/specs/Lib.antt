@@ -21,3 +21,4 @@ pub mod Demand
 pub mod Contract
 pub mod LocalizeSpecimens
 pub mod Again
+pub mod Readback

@@ -1,5 +1,5 @@
--- Facts that speak of no format: places and parts of a list, runs, the outcomes of a test, the order of two runs of bytes, rules of a table, and
--- buffers being cleared.
+-- Facts that speak of no format: places and parts of a list, runs, the outcomes of a test, the order of two runs of bytes, rules of a table, buffers
+-- being cleared, and sorting.
 pub mod Places
 pub mod Bounds
 pub mod Splits
@@ -7,8 +7,13 @@ pub mod Picks
 pub mod Branches
 pub mod Orders
 pub mod Tables
+pub mod Outcomes
 pub mod Parts
 pub mod Cleared
 pub mod Decides
 pub mod Bools
 pub mod Sets
+pub mod Sorting
+pub mod Slices
+pub mod Merging
+pub mod Halving

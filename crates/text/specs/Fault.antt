@@ -55,15 +55,20 @@ pub record Broken (L : Limits) (t : List ℕ) (f : Forest) (n p : ℕ) : Type 0 
   pub there : In top f seat head
   pub breaks : Breaks L t seat head n p
 
--- 3 to 6: the first p bytes and the byte at p begin a text of the grammar, and in each such text a value breaks the rule at p
+-- 3 to 6: some text of the grammar begins with the first p bytes and the byte at p, and a value of it breaks the rule at p
 pub record Violated (L : Limits) (t : List ℕ) (n p : ℕ) : Type 0 where
   pub within : p < length t
-  pub begins : Begins t (p + 1)
-  pub each : (rest : List ℕ) (d : JsonText (take (p + 1) t ++ rest)) → Broken L t (rootOf d) n p
+  pub rest : List ℕ
+  pub is : JsonText (take (p + 1) t ++ rest)
+  pub broken : Broken L t (rootOf is) n p
 
 pub data Fault (L : Limits) (t : List ℕ) : (number place : ℕ) → Type 0 where
   grammar : {p : ℕ} → NotGrammar t p → Fault L t 2 p
   violated : {n p : ℕ} → Violated L t n p → Fault L t n p
+
+-- even in each such text a value breaks the rule at p
+abbrev pub InEach : Limits → List ℕ → (number place : ℕ) → Type 0
+InEach L t n p = (rest : List ℕ) (d : JsonText (take (p + 1) t ++ rest)) → Broken L t (rootOf d) n p
 
 -- the fault of the smallest place, then of the smaller number
 pub record First (L : Limits) (t : List ℕ) (n p : ℕ) : Type 0 where

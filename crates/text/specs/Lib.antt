@@ -24,3 +24,4 @@ pub mod Seats
 pub mod Meaning
 pub mod Fault
 pub mod Labels
+pub mod Writable

@@ -13,7 +13,7 @@ use Rattle.text.specs.Grammar.{JsonText, rootOf, depthOf}
 use Rattle.text.specs.Seats.{Head, Seat, top, In, Named}
 
 -- 01: names compared decoded: no member has a name that a member before it, in the same object, has. (A value that is no member has the name start 0.)
-pub record Distinct (t : List ℕ) (f : Forest) : Type 0 where
+pub record DistinctNames (t : List ℕ) (f : Forest) : Type 0 where
   pub new : (d : Seat) (h : Head) → In top f d h → 0 < h .ns → Named t (nameOf t (h .ns) (h .ne)) (d .beside) → ⊥
 
 pub record Accepts (L : Limits) (t : List ℕ) (f : Forest) : Type 0 where
@@ -24,7 +24,7 @@ pub record Accepts (L : Limits) (t : List ℕ) (f : Forest) : Type 0 where
   pub strings : (d : Seat) (h : Head) → In top f d h → h .kind ≡ 5 → Quoted t (h .from + 1) (h .to - 1)
   pub names : (d : Seat) (h : Head) → In top f d h → 0 < h .ns → Quoted t (h .ns) (h .ne)
   -- the names in each object are distinct
-  pub distinct : L .unique ≡ true → Distinct t f
+  pub distinct : L .unique ≡ true → DistinctNames t f
   -- the limits hold
   pub short : length t ≤ L .bytes
   pub shallow : depthOf f ≤ L .depth

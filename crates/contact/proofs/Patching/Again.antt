@@ -14,8 +14,10 @@ use Rattle.text.specs.Distinct.{Distinct}
 use Rattle.text.specs.Promised.{Promised}
 use Rattle.text.specs.Writing.{written}
 use Rattle.text.specs.Labels.{Labelled, Every}
+use Rattle.text.specs.Writable.{Lexeme}
 use Rattle.text.proofs.Promise.{Fits, whole-good, promised, count-root}
 use Rattle.text.proofs.Labels.{labels-said}
+use Rattle.text.proofs.Readback.Documents.{text-writable}
 use Rattle.contact.specs.Verdict.{passed, placed, judgedOf}
 use Rattle.contact.specs.Patch.{entriesOf, applied}
 use Rattle.contact.specs.Localize.{refusedLocal, done, denied, start, patchAt, localizedOf}
@@ -53,6 +55,8 @@ module _ (L : Limits) (words : ℕ) (t : List ℕ) (f : Forest) (unique : L .uni
             (entries-values ms (find-distinct (patchAt lang) card (property (patch .label) (object ms)) dc (patch .stands)))
             (distinct-start card dc);
         labels = labels-stay (TokenOf t) card lang ms patch labels;
+        lexemes = labels-stay Lexeme card lang ms patch (text-writable L t f to (r .read) unique .labels);
+        fewer = fewer;
         values = omega (arith, p .few);
         rows = omega (arith, mul-le-mul-left (L .words) fewer, r .room);
         short = room-enough card lang ms patch dc nc pt (keys-long (TokenOf t) card lang ms patch labels);

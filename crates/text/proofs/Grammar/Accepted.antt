@@ -12,16 +12,17 @@ use Rattle.text.specs.Limits.{Limits}
 use Rattle.text.specs.Text.{byteAt}
 use Rattle.text.specs.Tokens.{skip}
 use Rattle.text.specs.Tree.{Forest}
-use Rattle.text.specs.Reader.{Read, good}
+use Rattle.text.specs.Reader.{Read, good, bad}
 use Rattle.text.specs.Whole.{endOf, readOf}
 use Rattle.text.specs.Grammar.{JsonText, rootOf, value}
-use Rattle.text.specs.Seats.{top}
+use Rattle.text.specs.Seats.{Head, Seat, top, In}
 use Rattle.text.specs.Meaning.{Accepts}
+use Rattle.text.specs.declared.Refusal.{Refusal}
 use Rattle.text.proofs.Induction.{read-accepted}
+use Rattle.text.proofs.Grammar.Exact.{Past}
 use Rattle.text.proofs.Grammar.Sound.{Parsed, placeOf}
-use Rattle.text.proofs.Grammar.Words.{skip-inside}
-use Rattle.text.proofs.Grammar.Wrong.{Kept, clean}
-use Rattle.text.proofs.Grammar.Meets.{Near, read, broken}
+use Rattle.text.proofs.Grammar.Wrong.{Wrong, Kept, clean}
+use Rattle.text.proofs.Grammar.Meets.{Numbered, Near, read, broken}
 use Rattle.text.proofs.Grammar.Rules.{sane, sane-string, sane-name, sane-new}
 use Rattle.text.proofs.Grammar.Wholes.{root, root-told, root-within, self, read-text}
 
@@ -58,26 +59,31 @@ module _ (L : Limits) (t : List ℕ) where
         sane = λ c h i. sane L t c h (a .strings c h i) (a .names c h i) (λ u. a .distinct u .new c h i);
       }
 
-  -- the value is read, and the text ends behind it
-  record Ended (f : Forest) (R : Read) : Type 0 where
-    end : ℕ
-    is : R ≡ good f end
-    over : skip t end ≡ length t
+  -- what is answered of a text of the grammar: its value is read and the text ends behind it, or a value has something wrong, which is the answer
+  pub data Answered (f : Forest) : Read → Type 0 where
+    ended : (end : ℕ) → skip t end ≡ length t → Answered f (good f end)
+    stopped : {d : Seat} {h : Head} {m x : ℕ} {r : Refusal} → In top f d h → Wrong L t d h m x → Numbered m x r → Answered f (bad r)
 
-  root-ended : {f : Forest} → Accepts L t f → Ended f (root L t)
-  root-ended {f} a =
-      let m = self L t (root L t) refl (a .derives) in
-      go (root L t) (root-within L t) (m .end) (subst (λ (g : Forest). Near L t (length t + 1) top g (m .end) (root L t)) (sym (a .tree)) (m .is)) (m .ends)
+  pub answered : (d : JsonText t) → Answered (rootOf d) (root L t)
+  answered d = let m = self L t (root L t) refl d in go (root L t) (root-within L t) (m .end) (m .is) (m .ends)
     where
-      go : (R : Read) → placeOf R ≤ length t → (end : ℕ) → Near L t (length t + 1) top f end R → (end ≤ length t → (skip t end ≡ length t) ⊎ (length t + 1 ≤ skip t end)) → Ended f R
-      go R i end read o = record { end = end; is = refl; over = ⊎-elim (λ u. u) (λ u. absurd (omega (arith, skip-inside t end i))) (o i) }
-      go R i end (broken j w n) o = absurd (clean L t (L .depth) (zero-add (L .depth)) (accepts-kept a) j w)
+      go : (R : Read) → placeOf R ≤ length t → (end : ℕ) → Near L t (length t + 1) top (rootOf d) end R
+          → (end ≤ length t → (skip t end ≡ length t) ⊎ Past (length t + 1) (length t) (skip t end)) → Answered (rootOf d) R
+      go R i end read o = ended end (⊎-elim (λ u. u) (λ u. absurd (omega (arith, u .word))) (o i))
+      go R i end (broken j w n) o = stopped j w n
+
+  pub ended-so : (f : Forest) (end : ℕ) → skip t end ≡ length t → endOf t (good f end) ≡ good f (length t)
+  unfolding endOf
+  ended-so f end e = rw (e, eq-eqb (byteAt t (length t)) 256 (List·getD-eq-default t 256 (le-refl (length t))))
 
   accepts-read : (f : Forest) → Accepts L t f → readOf L t ≡ good f (length t)
-  unfolding readOf endOf
+  unfolding readOf
   accepts-read f a =
-      let r = root-ended a in
-      rw (le-ltb (L .bytes) (length t) (a .short), r .is, r .over, eq-eqb (byteAt t (length t)) 256 (List·getD-eq-default t 256 (le-refl (length t))))
+      rw (le-ltb (L .bytes) (length t) (a .short)) (go (root L t) (subst (λ (g : Forest). Answered g (root L t)) (sym (a .tree)) (answered (a .derives))))
+    where
+      go : (R : Read) → Answered f R → endOf t R ≡ good f (length t)
+      go R (ended end e) = ended-so f end e
+      go R (stopped j w n) = absurd (clean L t (L .depth) (zero-add (L .depth)) (accepts-kept a) j w)
 
 -- theorem: accepted exactly
 pub accepts : (L : Limits) (t : List ℕ) (f : Forest) → (readOf L t ≡ good f (length t)) ↔ Accepts L t f

@@ -1,6 +1,7 @@
 -- A token's reader and its language agree, shown once for each way of ABNF to build a rule. `Exact t L Ends f` says of the reader f of a language L:
 --     told      where f ends a token, a word of L stands there; where it refuses, the bytes before the refusal's place begin a word of L
---     follow    where the text is like a word of L and what may follow it, as far as a place q, f ends where the word ends or answers of q or a later place
+--     follow    where the text is like a word of L and what may follow it, as far as a place q, f ends where the word ends; or q is still in the word, and f
+--               answers of q or a later place; or it refuses with 3, inside the word unless q is
 -- Assumes nothing.
 use mathlib.Core.Path.{_≡_, refl, sym, _∙_}
 use mathlib.Core.List.{List, [], _∷_, _++_, append-assoc}
@@ -40,11 +41,16 @@ Said t L at (End end) = Standing t L at end
 Said t L at (No2 q) = Begun t L at q q
 Said t L at (No3 q) = Begun t L at q (q + 1)
 
+-- the word that is expected up to `to` is not over at q, and neither is the answer of the place p
+pub record Past (q to p : ℕ) : Type 0 where
+  pub word : q ≤ to
+  pub answer : q ≤ p
+
 -- a word that ends at `to` is expected, by a text that is like it as far as q
 abbrev pub Goes : ℕ → ℕ → Token → Type 0
-Goes q to (End end) = (end ≡ to) ⊎ (q ≤ end)
-Goes q to (No2 p) = q ≤ p
-Goes q to (No3 p) = Unit {0}
+Goes q to (End end) = (end ≡ to) ⊎ Past q to end
+Goes q to (No2 p) = Past q to p
+Goes q to (No3 p) = (q ≤ to) ⊎ (p < to)
 
 pub record Exact (t : List ℕ) (L : List ℕ → Type 0) (Ends : ℕ → Type 0) (f : ℕ → Token) : Type 0 where
   pub some-word : List ℕ
@@ -72,10 +78,10 @@ token-place (End end) = end
 token-place (No2 place) = place
 token-place (No3 place) = place
 
-pub goes-past : (q to : ℕ) (k : Token) → q ≤ token-place k → Goes q to k
-goes-past q to (End end) h = inr h
-goes-past q to (No2 place) h = h
-goes-past q to (No3 place) h = tt
+pub goes-past : (q to : ℕ) (k : Token) → q ≤ to → q ≤ token-place k → Goes q to k
+goes-past q to (End end) l h = inr (record { word = l; answer = h })
+goes-past q to (No2 place) l h = record { word = l; answer = h }
+goes-past q to (No3 place) l h = inl l
 
 pub said-later : (t : List ℕ) (L : List ℕ → Type 0) (at : ℕ) (k : Token) → Said t L at k → at ≤ token-place k
 said-later t L at (End end) s = omega (arith, stands-to (s .stands))
@@ -123,7 +129,7 @@ module _ (t : List ℕ) where
     byte-follow : {q at : ℕ} {w : List ℕ} (s : List ℕ) → Byte P w → Like t q at (w ++ s) → Goes q (at + length w) (byteOf t is at)
     byte-follow {q} {at} s (Byte.byte {x} e) l =
         if-true (Goes q (at + 1)) (is (byteAt t at)) (λ b. inl refl)
-        (λ b. by-order at q (λ k. clash (is (byteAt t at)) (rw (like-here l k) (h .back x e)) b) (λ k. k))
+        (λ b. by-order at q (λ k. clash (is (byteAt t at)) (rw (like-here l k) (h .back x e)) b) (λ k. record { word = omega arith; answer = k }))
 
     pub byte-exact : (x : ℕ) → P x → Exact t (Byte P) (λ z. Unit {0}) (byteOf t is)
     byte-exact x e =
@@ -145,20 +151,25 @@ module _ (t : List ℕ) where
         go true e g =
             let b = inside t at (h .small (byteAt t at) e) in
             let s = g (omega arith) in
-            rw (run-on is t (not-past h) at e) (record { word = byteAt t at ∷ s .word; is = Star.more (Byte.byte (h .sure (byteAt t at) e)) (s .is); stands = Stands.next refl b (s .stands) })
+            rw (run-on is t (not-past h) at e) (record {
+              word = byteAt t at ∷ s .word;
+              is = Star.more (Byte.byte (h .sure (byteAt t at) e)) (s .is);
+              stands = Stands.next refl b (s .stands);
+            })
         go false e g = rw (run-end is t (not-past h) at e) (record { word = []; is = Star.none; stands = Stands.done })
 
     pub run-stands : (at : ℕ) → Standing t (Star (Byte P)) at (runEnd is t at)
     run-stands at = run-told (suc (length t - at)) at (omega arith)
 
-    run-follow : {q at : ℕ} {w : List ℕ} (s : List ℕ) → Star (Byte P) w → is (byteAt s 0) ≡ false → Like t q at (w ++ s) → (runEnd is t at ≡ at + length w) ⊎ (q ≤ runEnd is t at)
+    run-follow : {q at : ℕ} {w : List ℕ} (s : List ℕ) → Star (Byte P) w → is (byteAt s 0) ≡ false → Like t q at (w ++ s)
+        → (runEnd is t at ≡ at + length w) ⊎ Past q (at + length w) (runEnd is t at)
     run-follow {q} {at} s Star.none o l =
         by-order at q (λ k. inl (run-end is t (not-past h) at (rw (like-here l k) o) ∙ sym (add-zero at)))
-        (λ k. inr (omega (arith, stands-to (run-stands at .stands))))
+        (λ k. inr (record { word = omega arith; answer = omega (arith, stands-to (run-stands at .stands)) }))
     run-follow {q} {at} s (Star.more {v = w} (Byte.byte {x} e) m) o l =
         let one : at + suc (length w) ≡ at + 1 + length w = omega arith in
         by-order at q (λ k. rw (run-on is t (not-past h) at (rw (like-here l k) (h .back x e)), one) (run-follow s m o (like-tail l)))
-        (λ k. inr (omega (arith, stands-to (run-stands at .stands))))
+        (λ k. inr (record { word = omega arith; answer = omega (arith, stands-to (run-stands at .stands)) }))
 
     pub run-exact : Exact t (Star (Byte P)) (λ z. is z ≡ false) (runOf t is)
     run-exact =
@@ -186,11 +197,12 @@ module _ (t : List ℕ) where
 
     after-follow : (q at : ℕ) (u v s : List ℕ) → at ≤ length t → M v → F (byteAt s 0) → Like t q at (u ++ (v ++ s))
         → (k : Token) → Said t L at k → Goes q (at + length u) k → Goes q (at + length (u ++ v)) (thenAt g k)
-    after-follow q at u v s i d o h (No2 p) c n = n
-    after-follow q at u v s i d o h (No3 p) c n = n
+    after-follow q at u v s i d o h (No2 p) c n = record { word = omega (arith, n .word, length-append u v); answer = n .answer }
+    after-follow q at u v s i d o h (No3 p) c (inl n) = inl (omega (arith, length-append u v))
+    after-follow q at u v s i d o h (No3 p) c (inr n) = inr (omega (arith, length-append u v))
     after-follow q at u v s i d o h (End end) c (inr n) =
         let j = stands-inside (c .stands) i in
-        goes-past q (at + length (u ++ v)) (g end) (omega (arith, said-later t M end (g end) (m .told end j)))
+        goes-past q (at + length (u ++ v)) (g end) (omega (arith, n .word, length-append u v)) (omega (arith, n .answer, said-later t M end (g end) (m .told end j)))
     after-follow q at u v s i d o h (End end) c (inl n) =
         let e : at + length (u ++ v) ≡ end + length v = omega (arith, length-append u v) in
         rw e (m .follow q end v s (stands-inside (c .stands) i) d o (rw (← n) at (like-skip u h)))
@@ -204,25 +216,34 @@ module _ (t : List ℕ) where
 
       pub seq-exact : Exact t (Seq L M) F (seqOf f g)
       seq-exact =
-          record { some-word = l .some-word ++ m .some-word; has = seq (l .has) (m .has); told = λ at i. seq-told at i (f at) (l .told at i); follow = λ q at w s i c o h. seq-follow s i c o h }
+          record {
+            some-word = l .some-word ++ m .some-word;
+            has = seq (l .has) (m .has);
+            told = λ at i. seq-told at i (f at) (l .told at i);
+            follow = λ q at w s i c o h. seq-follow s i c o h;
+          }
 
   -- one or none, by the byte at hand
   module _ (is : ℕ → Bool) (L : List ℕ → Type 0) (E : ℕ → Type 0) (f : ℕ → Token) (l : Exact t L E f) (first : (w s : List ℕ) → L w → is (byteAt (w ++ s) 0) ≡ true) where
     opt-follow : {q at : ℕ} {w : List ℕ} (s : List ℕ) → at ≤ length t → Opt L w → E (byteAt s 0) × (is (byteAt s 0) ≡ false) → Like t q at (w ++ s) → Goes q (at + length w) (optOf t is f at)
     opt-follow {q} {at} s i Opt.none o h =
         if-true (Goes q (at + 0)) (is (byteAt t at))
-        (λ b. goes-past q (at + 0) (f at) (by-order at q (λ k. clash _ b (rw (like-here h k) (o .1))) (λ k. omega (arith, said-later t L at (f at) (l .told at i)))))
+        (λ b. by-order at q (λ k. clash _ b (rw (like-here h k) (o .1))) (λ k. goes-past q (at + 0) (f at) (omega arith) (omega (arith, said-later t L at (f at) (l .told at i)))))
         (λ b. inl (sym (add-zero at)))
     opt-follow {q} {at} s i (Opt.some {w} c) o h =
         if-true (Goes q (at + length w)) (is (byteAt t at)) (λ b. l .follow q at w s i c (o .0) h)
-        (λ b. inr (by-order at q (λ k. clash _ (rw (like-here h k) (first w s c)) b) (λ k. k)))
+        (λ b. by-order at q (λ k. clash _ (rw (like-here h k) (first w s c)) b) (λ k. inr (record { word = omega arith; answer = k })))
 
     pub opt-exact : Exact t (Opt L) (λ z. E z × (is z ≡ false)) (optOf t is f)
     opt-exact =
         record {
           some-word = [];
           has = Opt.none;
-          told = λ at i. if-true (Said t (Opt L) at) (is (byteAt t at)) (λ b. said-map t L (Opt L) at (λ w d. Opt.some d) (f at) (l .told at i)) (λ b. record { word = []; is = Opt.none; stands = Stands.done });
+          told = λ at i. if-true (Said t (Opt L) at) (is (byteAt t at)) (λ b. said-map t L (Opt L) at (λ w d. Opt.some d) (f at) (l .told at i)) (λ b. record {
+            word = [];
+            is = Opt.none;
+            stands = Stands.done;
+          });
           follow = λ q at w s i c o h. opt-follow s i c o h;
         }
 
@@ -232,10 +253,12 @@ module _ (t : List ℕ) where
     or-follow : {q at : ℕ} {w : List ℕ} (s : List ℕ) → at ≤ length t → Or L M w → E (byteAt s 0) × F (byteAt s 0) → Like t q at (w ++ s) → Goes q (at + length w) (orOf t is f g at)
     or-follow {q} {at} s i (this {w} c) o h =
         if-true (Goes q (at + length w)) (is (byteAt t at)) (λ b. l .follow q at w s i c (o .0) h)
-        (λ b. goes-past q (at + length w) (g at) (by-order at q (λ k. clash _ (rw (like-here h k) (first w s c)) b) (λ k. omega (arith, said-later t M at (g at) (m .told at i)))))
+        (λ b. by-order at q (λ k. clash _ (rw (like-here h k) (first w s c)) b) (λ k. goes-past q (at + length w) (g at) (omega arith)
+        (omega (arith, said-later t M at (g at) (m .told at i)))))
     or-follow {q} {at} s i (that {w} c) o h =
         if-true (Goes q (at + length w)) (is (byteAt t at))
-        (λ b. goes-past q (at + length w) (f at) (by-order at q (λ k. clash _ b (rw (like-here h k) (second w s c))) (λ k. omega (arith, said-later t L at (f at) (l .told at i)))))
+        (λ b. by-order at q (λ k. clash _ b (rw (like-here h k) (second w s c))) (λ k. goes-past q (at + length w) (f at) (omega arith)
+        (omega (arith, said-later t L at (f at) (l .told at i)))))
         (λ b. m .follow q at w s i c (o .1) h)
 
     pub or-exact : Exact t (Or L M) (λ z. E z × F z) (orOf t is f g)
@@ -243,6 +266,7 @@ module _ (t : List ℕ) where
         record {
           some-word = l .some-word;
           has = this (l .has);
-          told = λ at i. if-true (Said t (Or L M) at) (is (byteAt t at)) (λ b. said-map t L (Or L M) at (λ w d. this d) (f at) (l .told at i)) (λ b. said-map t M (Or L M) at (λ w d. that d) (g at) (m .told at i));
+          told = λ at i. if-true (Said t (Or L M) at) (is (byteAt t at)) (λ b. said-map t L (Or L M) at (λ w d. this d) (f at) (l .told at i))
+              (λ b. said-map t M (Or L M) at (λ w d. that d) (g at) (m .told at i));
           follow = λ q at w s i c o h. or-follow s i c o h;
         }

@@ -1,8 +1,9 @@
 -- What is expected of an answer where the text is like a derived part as far as a place q: `Meets`. The definition reads the part with its tree; or it
--- names what is wrong with a value of that tree; or it answers of q or a later place. Here: how answers are put together. Assumes nothing.
+-- names what is wrong with a value of that tree; or q is still in the part, and it answers of q or a later place. Here: how answers are put together. Assumes nothing.
 use mathlib.Core.Path.{_≡_, refl}
 use mathlib.Core.List.{List, [], _∷_, _++_, append-assoc}
 use mathlib.Core.Bool.{Bool, true, false}
+use mathlib.Core.Logic.{_⊎_}
 use Prim.Native.Nat.{ℕ, _+_, _≤_, _<_}
 use native.Mathlib.Omega.{arith}
 use lib.ListN.{length, length-append}
@@ -14,12 +15,12 @@ use Rattle.text.specs.Tokens.{isSpace, isDigit, wordAt, thenAt, digitsAt
 use Rattle.text.specs.Tree.{Bracket, square, curly, closing, Forest, none, node, size, join}
 use Rattle.text.specs.Reader.{Read, good, bad, closeOf}
 use Rattle.text.specs.Abnf.{Byte, Star}
-use Rattle.text.specs.Grammar.{Blank, Ws, quoted, Simple, nothing, falsity, truth, numeral, text, kindOf, Part, value, Is, simple, empty, full, element, member, one, comma, treeOf}
+use Rattle.text.specs.Grammar.{Blank, Ws, quoted, Simple, nothing, falsity, truth, numeral, text, kindOf, Written, Part, value, Is, simple, empty, full, element, member, one, comma, treeOf}
 use Rattle.text.specs.Seats.{Head, leafHead, nodeHead, Seat, under, behind, In}
 use Rattle.text.specs.declared.Token.{Token}
 use Rattle.text.specs.declared.Token.the-variants.{End, No2, No3}
 use Rattle.text.specs.declared.Refusal.{Refusal}
-use Rattle.text.specs.declared.Refusal.the-variants.{Character, Repeated, Deep, Many}
+use Rattle.text.specs.declared.Refusal.the-variants.{TooLong, Grammar, Character, Repeated, Deep, Many, Small}
 use Rattle.text.proofs.Grammar.Words.{Behind, blank, blank-tells, simpleOf, simple-first}
 use Rattle.text.proofs.Grammar.Trees.{join-assoc, size-join, in-right}
 use Rattle.text.proofs.Grammar.Wrong.{Wrong}
@@ -33,12 +34,31 @@ pub data Numbered : (number place : ℕ) → Refusal → Type 0 where
   fifth : {x : ℕ} → Numbered 5 x (Deep x)
   sixth : {x : ℕ} → Numbered 6 x (Many x)
 
+abbrev pub numberOf : Refusal → ℕ
+numberOf TooLong = 1
+numberOf (Grammar p) = 2
+numberOf (Character p) = 3
+numberOf (Repeated p) = 4
+numberOf (Deep p) = 5
+numberOf (Many p) = 6
+numberOf (Small n) = 7
+
+pub record Has (r : Refusal) (m x : ℕ) : Type 0 where
+  pub number : numberOf r ≡ m
+  pub place : placeOf (bad r) ≡ x
+
+pub numbered-has : {m x : ℕ} {r : Refusal} → Numbered m x r → Has r m x
+numbered-has third = record { number = refl; place = refl }
+numbered-has fourth = record { number = refl; place = refl }
+numbered-has fifth = record { number = refl; place = refl }
+numbered-has sixth = record { number = refl; place = refl }
+
 module _ (L : Limits) (t : List ℕ) (q : ℕ) where
   -- an answer, where the values f up to the place `to` are expected, of which T are new, the first at c
   pub data Meets (c : Seat) (f T : Forest) (to : ℕ) : Read → Type 0 where
-    past : {R : Read} → q ≤ placeOf R → Meets c f T to R
+    past : {R : Read} → q ≤ to → q ≤ placeOf R → Meets c f T to R
     same : c .after + size T ≤ L .values → Meets c f T to (good f to)
-    wrong : {d : Seat} {h : Head} {m x : ℕ} {r : Refusal} → In c T d h → Wrong L t d h m x → Numbered m x r → Meets c f T to (bad r)
+    wrong : {d : Seat} {h : Head} {m x : ℕ} {r : Refusal} → In c T d h → Wrong L t d h m x → Numbered m x r → (q ≤ to) ⊎ (x < to) → Meets c f T to (bad r)
 
   -- all of them are new
   abbrev pub Reads : Seat → Forest → ℕ → Read → Type 0
@@ -50,23 +70,23 @@ module _ (L : Limits) (t : List ℕ) (q : ℕ) where
     broken : {d : Seat} {h : Head} {m x : ℕ} {r : Refusal} → In c f d h → Wrong L t d h m x → Numbered m x r → Near c f to (bad r)
 
   pub near : {c : Seat} {f : Forest} {to : ℕ} {R : Read} → Reads c f to R → placeOf R < q → Near c f to R
-  near (past h) l = absurd (omega arith)
+  near (past k h) l = absurd (omega arith)
   near (same h) l = read
-  near (wrong i w n) l = broken i w n
+  near (wrong i w n o) l = broken i w n
 
   -- a container around what is inside it
   pub meets-close : {c : Seat} {f : Forest} {to : ℕ} {R : Read} (b : Bracket) (ns ne at : ℕ) → Reads (under c) f to R → Reads c (node b ns ne at to f none) to (closeOf b ns ne at R)
   unfolding closeOf size
-  meets-close b ns ne at (past {R} h) = past {R = closeOf b ns ne at R} (rw (close-place b ns ne at R) h)
+  meets-close b ns ne at (past {R} k h) = past {R = closeOf b ns ne at R} k (rw (close-place b ns ne at R) h)
   meets-close b ns ne at (same h) = same (omega arith)
-  meets-close b ns ne at (wrong i w n) = wrong (In.into i) w n
+  meets-close b ns ne at (wrong i w n o) = wrong (In.into i) w n o
 
   -- values after other values
   pub meets-join : {c : Seat} {x : ℕ} {R : Read} (B T S : Forest) → c .after + size T ≤ L .values
       → Meets (behind c T) (join (join B T) S) S x R → Meets c (join B (join T S)) (join T S) x R
-  meets-join B T S k (past h) = past h
+  meets-join B T S k (past l h) = past l h
   meets-join B T S k (same h) = rw (join-assoc B T S) (same (omega (arith, size-join T S)))
-  meets-join B T S k (wrong i w n) = wrong (in-right T i) w n
+  meets-join B T S k (wrong i w n o) = wrong (in-right T i) w n o
 
 -- the first value of a part that is a value, and its name
 pub record Firstly (c : Seat) (f : Forest) (ns : ℕ) : Type 0 where
@@ -113,16 +133,22 @@ leads b h = record { dark = go (isSpace b) refl; apart-from = λ k e. apart k (r
     apart square k = omega arith
     apart curly k = omega arith
 
+some-kind : (k : Simple) → 0 < kindOf k
+some-kind nothing = omega arith
+some-kind falsity = omega arith
+some-kind truth = omega arith
+some-kind numeral = omega arith
+some-kind text = omega arith
+
+-- a value that holds no others has some bytes
+pub simple-long : (k : Simple) (w : List ℕ) → Written k w → 0 < length w
+unfolding kindBy
+simple-long k [] d = let e : 0 ≡ kindOf k = simple-first k [] [] d in absurd (omega (arith, some-kind k))
+simple-long k (x ∷ w) d = omega arith
+
 first-kind : {a : Part} {w : List ℕ} → Is a w → (r : List ℕ) → 0 < kindBy (byteAt (w ++ r) 0)
 unfolding kindBy
-first-kind (simple {w} k l) r = rw (simple-first k w r l) (some k)
-  where
-    some : (k : Simple) → 0 < kindOf k
-    some nothing = omega arith
-    some falsity = omega arith
-    some truth = omega arith
-    some numeral = omega arith
-    some text = omega arith
+first-kind (simple {w} k l) r = rw (simple-first k w r l) (some-kind k)
 first-kind (empty square p) r = omega arith
 first-kind (empty curly p) r = omega arith
 first-kind (full square p d) r = omega arith

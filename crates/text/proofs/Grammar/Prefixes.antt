@@ -15,7 +15,7 @@ byte-end [] = refl
 byte-end (x ∷ t) = byte-end t
 
 module _ {t : List ℕ} where
-  stands-drop : {at to : ℕ} {w : List ℕ} → Stands t at to w → drop at t ≡ w ++ drop to t
+  pub stands-drop : {at to : ℕ} {w : List ℕ} → Stands t at to w → drop at t ≡ w ++ drop to t
   stands-drop Stands.done = refl
   stands-drop {at} (Stands.next {x} e i s) = drop-cons t at 256 i ∙ rw (e, ← add-one at) (ap (λ (l : List ℕ). x ∷ l) (stands-drop s))
 

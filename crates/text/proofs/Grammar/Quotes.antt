@@ -127,7 +127,7 @@ spell-chars (short s) = Star.more (Char.escape (short-letter s)) Star.none
 spell-chars (unit g d) = four-chars d
 spell-chars (pair {v} d h e k g) = star-join {u = 92 ∷ 117 ∷ v} (four-chars d) (four-chars e)
 
-spells-chars : {w cs : List ℕ} → Spells w cs → Star Char w
+pub spells-chars : {w cs : List ℕ} → Spells w cs → Star Char w
 spells-chars Spells.none = Star.none
 spells-chars (Spells.more s d) = star-join (spell-chars s) (spells-chars d)
 
@@ -250,6 +250,10 @@ data Ahead (t : List ℕ) (q : ℕ) (s : List ℕ) (e i : ℕ) : Type 0 where
 hex-here : {t : List ℕ} {q at x : ℕ} {w : List ℕ} (j : ℕ) → HexDigit x → Like t q at (x ∷ w) → j ≡ at → j < q → HexDigit (byteAt t j)
 hex-here {t} {at} {x} j h l n k = let b : byteAt t j ≡ x = rw n (like-here l (omega arith)) in rw b h
 
+-- each place before `to`, and not behind the closing quote at e, is before q
+abbrev Seen : (q e to : ℕ) → Type 0
+Seen q e to = (j : ℕ) → j < to → j ≤ e → j < q
+
 module _ {t : List ℕ} {q : ℕ} {s : List ℕ} {e : ℕ} where
   ahead : {i : ℕ} {w : List ℕ} → Star Char w → Like t q i (w ++ 34 ∷ s) → i + length w ≡ e → Ahead t q s e i
   ahead {i} Star.none l n = closing (omega arith) (like-here l)
@@ -280,47 +284,49 @@ module _ {t : List ℕ} {q : ℕ} {s : List ℕ} {e : ℕ} where
   over-plain {i} k p (escaped b l r) = absurd (p .no-backslash (b k))
   over-plain {i} k p (coded b l d r) = absurd (p .no-backslash (b k))
 
-  over-plains : {i to : ℕ} {w : List ℕ} → Plains w → Stands t i to w → to ≤ q → Rest t q s e i → Rest t q s e to
+  over-plains : {i to : ℕ} {w : List ℕ} → Plains w → Stands t i to w → Seen q e to → Rest t q s e i → Rest t q s e to
   over-plains p Stands.done k r = r
   over-plains {i} p (Stands.next b h st) k r =
       let n = stands-to st in
-      over-plains (p .1) st k (over-plain (omega arith) (rw b (p .0)) (next r))
+      over-plains (p .1) st k (over-plain (k i (omega arith) (omega (arith, r .size))) (rw b (p .0)) (next r))
 
   -- an escape by a letter, and one by digits
-  over-letter : {i : ℕ} → i + 1 < q → byteAt t i ≡ 92 → (byteAt t (i + 1) ≡ 117 → ⊥) → Ahead t q s e i → Rest t q s e (i + 2) × Letter (byteAt t (i + 1))
-  over-letter {i} k b n (closing o c) = let h = c (omega arith) in absurd (omega arith)
-  over-letter {i} k b n (plain c r) = absurd (c (omega arith) .no-backslash b)
-  over-letter {i} k b n (escaped c l r) = (r, l k)
-  over-letter {i} k b n (coded c l d r) = absurd (n (l k))
+  over-letter : {i : ℕ} → i < q → (i + 1 ≤ e → i + 1 < q) → byteAt t i ≡ 92 → (byteAt t (i + 1) ≡ 117 → ⊥) → Ahead t q s e i → Rest t q s e (i + 2) × Letter (byteAt t (i + 1))
+  over-letter {i} k m b n (closing o c) = let h = c k in absurd (omega arith)
+  over-letter {i} k m b n (plain c r) = absurd (c k .no-backslash b)
+  over-letter {i} k m b n (escaped c l r) = (r, l (m (omega (arith, r .size))))
+  over-letter {i} k m b n (coded c l d r) = absurd (n (l (m (omega (arith, r .size)))))
 
-  over-digits : {i : ℕ} → i + 1 < q → byteAt t i ≡ 92 → byteAt t (i + 1) ≡ 117 → Ahead t q s e i
+  over-digits : {i : ℕ} → i < q → (i + 1 ≤ e → i + 1 < q) → byteAt t i ≡ 92 → byteAt t (i + 1) ≡ 117 → Ahead t q s e i
       → Rest t q s e (i + 6) × ((j : ℕ) → i + 2 ≤ j → j < i + 6 → j < q → HexDigit (byteAt t j))
-  over-digits {i} k b n (closing o c) = let h = c (omega arith) in absurd (omega arith)
-  over-digits {i} k b n (plain c r) = absurd (c (omega arith) .no-backslash b)
-  over-digits {i} k b n (escaped c l r) = absurd (letter-not-u (l k) n)
-  over-digits {i} k b n (coded c l d r) = (r, d)
+  over-digits {i} k m b n (closing o c) = let h = c k in absurd (omega arith)
+  over-digits {i} k m b n (plain c r) = absurd (c k .no-backslash b)
+  over-digits {i} k m b n (escaped c l r) = absurd (letter-not-u (l (m (omega (arith, r .size)))) n)
+  over-digits {i} k m b n (coded c l d r) = (r, d)
 
-  over-four : {i to v : ℕ} {w : List ℕ} → FourDigits w v → Stands t i to (92 ∷ 117 ∷ w) → to ≤ q → Rest t q s e i → Rest t q s e to
+  over-four : {i to v : ℕ} {w : List ℕ} → FourDigits w v → Stands t i to (92 ∷ 117 ∷ w) → Seen q e to → Rest t q s e i → Rest t q s e to
   over-four {i} (four d1 d2 d3 d4) (Stands.next a h (Stands.next b o (Stands.next x1 y1 (Stands.next x2 y2 (Stands.next x3 y3 (Stands.next x4 y4 Stands.done)))))) k r =
       let six : i + 6 ≡ i + 1 + 1 + 1 + 1 + 1 + 1 = omega arith in
-      rw six at (over-digits (omega arith) a b (next r) .0)
+      rw six at (over-digits (k i (omega arith) (omega (arith, r .size))) (λ l. k (i + 1) (omega arith) l) a b (next r) .0)
 
   -- what spells a character
-  over-spelled : {i to c : ℕ} {w : List ℕ} → Spell w c → Stands t i to w → to ≤ q → Rest t q s e i → Rest t q s e to
+  over-spelled : {i to c : ℕ} {w : List ℕ} → Spell w c → Stands t i to w → Seen q e to → Rest t q s e i → Rest t q s e to
   over-spelled (raw {c} g u) st k r = over-plains (utf8-plain c u) st k r
   over-spelled {i} (short m) (Stands.next a h (Stands.next b o Stands.done)) k r =
       let two : i + 2 ≡ i + 1 + 1 = omega arith in
-      rw two at (over-letter (omega arith) a (λ z. letter-not-u (short-letter m) (sym b ∙ z)) (next r) .0)
+      rw two at (over-letter (k i (omega arith) (omega (arith, r .size))) (λ l. k (i + 1) (omega arith) l) a (λ z. letter-not-u (short-letter m) (sym b ∙ z)) (next r) .0)
   over-spelled (unit g d) st k r = over-four d st k r
   over-spelled (pair {v} d h f l g) st k r =
       let c = stands-split (92 ∷ 117 ∷ v) st in
-      over-four f (c .2) k (over-four d (c .1) (omega (arith, stands-to (c .2))) r)
+      let n = stands-to (c .2) in
+      over-four f (c .2) k (over-four d (c .1) (λ j l. k j (omega arith)) r)
 
-  over-spells : {i to : ℕ} {w cs : List ℕ} → Spells w cs → Stands t i to w → to ≤ q → Rest t q s e i → Rest t q s e to
+  over-spells : {i to : ℕ} {w cs : List ℕ} → Spells w cs → Stands t i to w → Seen q e to → Rest t q s e i → Rest t q s e to
   over-spells Spells.none Stands.done k r = r
   over-spells (Spells.more {w} m d) st k r =
       let c = stands-split w st in
-      over-spells d (c .2) k (over-spelled m (c .1) (omega (arith, stands-to (c .2))) r)
+      let n = stands-to (c .2) in
+      over-spells d (c .2) k (over-spelled m (c .1) (λ j l. k j (omega arith)) r)
 
   -- where the text has a quote, the string ends
   at-quote : {i : ℕ} → i < q → byteAt t i ≡ 34 → Ahead t q s e i → i ≡ e
@@ -329,46 +335,62 @@ module _ {t : List ℕ} {q : ℕ} {s : List ℕ} {e : ℕ} where
   at-quote {i} k b (escaped c l r) = absurd (omega (arith, c k))
   at-quote {i} k b (coded c l d r) = absurd (omega (arith, c k))
 
-  -- a byte that can't continue the string is past q
+  -- a byte that can't continue the string is not seen
   small-here : {i : ℕ} → i < q → Ahead t q s e i → (32 ≤ byteAt t i) × (byteAt t i < 256)
   small-here {i} k (closing o c) = omega (arith, c k)
   small-here {i} k (plain c r) = omega (arith, c k .no-control, c k .byte)
   small-here {i} k (escaped c l r) = omega (arith, c k)
   small-here {i} k (coded c l d r) = omega (arith, c k)
 
-  at-cut : {i p : ℕ} {w : List ℕ} → Cut w (byteAt t p) → Stands t i p w → p < q → Rest t q s e i → ⊥
-  at-cut (control h) Stands.done k r = omega (arith, small-here k (next r))
-  at-cut (ended h) Stands.done k r = omega (arith, small-here k (next r))
-  at-cut (letter n m) (Stands.next a h Stands.done) k r =
-      let l = letter-short (over-letter k a n (next r) .1) in
+  at-cut : {i p : ℕ} {w : List ℕ} → Cut w (byteAt t p) → Stands t i p w → Seen q e (p + 1) → Rest t q s e i → ⊥
+  at-cut {i} (control h) Stands.done k r = omega (arith, small-here (k i (omega arith) (omega (arith, r .size))) (next r))
+  at-cut {i} (ended h) Stands.done k r = omega (arith, small-here (k i (omega arith) (omega (arith, r .size))) (next r))
+  at-cut {i} (letter n m) (Stands.next a h Stands.done) k r =
+      let l = letter-short (over-letter (k i (omega arith) (omega (arith, r .size))) (λ o. k (i + 1) (omega arith) o) a n (next r) .1) in
       m (l .0) (l .1)
   at-cut {i} {p} (digit d h n) (Stands.next a o (Stands.next b u st)) k r =
       let l = stands-to st in
-      let g = digit-hex (over-digits (omega arith) a b (next r) .1 p (omega arith) (omega arith) k) in
+      let c = over-digits (k i (omega arith) (omega (arith, r .size))) (λ o. k (i + 1) (omega arith) o) a b (next r) in
+      let g = digit-hex (c .1 p (omega arith) (omega arith) (k p (omega arith) (omega (arith, c .0 .size)))) in
       n (g .0) (g .1)
 
 string-follow : (t : List ℕ) (q at : ℕ) (w s : List ℕ) → String w → Like t q at (w ++ s) → Goes q (at + length w) (quotedAt t at)
 string-follow t q at w s (quoted {w = v} d) l =
-    let to = at + suc (length (v ++ 34 ∷ [])) in
-    if-equal (Goes q to) (byteAt t at) 34 (λ b. go (stringEnd t (at + 1)) (answers t (at + 1))) (λ b. like-stuck l b)
+    if-equal (Goes q (at + suc (length (v ++ 34 ∷ [])))) (byteAt t at) 34 (λ b. go (stringEnd t (at + 1)) (answers t (at + 1)))
+    (λ b. let k = like-stuck l b in record { word = omega arith; answer = k })
   where
+    -- behind the closing quote
+    size : at + suc (length (v ++ 34 ∷ [])) ≡ at + 1 + length v + 1
+    size = omega (arith, length-append v (34 ∷ []))
+
     rest : Rest t q s (at + 1 + length v) (at + 1)
     rest = record { word = v; is = d; like = rw (append-assoc v (34 ∷ []) s) at (like-tail l); size = refl }
 
-    go : (k : Token) → Answers t (at + 1) k → Goes q (at + suc (length (v ++ 34 ∷ []))) k
-    go (End e) a =
+    closed : (e : ℕ) → Closed t (at + 1) e → Seen q (at + 1 + length v) (e - 1) → (e - 1 ≤ at + 1 + length v → e - 1 < q) → e ≡ at + 1 + length v + 1
+    closed e a k m =
         let h = a .after in
-        by-order (e - 1) q
-        (λ k.
-        let n : e - 1 ≡ at + 1 + length v = at-quote k (a .quote) (next (over-spells (a .spelled) (closed-stands t a) (omega arith) rest)) in
-        inl (omega (arith, length-append v (34 ∷ []))))
-        (λ k. inr (omega arith))
-    go (No2 p) a =
+        let r = over-spells (a .spelled) (closed-stands t a) k rest in
+        omega (arith, at-quote (m (omega (arith, r .size))) (a .quote) (next r))
+
+    no-cut : (p : ℕ) → Refused2 t (at + 1) p → Seen q (at + 1 + length v) (p + 1) → ⊥
+    no-cut p a k =
         let c = a .cut in
         let b : Stands t (a .from) p (c .begun) = rw (← c .place) at (split-stands t (a .from) (c .begun) (c .rest) (c .split)) in
-        let m = a .spells in
-        by-order p q (λ k. absurd (at-cut (c .cut) b k (over-spells (m .spelled) (spelled-stands t m) (omega (arith, stands-to b)) rest))) (λ k. k)
-    go (No3 p) a = tt
+        let n = stands-to b in
+        at-cut (c .cut) b k (over-spells (a .spells .spelled) (spelled-stands t (a .spells)) (λ j h. k j (omega arith)) rest)
+
+    go : (k : Token) → Answers t (at + 1) k → Goes q (at + suc (length (v ++ 34 ∷ []))) k
+    go (End e) a =
+        by-order (at + 1 + length v) q
+        (λ k. inl (omega (arith, size, closed e a (λ j h m. omega arith) (λ m. omega arith))))
+        (λ k. by-order (e - 1) q (λ h. inl (omega (arith, size, closed e a (λ j m n. omega arith) (λ m. h)))) (λ h. inr (record { word = omega (arith, size); answer = omega arith })))
+    go (No2 p) a =
+        by-order (at + 1 + length v) q (λ k. absurd (no-cut p a (λ j h m. omega arith)))
+        (λ k. by-order p q (λ h. absurd (no-cut p a (λ j m n. omega arith))) (λ h. record { word = omega (arith, size); answer = h }))
+    go (No3 p) a =
+        by-order (at + 1 + length v) q
+        (λ k. let r = over-spells (a .spells .spelled) (spelled-stands t (a .spells)) (λ j h m. omega arith) rest in inr (omega (arith, size, r .size)))
+        (λ k. inl (omega (arith, size)))
 
 pub string-exact : (t : List ℕ) → Exact t String (λ z. Unit {0}) (quotedAt t)
 string-exact t =

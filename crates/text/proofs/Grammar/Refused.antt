@@ -1,12 +1,12 @@
 -- Refused rightly: where the text is not over the byte limit, it is refused with a number and a place exactly if it has a fault of that number at that
 -- place and none at a smaller place, nor at that place with a smaller number (`refuses`); and with 1 exactly if it is over that limit (`too-long`); for any
 -- limits. Assumes nothing.
-use mathlib.Core.Path.{_≡_, refl, sym, ap, subst, _∙_}
+use mathlib.Core.Path.{_≡_, refl, sym, ap, _∙_}
 use mathlib.Core.List.{List, _++_, append-assoc}
 use mathlib.Core.Logic.{_↔_, ⊎-elim}
 use Prim.Native.Nat.{ℕ, _+_, _≤_, _<_}
 use native.Mathlib.Omega.{arith}
-use native.Mathlib.Nat.{zero-add, le-refl}
+use native.Mathlib.Nat.{le-refl}
 use borrow.Author.Tests.{lt-ltb}
 use lib.ListN.{length, take, drop, take-append-drop, length-append, List·getD-eq-default}
 use lib.Seq.{length-take-le, take-take}
@@ -21,41 +21,29 @@ use Rattle.text.specs.declared.Paper.{Paper}
 use Rattle.text.specs.Sheet.{numbers, refused}
 use Rattle.text.specs.Reader.{Read, good, bad}
 use Rattle.text.specs.Whole.{endOf, readOf}
-use Rattle.text.specs.Grammar.{JsonText, rootOf, value}
-use Rattle.text.specs.Seats.{Head, Seat, top, In}
+use Rattle.text.specs.Grammar.{value}
+use Rattle.text.specs.Seats.{Seat, top}
 use Rattle.text.specs.Meaning.{Accepts}
-use Rattle.text.specs.Fault.{Begins, Broken, Fault, grammar, violated, First, Refuses}
+use Rattle.text.specs.Fault.{Begins, Broken, Violated, Fault, grammar, violated, InEach, First, Refuses}
 use Rattle.text.specs.declared.Refusal.{Refusal}
 use Rattle.text.specs.declared.Refusal.the-variants.{TooLong, Grammar, Character, Repeated, Deep, Many, Small}
+use Rattle.text.proofs.Induction.{read-accepted}
 use Rattle.text.proofs.Grammar.Stands.{by-order}
 use Rattle.text.proofs.Grammar.Words.{skip-later}
 use Rattle.text.proofs.Grammar.Sound.{Stopped, Told, Parsed, Viable, placeOf}
-use Rattle.text.proofs.Grammar.Wrong.{rank, Wrong, clean, First-wrong, kept-first}
-use Rattle.text.proofs.Grammar.Meets.{Numbered, third, fourth, fifth, sixth, Near, read, broken}
+use Rattle.text.proofs.Grammar.Wrong.{rank, Wrong}
+use Rattle.text.proofs.Grammar.Meets.{numberOf, numbered-has, Near, read, broken}
 use Rattle.text.proofs.Grammar.Rules.{wrong-breaks, breaks-wrong, wrong-number}
-use Rattle.text.proofs.Grammar.Wholes.{root, root-told, self, other, Beginning, viable-text, value-inside, read-inside, read-begins, read-text}
-use Rattle.text.proofs.Grammar.Accepted.{kept-accepts, accepts-kept}
+use Rattle.text.proofs.Grammar.Calm.{In-time, in-time}
+use Rattle.text.proofs.Grammar.Wholes.{root, root-told, self, other, other-calm, viable-begins, value-inside, read-inside, read-begins, read-text}
+use Rattle.text.proofs.Grammar.Accepted.{kept-accepts}
 
--- ---- refusals and their numbers ----
+-- a refusal that is in time
+time-bad : {m x : ℕ} {R : Read} {r : Refusal} → In-time m x R → R ≡ bad r → rank (numberOf r) (placeOf (bad r)) ≤ rank m x
+time-bad {r} (in-time {r = s} h) e = let k : s ≡ r = cc in rw k at h
 
-abbrev numberOf : Refusal → ℕ
-numberOf TooLong = 1
-numberOf (Grammar p) = 2
-numberOf (Character p) = 3
-numberOf (Repeated p) = 4
-numberOf (Deep p) = 5
-numberOf (Many p) = 6
-numberOf (Small n) = 7
-
-record Has (r : Refusal) (m x : ℕ) : Type 0 where
-  number : numberOf r ≡ m
-  place : placeOf (bad r) ≡ x
-
-numbered-has : {m x : ℕ} {r : Refusal} → Numbered m x r → Has r m x
-numbered-has third = record { number = refl; place = refl }
-numbered-has fourth = record { number = refl; place = refl }
-numbered-has fifth = record { number = refl; place = refl }
-numbered-has sixth = record { number = refl; place = refl }
+time-good : {A : Type 0} {m x to : ℕ} {R : Read} {f : Forest} → In-time m x R → R ≡ good f to → A
+time-good (in-time h) e = let z : _≡_ {A = ℕ} 0 1 = cc in absurd (omega arith)
 
 module _ (L : Limits) (t : List ℕ) where
   -- what an answer says of a text that it meets
@@ -71,33 +59,29 @@ module _ (L : Limits) (t : List ℕ) where
   -- ---- no fault before ----
 
   -- a text that begins with so many bytes begins with fewer
-  shorter : {p q : ℕ} {f : Forest} → p ≤ q → q ≤ length t → Beginning L t q f → Beginning L t p f
-  shorter {p} {q} {f} l i b =
+  shorter : {p q : ℕ} → p ≤ q → Begins t q → Begins t p
+  shorter {p} {q} l b =
       let e : take q t ++ b .rest ≡ take p t ++ (drop p (take q t) ++ b .rest) =
-      ap (λ (w : List ℕ). w ++ b .rest) (sym (take-append-drop p (take q t))) ∙ append-assoc (take p (take q t)) (drop p (take q t)) (b .rest) ∙ ap (λ (w : List ℕ). w ++ (drop p (take q t) ++ b .rest)) (take-take p q t l) in
-      let g = subst (λ (w : List ℕ). (d : JsonText w) × (f ≡ rootOf d)) e (b .is, b .tree) in
-      record { rest = drop p (take q t) ++ b .rest; is = g .0; tree = g .1 }
-
-  begins : {p : ℕ} {f : Forest} → Beginning L t p f → Begins t p
-  begins b = record { rest = b .rest; is = b .is }
-
-  -- a broken rule in the tree of a text has something wrong there
-  broken-wrong : {f g : Forest} {n p : ℕ} → f ≡ g → Broken L t g n p → (d : Seat) × (h : Head) × In top f d h × Wrong L t d h n p
-  broken-wrong e b = (b .seat, b .head, subst (λ (a : Forest). In top a (b .seat) (b .head)) (sym e) (b .there), breaks-wrong L t (b .breaks))
+      ap (λ (w : List ℕ). w ++ b .rest) (sym (take-append-drop p (take q t))) ∙ append-assoc (take p (take q t)) (drop p (take q t)) (b .rest) ∙ ap
+      (λ (w : List ℕ). w ++ (drop p (take q t) ++ b .rest)) (take-take p q t l) in
+      record { rest = drop p (take q t) ++ b .rest; is = rw e at (b .is) }
 
   -- the numbers of faults are 2 to 6
   fault-number : {m x : ℕ} → Fault L t m x → (2 ≤ m) × (m ≤ 6)
   fault-number (grammar g) = omega arith
-  fault-number (violated v) = let w = wrong-number L t (breaks-wrong L t (v .each (v .begins .rest) (v .begins .is) .breaks)) in omega arith
+  fault-number (violated v) = let w = wrong-number L t (breaks-wrong L t (v .broken .breaks)) in omega arith
 
-  -- no rule is broken before the number n at q in a text that begins with the first e bytes, so there is no fault before
-  module _ {n q e : ℕ} {f : Forest} (b : Beginning L t e f) (k : First-wrong L t top f n q) (i : e ≤ length t) (l : q ≤ e) (far : 2 < n → q + 1 ≤ e) where
+  -- a broken rule is refused in time
+  violated-time : {m x : ℕ} → Violated L t m x → In-time m x (root L t)
+  violated-time {m} {x} v =
+      let b = v .broken in
+      other-calm L t x (v .within) (v .rest) (v .is) .least (b .seat) (b .head) m x (b .there) (breaks-wrong L t (b .breaks)) (omega arith)
+
+  -- the first e bytes begin a text of the grammar, and no rule is broken before the number n at q; so there is no fault before
+  module _ {n q e : ℕ} (b : Begins t e) (k : (m x : ℕ) → Violated L t m x → rank n q ≤ rank m x) (i : e ≤ length t) (l : q ≤ e) (far : 2 < n → q + 1 ≤ e) where
     none-at : (m x : ℕ) → x + 1 ≤ e → rank m x < rank n q → Fault L t m x → ⊥
-    none-at m x s o (grammar g) = g .no-further (omega arith) (begins (shorter s i b))
-    none-at m x s o (violated v) =
-        let c = shorter s i b in
-        let w = broken-wrong (c .tree) (v .each (c .rest) (c .is)) in
-        omega (arith, k .least (w .0) (w .1) m x (w .2) (w .3))
+    none-at m x s o (grammar g) = g .no-further (omega arith) (shorter s b)
+    none-at m x s o (violated v) = omega (arith, k m x v)
 
     first-fault : Fault L t n q → First L t n q
     first-fault g =
@@ -110,13 +94,16 @@ module _ (L : Limits) (t : List ℕ) where
   -- ---- each refusal is the first fault ----
 
   module _ (r : Refusal) (e : bad r ≡ root L t) where
+    no-rule-before : (m x : ℕ) → Violated L t m x → rank (numberOf r) (placeOf (bad r)) ≤ rank m x
+    no-rule-before m x v = time-bad (violated-time v) (sym e)
+
     -- 2: no text of the grammar goes on with the byte there
-    grammar-first : (p : ℕ) → r ≡ Grammar p → Viable L t value top 0 0 (skip t 0) 2 p p → First L t 2 p
+    grammar-first : (p : ℕ) → r ≡ Grammar p → Viable L t value (skip t 0) p p → First L t 2 p
     grammar-first p k v =
-        first-fault (viable-text L t v) (v .first) (v .within) (le-refl p) (λ h. absurd (omega arith))
+        first-fault (viable-begins L t v) (λ m x w. rw k at (no-rule-before m x w)) (v .within) (le-refl p) (λ h. absurd (omega arith))
         (grammar (record {
           within = v .within;
-          begins = begins (viable-text L t v);
+          begins = viable-begins L t v;
           no-further = λ l b. absurd (no-two (near-bad (other L t (bad r) e p (rw k (le-refl p)) l (b .rest) (b .is) .is) .0));
           no-end = λ o d. absurd (no-two (near-bad (self L t (bad r) e d .is) .0));
         }))
@@ -125,14 +112,15 @@ module _ (L : Limits) (t : List ℕ) where
         no-two h = let f : numberOf r ≡ 2 = ap numberOf k in omega arith
 
     -- 3 to 6: in each text that goes on with the byte there, the rule is broken
-    rule-first : (n p : ℕ) → numberOf r ≡ n → placeOf (bad r) ≡ p → Viable L t value top 0 0 (skip t 0) n p (p + 1) → First L t n p
+    rule-each : (n p : ℕ) → numberOf r ≡ n → placeOf (bad r) ≡ p → p < length t → InEach L t n p
+    rule-each n p k o l u d = rw (k, o) at (near-bad (other L t (bad r) e p (omega arith) l u d .is) .1)
+
+    rule-first : (n p : ℕ) → numberOf r ≡ n → placeOf (bad r) ≡ p → Viable L t value (skip t 0) p (p + 1) → First L t n p
     rule-first n p k o v =
-        first-fault (viable-text L t v) (v .first) (v .within) (omega arith) (λ h. le-refl (p + 1))
-        (violated (record {
-          within = omega (arith, v .within);
-          begins = begins (viable-text L t v);
-          each = λ u d. rw (k, o) at (near-bad (other L t (bad r) e p (omega arith) (omega (arith, v .within)) u d .is) .1);
-        }))
+        let b = viable-begins L t v in
+        let l : p < length t = omega (arith, v .within) in
+        first-fault b (λ m x w. rw (k, o) at (no-rule-before m x w)) (v .within) (omega arith) (λ h. le-refl (p + 1))
+        (violated (record { within = l; rest = b .rest; is = b .is; broken = rule-each n p k o l (b .rest) (b .is) }))
 
   -- a refusal has its numbers on the sheet
   record On-sheet (r : Refusal) : Type 0 where
@@ -140,15 +128,19 @@ module _ (L : Limits) (t : List ℕ) where
     p : ℕ
     is : refused r ≡ numbers n p 0
     first : First L t n p
+    each : 3 ≤ n → InEach L t n p
 
-  value-refused : (r : Refusal) → bad r ≡ root L t → Stopped (Viable L t value top 0 0 (skip t 0)) r → On-sheet r
+  rule-sheet : (r : Refusal) → bad r ≡ root L t → (n p : ℕ) → refused r ≡ numbers n p 0 → numberOf r ≡ n → placeOf (bad r) ≡ p → Viable L t value (skip t 0) p (p + 1) → On-sheet r
+  rule-sheet r e n p s k o v = record { n = n; p = p; is = s; first = rule-first r e n p k o v; each = λ h. rule-each r e n p k o (omega (arith, v .within)) }
+
+  value-refused : (r : Refusal) → bad r ≡ root L t → Stopped (Viable L t value (skip t 0)) r → On-sheet r
   unfolding refused
   value-refused TooLong e v = absurd v
-  value-refused (Grammar p) e v = record { n = 2; p = p; is = refl; first = grammar-first (Grammar p) e p refl v }
-  value-refused (Character p) e v = record { n = 3; p = p; is = refl; first = rule-first (Character p) e 3 p refl refl v }
-  value-refused (Repeated p) e v = record { n = 4; p = p; is = refl; first = rule-first (Repeated p) e 4 p refl refl v }
-  value-refused (Deep p) e v = record { n = 5; p = p; is = refl; first = rule-first (Deep p) e 5 p refl refl v }
-  value-refused (Many p) e v = record { n = 6; p = p; is = refl; first = rule-first (Many p) e 6 p refl refl v }
+  value-refused (Grammar p) e v = record { n = 2; p = p; is = refl; first = grammar-first (Grammar p) e p refl v; each = λ h. absurd (omega arith) }
+  value-refused (Character p) e v = rule-sheet (Character p) e 3 p refl refl refl v
+  value-refused (Repeated p) e v = rule-sheet (Repeated p) e 4 p refl refl refl v
+  value-refused (Deep p) e v = rule-sheet (Deep p) e 5 p refl refl refl v
+  value-refused (Many p) e v = rule-sheet (Many p) e 6 p refl refl refl v
   value-refused (Small n) e v = absurd v
 
   -- a value, and behind it and its white space something else
@@ -157,7 +149,8 @@ module _ (L : Limits) (t : List ℕ) where
     longer l b =
         let m = other L t (good f to) e (skip t to) (skip-later t to) l (b .rest) (b .is) in
         let x : to ≡ m .end = near-good (m .is) .1 in
-        ⊎-elim (λ a. omega (arith, ap (skip t) x, length-append (take (skip t to + 1) t) (b .rest), length-take-le (skip t to + 1) t (omega arith))) (λ a. omega (arith, ap (skip t) x)) (m .ends (omega (arith, value-inside L t p)))
+        ⊎-elim (λ a. omega (arith, ap (skip t) x, length-append (take (skip t to + 1) t) (b .rest), length-take-le (skip t to + 1) t (omega arith)))
+        (λ a. omega (arith, ap (skip t) x, a .answer)) (m .ends (omega (arith, value-inside L t p)))
 
     over : skip t to ≡ length t → ⊥
     over h = z (rw h (List·getD-eq-default t 256 (le-refl (length t))))
@@ -165,8 +158,9 @@ module _ (L : Limits) (t : List ℕ) where
     unended : First L t 2 (skip t to)
     unended =
         let i = read-inside L t p in
-        first-fault (read-begins L t p) (kept-first L t top 2 (skip t to) (L .depth) (zero-add (L .depth)) (p .kept)) i (le-refl (skip t to)) (λ h. absurd (omega arith))
-        (grammar (record { within = i; begins = begins (read-begins L t p); no-further = longer; no-end = λ h d. over h }))
+        let b = read-begins L t p in
+        first-fault b (λ m x w. time-good (violated-time w) (sym e)) i (le-refl (skip t to)) (λ h. absurd (omega arith))
+        (grammar (record { within = i; begins = b; no-further = longer; no-end = λ h d. over h }))
 
 -- ---- every answer ----
 
@@ -180,7 +174,7 @@ unfolding readOf endOf refused
 means L t small short =
     if-less (Means L t) (L .bytes) (length t) (λ h. absurd (omega arith)) (λ h. go (root L t) refl (root-told L t))
   where
-    go : (R : Read) → R ≡ root L t → Told (Parsed L t value (L .depth) top 0 0 (skip t 0)) (Viable L t value top 0 0 (skip t 0)) R → Means L t (endOf t R)
+    go : (R : Read) → R ≡ root L t → Told (Parsed L t value (L .depth) top 0 0 (skip t 0)) (Viable L t value (skip t 0)) R → Means L t (endOf t R)
     go (bad r) e v = value-refused L t r e v
     go (good f to) e p =
         if-equal (Means L t) (byteAt t (skip t to)) 256
@@ -189,23 +183,18 @@ means L t small short =
         let o : skip t to ≡ length t = by-order (skip t to) (length t) (λ l. absurd (omega (arith, below-at 256 t small (skip t to) 256 l))) (λ l. omega arith) in
         let d = read-text L t p o in
         (kept-accepts L t short (p .kept) (d .0) (d .1), o))
-        (λ z. record { n = 2; p = skip t to; is = refl; first = unended L t f to e p z })
+        (λ z. record { n = 2; p = skip t to; is = refl; first = unended L t f to e p z; each = λ h. absurd (omega arith) })
 
 -- ---- an accepted text has no fault ----
 
-module _ (L : Limits) (t : List ℕ) {f : Forest} (a : Accepts L t f) where
-  itself : (p : ℕ) → Beginning L t p f
-  itself p =
-      let d = subst (λ (w : List ℕ). (d : JsonText w) × (f ≡ rootOf d)) (sym (take-append-drop p t)) (a .derives, a .tree) in
-      record { rest = drop p t; is = d .0; tree = d .1 }
-
-  pub no-fault : {m x : ℕ} → Fault L t m x → ⊥
-  no-fault {m} {x} (grammar g) =
-      by-order x (length t) (λ l. g .no-further l (begins L t (itself (x + 1)))) (λ l. g .no-end (omega (arith, g .within)) (a .derives))
-  no-fault {m} {x} (violated v) =
-      let c = itself (x + 1) in
-      let w = broken-wrong L t (c .tree) (v .each (c .rest) (c .is)) in
-      clean L t (L .depth) (zero-add (L .depth)) (accepts-kept L t a) (w .2) (w .3)
+no-fault : (L : Limits) (t : List ℕ) (f : Forest) (to : ℕ) {m x : ℕ} → readOf L t ≡ good f to → Accepts L t f → Fault L t m x → ⊥
+no-fault L t f to {m} {x} e a (grammar g) =
+    by-order x (length t) (λ l. g .no-further l (record {
+      rest =
+          drop (x + 1) t;
+      is = rw (sym (take-append-drop (x + 1) t)) at (a .derives);
+    })) (λ l. g .no-end (omega (arith, g .within)) (a .derives))
+no-fault L t f to {m} {x} e a (violated v) = time-good (violated-time L t v) (read-accepted L t f to e .value)
 
 -- ---- theorem: refused rightly ----
 
@@ -231,13 +220,25 @@ module _ (L : Limits) (t : List ℕ) (small : AllBelow 256 t) (short : length t 
   first-refused f = go (readOf L t) refl (means L t small short)
     where
       go : (R : Read) → readOf L t ≡ R → Means L t R → Refuses L t n p
-      go (good g to) e m = absurd (no-fault L t (m .0) (f .fault))
+      go (good g to) e m = absurd (no-fault L t g to e (m .0) (f .fault))
       go (bad r) e m =
           let o = one-first L t f (m .first) in
           record { refusal = r; answer = e; sheet = m .is ∙ rw (← o .0, ← o .1) }
 
+  refused-each : Refuses L t n p → 3 ≤ n → InEach L t n p
+  refused-each r h =
+      let s : On-sheet L t (r .refusal) = rw (r .answer) at (means L t small short) in
+      let e : numbers (s .n) (s .p) 0 ≡ numbers n p 0 = sym (s .is) ∙ r .sheet in
+      let x : s .n ≡ n = ap (λ (a : Paper). a .number) e in
+      let y : s .p ≡ p = ap (λ (a : Paper). a .second) e in
+      rw (x, y) at (s .each (omega arith))
+
 pub refuses : (L : Limits) (t : List ℕ) → AllBelow 256 t → length t ≤ L .bytes → (n p : ℕ) → Refuses L t n p ↔ First L t n p
 refuses L t small short n p = (refused-first L t small short n p, first-refused L t small short n p)
+
+-- where one of 3 to 6 is refused, each text of the grammar that goes on as the text does up to that place breaks the rule there
+pub in-each : (L : Limits) (t : List ℕ) → AllBelow 256 t → length t ≤ L .bytes → (n p : ℕ) → Refuses L t n p → 3 ≤ n → InEach L t n p
+in-each L t small short n p = refused-each L t small short n p
 
 -- ---- theorem: 1 comes first ----
 
@@ -247,7 +248,7 @@ module _ (L : Limits) (t : List ℕ) where
   long-refused h = rw (lt-ltb (L .bytes) (length t) h)
 
   -- nothing else is refused with 1
-  not-long : (R : Read) → Told (Parsed L t value (L .depth) top 0 0 (skip t 0)) (Viable L t value top 0 0 (skip t 0)) R → endOf t R ≡ bad TooLong → ⊥
+  not-long : (R : Read) → Told (Parsed L t value (L .depth) top 0 0 (skip t 0)) (Viable L t value (skip t 0)) R → endOf t R ≡ bad TooLong → ⊥
   unfolding endOf
   not-long (bad TooLong) v e = v
   not-long (bad (Grammar p)) v e = let z : _≡_ {A = ℕ} 0 1 = cc in omega arith

@@ -60,7 +60,13 @@ module _ (t : List ℕ) (j : ℕ) where
       let b : j + 1 - 1 ≡ j = omega arith in
       let last : e + 1 - 1 ≡ e = omega arith in
       quoted-open (End (e + 1)) (rw b at (g .opens))
-      (spells-ended t (j + 1) (e + 1) (record { after = omega (arith, g .ordered); within-text = omega (arith, g .inside); quote = rw last (g .closes); codes = g .codes; spelled = rw last (g .spells) }))
+      (spells-ended t (j + 1) (e + 1) (record {
+        after = omega (arith, g .ordered);
+        within-text = omega (arith, g .inside);
+        quote = rw last (g .closes);
+        codes = g .codes;
+        spelled = rw last (g .spells);
+      }))
 
 -- ill bytes stand inside the text
 some-bytes : {l : List ℕ} → Aims l → 0 < length l
@@ -82,12 +88,14 @@ module _ (t wanted : List ℕ) where
   named-there none e = clash false e refl
   named-there (leaf kind ns ne from to rest) e = go (same (nameOf t ns ne) wanted) refl e (named-there rest)
     where
-      go : (c : Bool) → same (nameOf t ns ne) wanted ≡ c → cond c true (named t wanted rest) ≡ true → (named t wanted rest ≡ true → Named t wanted rest) → Named t wanted (leaf kind ns ne from to rest)
+      go : (c : Bool) → same (nameOf t ns ne) wanted ≡ c → cond c true (named t wanted rest) ≡ true → (named t wanted rest ≡ true → Named t wanted rest)
+          → Named t wanted (leaf kind ns ne from to rest)
       go true s z g = Named.leaf-here (same-eq (nameOf t ns ne) wanted s)
       go false s z g = Named.leaf-on (g z)
   named-there (node b ns ne from to inner rest) e = go (same (nameOf t ns ne) wanted) refl e (named-there rest)
     where
-      go : (c : Bool) → same (nameOf t ns ne) wanted ≡ c → cond c true (named t wanted rest) ≡ true → (named t wanted rest ≡ true → Named t wanted rest) → Named t wanted (node b ns ne from to inner rest)
+      go : (c : Bool) → same (nameOf t ns ne) wanted ≡ c → cond c true (named t wanted rest) ≡ true → (named t wanted rest ≡ true → Named t wanted rest)
+          → Named t wanted (node b ns ne from to inner rest)
       go true s z g = Named.node-here (same-eq (nameOf t ns ne) wanted s)
       go false s z g = Named.node-on (g z)
 

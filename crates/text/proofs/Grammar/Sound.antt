@@ -1,5 +1,5 @@
--- What an answer of the definition says. Accepted: a part of the grammar stands there, with its tree, and nothing is wrong with its values. Refused:
--- the bytes before the refusal's place begin such a part, in which nothing is wrong before that place, or at it with a smaller number.
+-- What an answer of the definition says. Accepted: a part of the grammar stands there, with its tree, and its values are as they should be. Refused: the
+-- bytes before the refusal's place begin such a part, and but for 2 so does the byte at the place.
 -- This file has the parts that hold others; proofs/Grammar/Told.antt goes by induction on the definition. Assumes nothing.
 use mathlib.Core.Path.{_≡_, sym, ap, ap₂, subst, _∙_}
 use mathlib.Core.List.{List, [], _∷_, _++_, append-assoc, append-nil}
@@ -21,24 +21,23 @@ use Rattle.text.specs.declared.Refusal.{Refusal}
 use Rattle.text.specs.declared.Refusal.the-variants.{TooLong, Grammar, Character, Repeated, Deep, Many, Small}
 use Rattle.text.proofs.Grammar.Stands.{Stands, Like, one-stands, stands-join, stands-to, stands-inside, like-none, like-stands, like-more, like-join}
 use Rattle.text.proofs.Grammar.Exact.{Standing}
-use Rattle.text.proofs.Grammar.Quotes.{bad-later}
 use Rattle.text.proofs.Grammar.Words.{skip-told}
 use Rattle.text.proofs.Grammar.Trees.{join-assoc}
-use Rattle.text.proofs.Grammar.Wrong.{Good-name, Kept, clean, kept-join, kept-node, kept-none, First-wrong, First-name, good-first, leaf-first, node-first, join-first, none-first, kept-first}
+use Rattle.text.proofs.Grammar.Wrong.{Good-name, Kept, kept-join, kept-node, kept-none}
 
 -- ---- answers ----
 
--- by what is said of a refusal's number and place, and how far the bytes are good: but for 2 the byte at the place is good too
-abbrev pub Stopped : (ℕ → ℕ → ℕ → Type 0) → Refusal → Type 0
+-- by what is said of a refusal's place, and how far the bytes are good: but for 2 the byte at the place is good too
+abbrev pub Stopped : (ℕ → ℕ → Type 0) → Refusal → Type 0
 Stopped S TooLong = ⊥
-Stopped S (Grammar q) = S 2 q q
-Stopped S (Character q) = S 3 q (q + 1)
-Stopped S (Repeated q) = S 4 q (q + 1)
-Stopped S (Deep q) = S 5 q (q + 1)
-Stopped S (Many q) = S 6 q (q + 1)
+Stopped S (Grammar q) = S q q
+Stopped S (Character q) = S q (q + 1)
+Stopped S (Repeated q) = S q (q + 1)
+Stopped S (Deep q) = S q (q + 1)
+Stopped S (Many q) = S q (q + 1)
 Stopped S (Small n) = ⊥
 
-abbrev pub Told : (Forest → ℕ → Type 0) → (ℕ → ℕ → ℕ → Type 0) → Read → Type 0
+abbrev pub Told : (Forest → ℕ → Type 0) → (ℕ → ℕ → Type 0) → Read → Type 0
 Told G S (good f to) = G f to
 Told G S (bad r) = Stopped S r
 
@@ -53,24 +52,24 @@ placeOf (bad (Deep q)) = q
 placeOf (bad (Many q)) = q
 placeOf (bad (Small n)) = 0
 
-pub told-place : (P : ℕ → Type 0) (G : Forest → ℕ → Type 0) (S : ℕ → ℕ → ℕ → Type 0) → ((f : Forest) (to : ℕ) → G f to → P to)
-    → ((n q e : ℕ) → q ≤ e → S n q e → P q) → (R : Read) → Told G S R → P (placeOf R)
+pub told-place : (P : ℕ → Type 0) (G : Forest → ℕ → Type 0) (S : ℕ → ℕ → Type 0) → ((f : Forest) (to : ℕ) → G f to → P to)
+    → ((q e : ℕ) → q ≤ e → S q e → P q) → (R : Read) → Told G S R → P (placeOf R)
 told-place P G S g s (good f to) h = g f to h
 told-place P G S g s (bad TooLong) h = absurd h
-told-place P G S g s (bad (Grammar q)) h = s 2 q q (le-refl q) h
-told-place P G S g s (bad (Character q)) h = s 3 q (q + 1) (omega arith) h
-told-place P G S g s (bad (Repeated q)) h = s 4 q (q + 1) (omega arith) h
-told-place P G S g s (bad (Deep q)) h = s 5 q (q + 1) (omega arith) h
-told-place P G S g s (bad (Many q)) h = s 6 q (q + 1) (omega arith) h
+told-place P G S g s (bad (Grammar q)) h = s q q (le-refl q) h
+told-place P G S g s (bad (Character q)) h = s q (q + 1) (omega arith) h
+told-place P G S g s (bad (Repeated q)) h = s q (q + 1) (omega arith) h
+told-place P G S g s (bad (Deep q)) h = s q (q + 1) (omega arith) h
+told-place P G S g s (bad (Many q)) h = s q (q + 1) (omega arith) h
 told-place P G S g s (bad (Small n)) h = absurd h
 
-pub stopped-map : (S W : ℕ → ℕ → ℕ → Type 0) → ((n q e : ℕ) → S n q e → W n q e) → (r : Refusal) → Stopped S r → Stopped W r
+pub stopped-map : (S W : ℕ → ℕ → Type 0) → ((q e : ℕ) → S q e → W q e) → (r : Refusal) → Stopped S r → Stopped W r
 stopped-map S W f TooLong h = h
-stopped-map S W f (Grammar q) h = f 2 q q h
-stopped-map S W f (Character q) h = f 3 q (q + 1) h
-stopped-map S W f (Repeated q) h = f 4 q (q + 1) h
-stopped-map S W f (Deep q) h = f 5 q (q + 1) h
-stopped-map S W f (Many q) h = f 6 q (q + 1) h
+stopped-map S W f (Grammar q) h = f q q h
+stopped-map S W f (Character q) h = f q (q + 1) h
+stopped-map S W f (Repeated q) h = f q (q + 1) h
+stopped-map S W f (Deep q) h = f q (q + 1) h
+stopped-map S W f (Many q) h = f q (q + 1) h
 stopped-map S W f (Small n) h = h
 
 -- ---- bytes that are put together ----
@@ -105,14 +104,13 @@ module _ (L : Limits) (t : List ℕ) where
     pub trees : f ≡ treeOf is ns ne at
     pub kept : Kept L t depth c f
 
-  -- the bytes from `at` to e begin such a part, in which nothing is wrong before the number n at q
-  pub record Viable (a : Part) (c : Seat) (ns ne at : ℕ) (n q e : ℕ) : Type 0 where
+  -- the bytes from `at` to e begin such a part
+  pub record Viable (a : Part) (at q e : ℕ) : Type 0 where
     pub word : List ℕ
     pub is : Is a word
     pub like : Like t e at word
     pub later : at ≤ q
     pub within : e ≤ length t
-    pub first : First-wrong L t c (treeOf is ns ne at) n q
 
   -- items stand from `at` up to their closing byte, and f is what stands before them and then their trees
   pub record Listed (b : Bracket) (depth : ℕ) (c : Seat) (at : ℕ) (f : Forest) (to : ℕ) : Type 0 where
@@ -130,13 +128,12 @@ module _ (L : Limits) (t : List ℕ) where
     pub trees : (ns ne : ℕ) → node b ns ne at to f none ≡ treeOf is ns ne at
     pub kept : Kept L t depth (under c) f
 
-  pub record Opened (b : Bracket) (c : Seat) (at : ℕ) (n q e : ℕ) : Type 0 where
+  pub record Opened (b : Bracket) (at q e : ℕ) : Type 0 where
     pub word : List ℕ
     pub is : Is value (opening b ∷ word)
     pub like : Like t e (at + 1) word
     pub later : at + 1 ≤ q
     pub within : e ≤ length t
-    pub first : (ns ne : ℕ) → First-name L t (c .beside) ns n q → First-wrong L t c (treeOf is ns ne at) n q
 
   -- a beginning that stands
   pub glued-stands : {at to c : ℕ} {v : List ℕ} → at ≤ length t → c < 256 → Stands t at to v → byteAt t (skip t to) ≡ c
@@ -145,39 +142,29 @@ module _ (L : Limits) (t : List ℕ) where
 
   -- ---- what could begin at a place ----
 
-  -- nothing is known of a value there but its name
-  module _ (c : Seat) (ns ne at : ℕ) (i : at ≤ length t) where
-    pub some-value : First-name L t (c .beside) ns 2 at → Viable value c ns ne at 2 at at
-    unfolding treeOf
-    some-value g =
-        record { word = _; is = null-value; like = like-none _ (le-refl at); later = le-refl at; within = i; first = leaf-first L t c 2 at 1 ns ne at _ g (λ x k. absurd (omega arith)) (λ k. omega arith) }
+  module _ (at : ℕ) (i : at ≤ length t) where
+    pub some-value : Viable value at at at
+    some-value = record { word = _; is = null-value; like = like-none _ (le-refl at); later = le-refl at; within = i }
 
     -- the byte there is an opening bracket
-    pub some-bracket : (b : Bracket) (n : ℕ) → n ≤ 6 → (c .inside ≡ L .depth → n ≤ 5) → First-name L t (c .beside) ns n at → byteAt t at ≡ opening b → Viable value c ns ne at n at (at + 1)
-    unfolding treeOf
-    some-bracket b n small d g e =
+    pub some-bracket : (b : Bracket) → byteAt t at ≡ opening b → Viable value at at (at + 1)
+    some-bracket b e =
         record {
           word = opening b ∷ closing b ∷ [];
           is = empty b Star.none;
           like = Like.next (λ l. e) (like-none _ (le-refl (at + 1)));
           later = le-refl at;
           within = omega (arith, inside t at (rw e (byte-opening b)));
-          first = node-first L t c n at b ns ne at _ none g (λ k. omega (arith, d k)) (λ k. omega arith) (none-first L t (under c) n at);
         }
 
-  some-item : (b : Bracket) (c : Seat) (at : ℕ) → at ≤ length t → Viable (item b) c 0 0 at 2 at at
-  unfolding treeOf
-  some-item square c at i =
-      let v = some-value c 0 0 at i (record { spelled = λ j x k. absurd (omega arith); new = λ x e u k. absurd (omega arith) }) in
-      record { word = v .word; is = element (v .is); like = v .like; later = v .later; within = v .within; first = v .first }
-  some-item curly c at i =
-      let g : First-name L t (c .beside) (at + 1) 2 at = record { spelled = λ j x k b. let e : j ≡ at = omega arith in omega (arith, bad-later t j x b); new = λ x e u k b m. omega arith } in
-      record { word = _; is = member (quoted Star.none) Star.none Star.none null-value; like = like-none _ (le-refl at); later = le-refl at; within = i; first = leaf-first L t c 2 at 1 (at + 1) _ _ _ g (λ x k. absurd (omega arith)) (λ k. omega arith) }
+    some-item : (b : Bracket) → Viable (item b) at at at
+    some-item square = record { word = _; is = element null-value; like = like-none _ (le-refl at); later = le-refl at; within = i }
+    some-item curly = record { word = _; is = member (quoted Star.none) Star.none Star.none null-value; like = like-none _ (le-refl at); later = le-refl at; within = i }
 
   -- ---- items ----
 
   module _ (b : Bracket) (depth : ℕ) where
-    module _ {c : Seat} {at to : ℕ} {f : Forest} (room : c .inside + depth ≡ L .depth) (i : at ≤ length t) (p : Parsed (item b) depth c 0 0 at f to) (k : byteAt t (skip t to) ≡ 44) where
+    module _ {c : Seat} {at to : ℕ} {f : Forest} (i : at ≤ length t) (p : Parsed (item b) depth c 0 0 at f to) (k : byteAt t (skip t to) ≡ 44) where
       s : Standing t Ws to (skip t to)
       s = skip-told t to
 
@@ -195,62 +182,65 @@ module _ (L : Limits) (t : List ℕ) where
       unfolding treeOf
       both d = ap₂ (λ (a : Forest) (x : ℕ). join a (treeOf d 0 0 x)) (p .trees) there
 
-      after-comma : {n q e : ℕ} → Viable (items b) (behind c f) 0 0 (skip t (skip t to + 1)) n q e → Viable (items b) c 0 0 at n q e
-      after-comma {n} {q} v =
+      after-comma : {q e : ℕ} → Viable (items b) (skip t (skip t to + 1)) q e → Viable (items b) at q e
+      after-comma v =
           record {
             word = glued 44 (p .word) (s .word) (r .word) (v .word);
             is = comma (p .is) (s .is) (r .is) (v .is);
             like = rw (glue 44 (p .word) (s .word) (r .word) (v .word)) at (like-join g (v .like));
             later = omega (arith, stands-to g, v .later);
             within = v .within;
-            first = subst (λ (a : Forest). First-wrong L t c a n q) (both (v .is)) (join-first L t c n q f _ (λ d h m x. clean L t depth room (p .kept)) (v .first));
           }
 
-      extend : (R : Read) → Told (Listed b depth (behind c f) (skip t (skip t to + 1))) (Viable (items b) (behind c f) 0 0 (skip t (skip t to + 1))) R
-          → Told (Listed b depth c at) (Viable (items b) c 0 0 at) R
-      extend (bad x) h = stopped-map _ _ (λ n q e. after-comma) x h
+      extend : (R : Read) → Told (Listed b depth (behind c f) (skip t (skip t to + 1))) (Viable (items b) (skip t (skip t to + 1))) R
+          → Told (Listed b depth c at) (Viable (items b) at) R
+      extend (bad x) h = stopped-map _ _ (λ q e. after-comma) x h
       extend (good y x) h =
           record {
             word = glued 44 (p .word) (s .word) (r .word) (h .word);
             is = comma (p .is) (s .is) (r .is) (h .is);
-            stands = rw (glue-end 44 (p .word) (s .word) (r .word) (h .word) (closing b ∷ [])) (rw (glue 44 (p .word) (s .word) (r .word) (h .word ++ closing b ∷ [])) at (stands-join g (h .stands)));
+            stands = rw (glue-end 44 (p .word) (s .word) (r .word) (h .word) (closing b ∷ []))
+                (rw (glue 44 (p .word) (s .word) (r .word) (h .word ++ closing b ∷ [])) at (stands-join g (h .stands)));
             trees = h .trees ∙ join-assoc (c .beside) f _ ∙ ap (join (c .beside)) (both (h .is));
             kept = subst (Kept L t depth c) (both (h .is)) (kept-join L t f _ (p .kept) (h .kept));
           }
 
-    after-told : (c : Seat) (at : ℕ) (more : Forest → ℕ → Read) → c .inside + depth ≡ L .depth → at ≤ length t
-        → ((f : Forest) (to : ℕ) → to ≤ length t → Told (Listed b depth (behind c f) to) (Viable (items b) (behind c f) 0 0 to) (more f to))
-        → (R : Read) → Told (Parsed (item b) depth c 0 0 at) (Viable (item b) c 0 0 at) R → Told (Listed b depth c at) (Viable (items b) c 0 0 at) (afterItem t (closing b) (c .beside) more R)
+    after-told : (c : Seat) (at : ℕ) (more : Forest → ℕ → Read) → at ≤ length t
+        → ((f : Forest) (to : ℕ) → to ≤ length t → Told (Listed b depth (behind c f) to) (Viable (items b) to) (more f to))
+        → (R : Read) → Told (Parsed (item b) depth c 0 0 at) (Viable (item b) at) R → Told (Listed b depth c at) (Viable (items b) at) (afterItem t (closing b) (c .beside) more R)
     unfolding afterItem treeOf
-    after-told c at more room i m (bad r) h =
-        stopped-map _ _ (λ n q e v. record { word = v .word ++ []; is = one (v .is) Star.none; like = like-more [] (v .like); later = v .later; within = v .within; first = v .first }) r h
-    after-told c at more room i m (good f to) p =
+    after-told c at more i m (bad r) h =
+        stopped-map _ _ (λ q e v. record { word = v .word ++ []; is = one (v .is) Star.none; like = like-more [] (v .like); later = v .later; within = v .within }) r h
+    after-told c at more i m (good f to) p =
         let s = skip-told t to in
         let l = stands-join (p .stands) (s .stands) in
-        let P = Told (Listed b depth c at) (Viable (items b) c 0 0 at) in
+        let P = Told (Listed b depth c at) (Viable (items b) at) in
         if-equal P (byteAt t (skip t to)) (closing b)
-        (λ e. record { word = p .word ++ s .word; is = one (p .is) (s .is); stands = stands-join l (one-stands e (byte-closing b)); trees = ap (join (c .beside)) (p .trees); kept = subst (Kept L t depth c) (p .trees) (p .kept) })
+        (λ e. record {
+          word = p .word ++ s .word;
+          is = one (p .is) (s .is);
+          stands = stands-join l (one-stands e (byte-closing b));
+          trees = ap (join (c .beside)) (p .trees);
+          kept = subst (Kept L t depth c) (p .trees) (p .kept);
+        })
         (λ e. if-equal P (byteAt t (skip t to)) 44
-        (λ k. extend room i p k (more f (skip t (skip t to + 1))) (m f (skip t (skip t to + 1)) (stands-inside (g room i p k) i)))
-        (λ k. record { word = p .word ++ s .word; is = one (p .is) (s .is); like = like-stands l; later = omega (arith, stands-to l); within = stands-inside l i; first = subst (λ (a : Forest). First-wrong L t c a 2 (skip t to)) (p .trees) (kept-first L t c 2 (skip t to) depth room (p .kept)) }))
+        (λ k. extend i p k (more f (skip t (skip t to + 1))) (m f (skip t (skip t to + 1)) (stands-inside (g i p k) i)))
+        (λ k. record { word = p .word ++ s .word; is = one (p .is) (s .is); like = like-stands l; later = omega (arith, stands-to l); within = stands-inside l i }))
 
     module _ (read : ItemReader)
-        (told : (c : Seat) (at : ℕ) → c .inside + depth ≡ L .depth → at ≤ length t → Told (Parsed (item b) depth c 0 0 at) (Viable (item b) c 0 0 at) (read (c .beside) at (c .after))) where
-      pub items-told : (turns : ℕ) (c : Seat) (at : ℕ) → c .inside + depth ≡ L .depth → at ≤ length t
-          → Told (Listed b depth c at) (Viable (items b) c 0 0 at) (itemsFrom t read (closing b) turns at (c .after) (c .beside))
+        (told : (c : Seat) (at : ℕ) → at ≤ length t → Told (Parsed (item b) depth c 0 0 at) (Viable (item b) at) (read (c .beside) at (c .after))) where
+      pub items-told : (turns : ℕ) (c : Seat) (at : ℕ) → at ≤ length t
+          → Told (Listed b depth c at) (Viable (items b) at) (itemsFrom t read (closing b) turns at (c .after) (c .beside))
       unfolding itemsFrom treeOf
-      items-told zero c at room i =
-          let v = some-item b c at i in
-          record { word = v .word ++ []; is = one (v .is) Star.none; like = like-more [] (v .like); later = v .later; within = v .within; first = v .first }
-      items-told (suc turns) c at room i =
-          after-told c at _ room i (λ f to l. items-told turns (behind c f) to room l) (read (c .beside) at (c .after)) (told c at room i)
+      items-told zero c at i =
+          let v = some-item at i b in
+          record { word = v .word ++ []; is = one (v .is) Star.none; like = like-more [] (v .like); later = v .later; within = v .within }
+      items-told (suc turns) c at i =
+          after-told c at _ i (λ f to l. items-told turns (behind c f) to l) (read (c .beside) at (c .after)) (told c at i)
 
       -- ---- containers ----
 
-      module _ (c : Seat) (at : ℕ) (few : c .after < L .values) (s : Standing t Ws (at + 1) (skip t (at + 1))) where
-        inner : {w : List ℕ} (d : Is (items b) w) → treeOf d 0 0 (skip t (at + 1)) ≡ treeOf d 0 0 (at + 1 + length (s .word))
-        inner d = ap (λ (x : ℕ). treeOf d 0 0 x) (stands-to (s .stands))
-
+      module _ (c : Seat) (at : ℕ) (s : Standing t Ws (at + 1) (skip t (at + 1))) where
         tree-full : {ns ne to : ℕ} {f : Forest} (h : Listed b depth (under c) (skip t (at + 1)) f to) → node b ns ne at to f none ≡ treeOf (full b (s .is) (h .is)) ns ne at
         unfolding treeOf join
         tree-full {ns} {ne} {to} h =
@@ -258,45 +248,61 @@ module _ (L : Limits) (t : List ℕ) where
             let e : to ≡ at + length (s .word) + length (h .word) + 2 = omega (arith, stands-to (h .stands), length-append (h .word) (closing b ∷ [])) in
             rw (e, h .trees, x)
 
-        opened : {n q e : ℕ} → c .inside + suc depth ≡ L .depth → Viable (items b) (under c) 0 0 (skip t (at + 1)) n q e → Opened b c at n q e
-        unfolding treeOf
-        opened {n} {q} room v =
+        opened : {q e : ℕ} → Viable (items b) (skip t (at + 1)) q e → Opened b at q e
+        opened v =
             record {
               word = s .word ++ (v .word ++ closing b ∷ []);
               is = full b (s .is) (v .is);
               like = like-join (s .stands) (like-more _ (v .like));
               later = omega (arith, stands-to (s .stands), v .later);
               within = v .within;
-              first = λ ns ne g. node-first L t c n q b ns ne at _ _ g (λ e. omega arith) (λ e. omega arith) (subst (λ (a : Forest). First-wrong L t (under c) a n q) (inner (v .is)) (v .first));
             }
 
-        rest-told : c .inside + suc depth ≡ L .depth → (R : Read) → Told (Listed b depth (under c) (skip t (at + 1))) (Viable (items b) (under c) 0 0 (skip t (at + 1))) R → Told (Closed-by b depth c at) (Opened b c at) R
+        rest-told : (R : Read) → Told (Listed b depth (under c) (skip t (at + 1))) (Viable (items b) (skip t (at + 1))) R → Told (Closed-by b depth c at) (Opened b at) R
         unfolding join
-        rest-told room (bad r) h = stopped-map _ _ (λ n q e. opened room) r h
-        rest-told room (good f to) h =
-            record { word = s .word ++ (h .word ++ closing b ∷ []); is = full b (s .is) (h .is); stands = stands-join (s .stands) (h .stands); trees = λ ns ne. tree-full h; kept = subst (Kept L t depth (under c)) (sym (h .trees)) (h .kept) }
+        rest-told (bad r) h = stopped-map _ _ (λ q e. opened) r h
+        rest-told (good f to) h =
+            record {
+              word = s .word ++ (h .word ++ closing b ∷ []);
+              is = full b (s .is) (h .is);
+              stands = stands-join (s .stands) (h .stands);
+              trees = λ ns ne. tree-full h;
+              kept = subst (Kept L t depth (under c)) (sym (h .trees)) (h .kept);
+            }
 
-      pub inside-told : (c : Seat) (at : ℕ) → c .inside + suc depth ≡ L .depth → c .after < L .values → at + 1 ≤ length t
-          → Told (Closed-by b depth c at) (Opened b c at) (insideOf t read (closing b) (at + 1) (c .after + 1))
+      pub inside-told : (c : Seat) (at : ℕ) → c .after < L .values → at + 1 ≤ length t
+          → Told (Closed-by b depth c at) (Opened b at) (insideOf t read (closing b) (at + 1) (c .after + 1))
       unfolding insideOf treeOf
-      inside-told c at room few i =
+      inside-told c at few i =
           let s = skip-told t (at + 1) in
           let j = stands-inside (s .stands) i in
           let two : skip t (at + 1) + 1 ≡ at + length (s .word) + 2 = omega (arith, stands-to (s .stands)) in
-          if-equal (Told (Closed-by b depth c at) (Opened b c at)) (byteAt t (skip t (at + 1))) (closing b)
-          (λ e. record { word = s .word ++ closing b ∷ []; is = empty b (s .is); stands = stands-join (s .stands) (one-stands e (byte-closing b)); trees = λ ns ne. rw two; kept = kept-none L t (omega arith) })
-          (λ e. rest-told c at few s room (itemsFrom t read (closing b) (suc (length t)) (skip t (at + 1)) (c .after + 1) none) (items-told (suc (length t)) (under c) (skip t (at + 1)) (omega arith) j))
+          if-equal (Told (Closed-by b depth c at) (Opened b at)) (byteAt t (skip t (at + 1))) (closing b)
+          (λ e. record {
+            word = s .word ++ closing b ∷ [];
+            is = empty b (s .is);
+            stands = stands-join (s .stands) (one-stands e (byte-closing b));
+            trees = λ ns ne. rw two;
+            kept = kept-none L t (omega arith);
+          })
+          (λ e. rest-told c at s (itemsFrom t read (closing b) (suc (length t)) (skip t (at + 1)) (c .after + 1) none) (items-told (suc (length t)) (under c) (skip t (at + 1)) j))
 
-      pub container-told : (c : Seat) (ns ne at : ℕ) → c .inside + suc depth ≡ L .depth → Good-name L t (c .beside) ns ne → byteAt t at ≡ opening b → at ≤ length t
-          → Told (Parsed value (suc depth) c ns ne at) (Viable value c ns ne at) (container L b (insideOf t read (closing b)) ns ne at (c .after))
+      pub container-told : (c : Seat) (ns ne at : ℕ) → Good-name L t (c .beside) ns ne → byteAt t at ≡ opening b → at ≤ length t
+          → Told (Parsed value (suc depth) c ns ne at) (Viable value at) (container L b (insideOf t read (closing b)) ns ne at (c .after))
       unfolding container closeOf
-      container-told c ns ne at room named e i =
-          if-most (Told (Parsed value (suc depth) c ns ne at) (Viable value c ns ne at)) (L .values) (c .after)
-          (λ m. some-bracket c ns ne at i b 6 (omega arith) (λ k. absurd (omega arith)) (good-first L t 6 at named) e)
-          (λ m. go m (insideOf t read (closing b) (at + 1) (c .after + 1)) (inside-told c at room m (omega (arith, inside t at (rw e (byte-opening b))))))
+      container-told c ns ne at named e i =
+          if-most (Told (Parsed value (suc depth) c ns ne at) (Viable value at)) (L .values) (c .after)
+          (λ m. some-bracket at i b e)
+          (λ m. go m (insideOf t read (closing b) (at + 1) (c .after + 1)) (inside-told c at m (omega (arith, inside t at (rw e (byte-opening b))))))
         where
-          go : c .after < L .values → (R : Read) → Told (Closed-by b depth c at) (Opened b c at) R → Told (Parsed value (suc depth) c ns ne at) (Viable value c ns ne at) (closeOf b ns ne at R)
+          go : c .after < L .values → (R : Read) → Told (Closed-by b depth c at) (Opened b at) R → Told (Parsed value (suc depth) c ns ne at) (Viable value at) (closeOf b ns ne at R)
           go m (bad r) h =
-              stopped-map _ _ (λ n q x v. record { word = opening b ∷ v .word; is = v .is; like = Like.next (λ l. e) (v .like); later = omega (arith, v .later); within = v .within; first = v .first ns ne (good-first L t n q named) }) r h
+              stopped-map _ _ (λ q x v. record { word = opening b ∷ v .word; is = v .is; like = Like.next (λ l. e) (v .like); later = omega (arith, v .later); within = v .within }) r h
           go m (good f to) h =
-              record { word = opening b ∷ h .word; is = h .is; stands = stands-join (one-stands e (byte-opening b)) (h .stands); trees = h .trees ns ne; kept = kept-node L t b named m (h .kept) }
+              record {
+                word = opening b ∷ h .word;
+                is = h .is;
+                stands = stands-join (one-stands e (byte-opening b)) (h .stands);
+                trees = h .trees ns ne;
+                kept = kept-node L t b named m (h .kept);
+              }

@@ -24,11 +24,11 @@ use Rattle.text.specs.Seats.{Seat}
 use Rattle.text.specs.declared.Token.{Token}
 use Rattle.text.specs.declared.Token.the-variants.{End, No2, No3}
 use Rattle.text.specs.declared.Refusal.the-variants.{Grammar}
-use Rattle.text.proofs.Grammar.Stands.{clash, Stands, Like, stands-join, stands-to, stands-inside, like-none, like-stands, like-more, like-join, like-less, like-long}
+use Rattle.text.proofs.Grammar.Stands.{clash, Stands, Like, stands-join, stands-to, stands-inside, like-none, like-stands, like-more, like-join, like-less}
 use Rattle.text.proofs.Grammar.Exact.{Standing, Begun, Said}
-use Rattle.text.proofs.Grammar.Quotes.{quotedAt, string-exact, bad-later, string-long}
+use Rattle.text.proofs.Grammar.Quotes.{quotedAt, string-exact, string-long}
 use Rattle.text.proofs.Grammar.Words.{skip-told, simpleOf, simple-exact, Lead, no-value, a-simple, a-bracket, lead, lead-opens, token-simple, kind-text, kind-way}
-use Rattle.text.proofs.Grammar.Wrong.{rank, Good-name, kept-leaf, First-wrong, First-name, good-first, leaf-first}
+use Rattle.text.proofs.Grammar.Wrong.{Good-name, kept-leaf}
 use Rattle.text.proofs.Grammar.Sound.{Told, stopped-map, glued, glue, null-value, Parsed, Viable, glued-stands, some-value, some-bracket, container-told}
 
 -- the items of a container at a place
@@ -36,38 +36,37 @@ abbrev pub itemAt : Limits → List ℕ → ℕ → Bracket → ItemReader
 itemAt L t depth square = λ done. valueAt L t depth 0 0
 itemAt L t depth curly = memberOf L t (valueAt L t depth)
 
-no-two : {A : Type 0} {k : Token} {p x : ℕ} → k ≡ No2 p → k ≡ No3 x → A
+pub no-two : {A : Type 0} {k : Token} {p x : ℕ} → k ≡ No2 p → k ≡ No3 x → A
 no-two {A} {k} {p} {x} e f = let z : No2 p ≡ No3 x = sym e ∙ f in let o : _≡_ {A = ℕ} 0 1 = cc in absurd (omega arith)
 
-no-end : {A : Type 0} {k : Token} {p x : ℕ} → k ≡ No2 p → k ≡ End x → A
+pub no-end : {A : Type 0} {k : Token} {p x : ℕ} → k ≡ No2 p → k ≡ End x → A
 no-end {A} {k} {p} {x} e f = let z : No2 p ≡ End x = sym e ∙ f in let o : _≡_ {A = ℕ} 0 1 = cc in absurd (omega arith)
 
-three-end : {A : Type 0} {k : Token} {p x : ℕ} → k ≡ No3 p → k ≡ End x → A
+pub three-end : {A : Type 0} {k : Token} {p x : ℕ} → k ≡ No3 p → k ≡ End x → A
 three-end {A} {k} {p} {x} e f = let z : No3 p ≡ End x = sym e ∙ f in let o : _≡_ {A = ℕ} 0 1 = cc in absurd (omega arith)
 
-same-three : {k : Token} {p x : ℕ} → k ≡ No3 p → k ≡ No3 x → p ≡ x
+pub same-three : {k : Token} {p x : ℕ} → k ≡ No3 p → k ≡ No3 x → p ≡ x
 same-three {k} {p} {x} e f = let z : No3 p ≡ No3 x = sym e ∙ f in cc
 
 module _ (L : Limits) (t : List ℕ) where
   -- ---- a value that holds no others ----
 
   scalar-told : (k : Simple) (w : List ℕ) (depth : ℕ) (c : Seat) (ns ne at : ℕ) → byteAt t at < 256 → Written k (byteAt t at ∷ w) → Good-name L t (c .beside) ns ne → at ≤ length t
-      → Told (Parsed L t value depth c ns ne at) (Viable L t value c ns ne at) (scalarAt L t (kindOf k) ns ne at (c .after))
+      → Told (Parsed L t value depth c ns ne at) (Viable L t value at) (scalarAt L t (kindOf k) ns ne at (c .after))
   unfolding scalarAt scalarWith treeOf
   scalar-told k w depth c ns ne at b d g i =
-      if-most (Told (Parsed L t value depth c ns ne at) (Viable L t value c ns ne at)) (L .values) (c .after)
+      if-most (Told (Parsed L t value depth c ns ne at) (Viable L t value at)) (L .values) (c .after)
       (λ m. record {
         word = byteAt t at ∷ w;
         is = simple k d;
         like = Like.next (λ l. refl) (like-none w (le-refl (at + 1)));
         later = le-refl at;
         within = omega (arith, inside t at b);
-        first = leaf-first L t c 6 at (kindOf k) ns ne at _ (good-first L t 6 at g) (λ x e z. omega (arith, bad-later t at x z)) (λ e. le-refl (rank 6 at));
       })
       (λ m. rw (token-simple t k at (lead-opens k (byteAt t at) w d)) (go m (simpleOf t k at) refl (simple-exact t k .told at i)))
     where
       go : c .after < L .values → (key : Token) → simpleOf t k at ≡ key → Said t (Written k) at key
-          → Told (Parsed L t value depth c ns ne at) (Viable L t value c ns ne at) (scalarWith (kindOf k) ns ne at key)
+          → Told (Parsed L t value depth c ns ne at) (Viable L t value at) (scalarWith (kindOf k) ns ne at key)
       go m (End to) e s =
           record {
             word = s .word;
@@ -83,7 +82,6 @@ module _ (L : Limits) (t : List ℕ) where
             like = s .like;
             later = s .later;
             within = s .within;
-            first = leaf-first L t c 2 q (kindOf k) ns ne at _ (good-first L t 2 q g) (λ x o z. no-two e (kind-text t k at o ∙ z)) (λ o. absurd (omega arith));
           }
       go m (No3 q) e s =
           record {
@@ -92,24 +90,24 @@ module _ (L : Limits) (t : List ℕ) where
             like = s .like;
             later = s .later;
             within = s .within;
-            first = leaf-first L t c 3 q (kindOf k) ns ne at _ (good-first L t 3 q g) (λ x o z. omega (arith, same-three e (kind-text t k at o ∙ z))) (λ o. absurd (omega arith));
           }
 
   -- ---- a value by its first byte ----
 
   with-told : (arrays objects : Reader) (depth : ℕ) (c : Seat) (ns ne at : ℕ) → Good-name L t (c .beside) ns ne → at ≤ length t
-      → (byteAt t at ≡ 91 → Told (Parsed L t value depth c ns ne at) (Viable L t value c ns ne at) (arrays ns ne at (c .after)))
-      → (byteAt t at ≡ 123 → Told (Parsed L t value depth c ns ne at) (Viable L t value c ns ne at) (objects ns ne at (c .after)))
-      → Told (Parsed L t value depth c ns ne at) (Viable L t value c ns ne at) (valueWith L t arrays objects ns ne at (c .after))
+      → (byteAt t at ≡ 91 → Told (Parsed L t value depth c ns ne at) (Viable L t value at) (arrays ns ne at (c .after)))
+      → (byteAt t at ≡ 123 → Told (Parsed L t value depth c ns ne at) (Viable L t value at) (objects ns ne at (c .after)))
+      → Told (Parsed L t value depth c ns ne at) (Viable L t value at) (valueWith L t arrays objects ns ne at (c .after))
   unfolding valueWith
   with-told arrays objects depth c ns ne at g i a o = go (kindBy (byteAt t at)) (lead (byteAt t at))
     where
       P : Read → Type 0
-      P = Told (Parsed L t value depth c ns ne at) (Viable L t value c ns ne at)
+      P = Told (Parsed L t value depth c ns ne at) (Viable L t value at)
 
       go : (kind : ℕ) → Lead (byteAt t at) kind
-          → P (cond (eqb kind 0) (bad (Grammar at)) (cond (eqb kind 6) (arrays ns ne at (c .after)) (cond (eqb kind 7) (objects ns ne at (c .after)) (scalarAt L t kind ns ne at (c .after)))))
-      go kind no-value = some-value L t c ns ne at i (good-first L t 2 at g)
+          → P (cond (eqb kind 0) (bad (Grammar at)) (cond (eqb kind 6) (arrays ns ne at (c .after))
+          (cond (eqb kind 7) (objects ns ne at (c .after)) (scalarAt L t kind ns ne at (c .after)))))
+      go kind no-value = some-value L t at i
       go kind (a-bracket square e) = a e
       go kind (a-bracket curly e) = o e
       go kind (a-simple k w b d) = subst P (sym (kind-way k _ _ _ _)) (scalar-told k w depth c ns ne at b d g i)
@@ -117,18 +115,9 @@ module _ (L : Limits) (t : List ℕ) where
   -- ---- a member ----
 
   -- the beginning of a member: the beginning of its name, or its name, and then what could follow
-  module _ (c : Seat) (at n q e : ℕ) where
-    name-begun : Begun t String at q e → First-name L t (c .beside) (at + 1) n q → q ≤ e → n ≤ 6 → Viable L t (item curly) c 0 0 at n q e
-    unfolding treeOf
-    name-begun b g l m =
-        record {
-          word = b .word ++ (58 ∷ 110 ∷ 117 ∷ 108 ∷ 108 ∷ []);
-          is = member (b .is) Star.none Star.none null-value;
-          like = like-more _ (b .like);
-          later = b .later;
-          within = b .within;
-          first = leaf-first L t c n q 1 (at + 1) _ _ _ g (λ x k. absurd (omega arith)) (λ k. omega (arith, like-long (b .like)));
-        }
+  name-begun : {at q e : ℕ} → Begun t String at q e → Viable L t (item curly) at q e
+  name-begun b =
+      record { word = b .word ++ (58 ∷ 110 ∷ 117 ∷ 108 ∷ 108 ∷ []); is = member (b .is) Star.none Star.none null-value; like = like-more _ (b .like); later = b .later; within = b .within }
 
   -- a member whose name is read, up to its value
   module _ (depth : ℕ) (c : Seat) (at end : ℕ) (i : at ≤ length t) (m : Standing t String at end) where
@@ -149,17 +138,16 @@ module _ (L : Limits) (t : List ℕ) where
           let y : skip t (skip t end + 1) ≡ at + length (m .word) + length (s .word) + 1 + length (r .word) = omega (arith, stands-to (s .stands), stands-to (r .stands)) in
           ap₂ (λ (a b : ℕ). treeOf d (at + 1) a b) (ap (λ (e : ℕ). e - 1) x) y
 
-      valued : (R : Read) → Told (Parsed L t value depth c (at + 1) (end - 1) (skip t (skip t end + 1))) (Viable L t value c (at + 1) (end - 1) (skip t (skip t end + 1))) R
-          → Told (Parsed L t (item curly) depth c 0 0 at) (Viable L t (item curly) c 0 0 at) R
+      valued : (R : Read) → Told (Parsed L t value depth c (at + 1) (end - 1) (skip t (skip t end + 1))) (Viable L t value (skip t (skip t end + 1))) R
+          → Told (Parsed L t (item curly) depth c 0 0 at) (Viable L t (item curly) at) R
       valued (bad x) h =
-          stopped-map _ _ (λ n q e v.
+          stopped-map _ _ (λ q e v.
           record {
             word = glued 58 (m .word) (s .word) (r .word) (v .word);
             is = member (m .is) (s .is) (r .is) (v .is);
             like = rw (glue 58 (m .word) (s .word) (r .word) (v .word)) at (like-join g (v .like));
             later = omega (arith, stands-to g, v .later);
             within = v .within;
-            first = subst (λ (a : Forest). First-wrong L t c a n q) (whole (v .is)) (v .first);
           }) x h
       valued (good f to) h =
           record {
@@ -171,8 +159,8 @@ module _ (L : Limits) (t : List ℕ) where
           }
 
     colon-told : (read : Reader) → quotedAt t at ≡ End end → (L .unique ≡ true → named t (nameOf t (at + 1) (end - 1)) (c .beside) ≡ false)
-        → ((at : ℕ) (ns ne : ℕ) → Good-name L t (c .beside) ns ne → at ≤ length t → Told (Parsed L t value depth c ns ne at) (Viable L t value c ns ne at) (read ns ne at (c .after)))
-        → Told (Parsed L t (item curly) depth c 0 0 at) (Viable L t (item curly) c 0 0 at) (colonAt t read at end (c .after))
+        → ((at : ℕ) (ns ne : ℕ) → Good-name L t (c .beside) ns ne → at ≤ length t → Told (Parsed L t value depth c ns ne at) (Viable L t value at) (read ns ne at (c .after)))
+        → Told (Parsed L t (item curly) depth c 0 0 at) (Viable L t (item curly) at) (colonAt t read at end (c .after))
     unfolding colonAt treeOf
     colon-told read e new told =
         let x = skip t end in
@@ -180,7 +168,7 @@ module _ (L : Limits) (t : List ℕ) where
         let l = stands-join (m .stands) (s .stands) in
         let o : end - 1 + 1 ≡ end = omega (arith, stands-to (m .stands), string-long (m .is)) in
         let named : Good-name L t (c .beside) (at + 1) (end - 1) = record { closed = λ j k. let y : at ≡ j = omega arith in rw (← y, o) e; new = λ u j k. new u } in
-        if-equal (Told (Parsed L t (item curly) depth c 0 0 at) (Viable L t (item curly) c 0 0 at)) (byteAt t x) 58
+        if-equal (Told (Parsed L t (item curly) depth c 0 0 at) (Viable L t (item curly) at)) (byteAt t x) 58
         (λ k. valued k (read (at + 1) (end - 1) (skip t (x + 1)) (c .after)) (told (skip t (x + 1)) (at + 1) (end - 1) named (stands-inside (g k) i)))
         (λ k. record {
           word = glued 58 (m .word) (s .word) [] (110 ∷ 117 ∷ 108 ∷ 108 ∷ []);
@@ -188,32 +176,28 @@ module _ (L : Limits) (t : List ℕ) where
           like = rw (append-assoc (m .word) (s .word) (58 ∷ 110 ∷ 117 ∷ 108 ∷ 108 ∷ [])) at (like-more (58 ∷ 110 ∷ 117 ∷ 108 ∷ 108 ∷ []) (like-stands l));
           later = omega (arith, stands-to l);
           within = stands-inside l i;
-          first = leaf-first L t c 2 x 1 (at + 1) _ _ _ (good-first L t 2 x named) (λ y z. absurd (omega arith)) (λ z. omega (arith, stands-to (m .stands), stands-to (s .stands)));
         })
 
   member-told : (read : Reader) (depth : ℕ) (c : Seat) (at : ℕ) → at ≤ length t
-      → ((at : ℕ) (ns ne : ℕ) → Good-name L t (c .beside) ns ne → at ≤ length t → Told (Parsed L t value depth c ns ne at) (Viable L t value c ns ne at) (read ns ne at (c .after)))
+      → ((at : ℕ) (ns ne : ℕ) → Good-name L t (c .beside) ns ne → at ≤ length t → Told (Parsed L t value depth c ns ne at) (Viable L t value at) (read ns ne at (c .after)))
       → (key : Token) → quotedAt t at ≡ key → Said t String at key
-      → Told (Parsed L t (item curly) depth c 0 0 at) (Viable L t (item curly) c 0 0 at) (memberWith L t read (c .beside) at (c .after) key)
+      → Told (Parsed L t (item curly) depth c 0 0 at) (Viable L t (item curly) at) (memberWith L t read (c .beside) at (c .after) key)
   unfolding memberWith
-  member-told read depth c at i told (No2 q) e b =
-      name-begun c at 2 q q b
-      (record { spelled = λ j x k z. let y : j ≡ at = omega arith in no-two e (rw y at z); new = λ x f u k z o. let y : x ≡ at = omega arith in no-end e (rw y at z) })
-      (le-refl q) (omega arith)
-  member-told read depth c at i told (No3 q) e b =
-      name-begun c at 3 q (q + 1) b
-      (record { spelled = λ j x k z. let y : j ≡ at = omega arith in omega (arith, same-three e (rw y at z)); new = λ x f u k z o. let y : x ≡ at = omega arith in three-end e (rw y at z) })
-      (omega arith) (omega arith)
+  member-told read depth c at i told (No2 q) e b = name-begun b
+  member-told read depth c at i told (No3 q) e b = name-begun b
   member-told read depth c at i told (End end) e m =
-      let P = Told (Parsed L t (item curly) depth c 0 0 at) (Viable L t (item curly) c 0 0 at) in
+      let P = Told (Parsed L t (item curly) depth c 0 0 at) (Viable L t (item curly) at) in
       let l = stands-to (m .stands) in
       let n = string-long (m .is) in
       if-true P (L .unique)
       (λ u. if-true P (named t (nameOf t (at + 1) (end - 1)) (c .beside))
-      (λ d. name-begun c at 4 at (at + 1)
-      (record { word = m .word; is = m .is; like = like-less (omega arith) (like-stands (m .stands)); later = le-refl at; within = omega (arith, stands-inside (m .stands) i) })
-      (record { spelled = λ j x k z. let y : j ≡ at = omega arith in three-end (rw y at z) e; new = λ x f v k z o. omega arith })
-      (omega arith) (omega arith))
+      (λ d. name-begun (record {
+        word = m .word;
+        is = m .is;
+        like = like-less (omega arith) (like-stands (m .stands));
+        later = le-refl at;
+        within = omega (arith, stands-inside (m .stands) i);
+      }))
       (λ d. colon-told depth c at end i m read e (λ v. d) told))
       (λ u. colon-told depth c at end i m read e (λ v. clash (L .unique) v u) told)
 
@@ -228,11 +212,11 @@ module _ (L : Limits) (t : List ℕ) where
 
   -- ---- items and values ----
 
-  element-told : (depth : ℕ) (c : Seat) (at : ℕ) (R : Read) → Told (Parsed L t value depth c 0 0 at) (Viable L t value c 0 0 at) R
-      → Told (Parsed L t (item square) depth c 0 0 at) (Viable L t (item square) c 0 0 at) R
+  element-told : (depth : ℕ) (c : Seat) (at : ℕ) (R : Read) → Told (Parsed L t value depth c 0 0 at) (Viable L t value at) R
+      → Told (Parsed L t (item square) depth c 0 0 at) (Viable L t (item square) at) R
   unfolding treeOf
   element-told depth c at (bad r) h =
-      stopped-map _ _ (λ n q e v. record { word = v .word; is = element (v .is); like = v .like; later = v .later; within = v .within; first = v .first }) r h
+      stopped-map _ _ (λ q e v. record { word = v .word; is = element (v .is); like = v .like; later = v .later; within = v .within }) r h
   element-told depth c at (good f to) h = record { word = h .word; is = element (h .is); stands = h .stands; trees = h .trees; kept = h .kept }
 
   -- a value that has no name
@@ -240,27 +224,27 @@ module _ (L : Limits) (t : List ℕ) where
   no-name before = record { closed = λ j k. absurd (omega arith); new = λ u j k. absurd (omega arith) }
 
   item-from : (depth : ℕ)
-      → ((c : Seat) (ns ne at : ℕ) → c .inside + depth ≡ L .depth → Good-name L t (c .beside) ns ne → at ≤ length t → Told (Parsed L t value depth c ns ne at) (Viable L t value c ns ne at) (valueAt L t depth ns ne at (c .after)))
-      → (b : Bracket) (c : Seat) (at : ℕ) → c .inside + depth ≡ L .depth → at ≤ length t
-      → Told (Parsed L t (item b) depth c 0 0 at) (Viable L t (item b) c 0 0 at) (itemAt L t depth b (c .beside) at (c .after))
-  item-from depth told square c at room i = element-told depth c at (valueAt L t depth 0 0 at (c .after)) (told c 0 0 at room (no-name (c .beside)) i)
-  item-from depth told curly c at room i =
+      → ((c : Seat) (ns ne at : ℕ) → Good-name L t (c .beside) ns ne → at ≤ length t → Told (Parsed L t value depth c ns ne at) (Viable L t value at) (valueAt L t depth ns ne at (c .after)))
+      → (b : Bracket) (c : Seat) (at : ℕ) → at ≤ length t
+      → Told (Parsed L t (item b) depth c 0 0 at) (Viable L t (item b) at) (itemAt L t depth b (c .beside) at (c .after))
+  item-from depth told square c at i = element-told depth c at (valueAt L t depth 0 0 at (c .after)) (told c 0 0 at (no-name (c .beside)) i)
+  item-from depth told curly c at i =
       rw (quote-first (valueAt L t depth) (c .beside) at (c .after))
-      (member-told (valueAt L t depth) depth c at i (λ at ns ne g j. told c ns ne at room g j) (quotedAt t at) refl (string-exact t .told at i))
+      (member-told (valueAt L t depth) depth c at i (λ at ns ne g j. told c ns ne at g j) (quotedAt t at) refl (string-exact t .told at i))
 
-  pub value-told : (depth : ℕ) (c : Seat) (ns ne at : ℕ) → c .inside + depth ≡ L .depth → Good-name L t (c .beside) ns ne → at ≤ length t
-      → Told (Parsed L t value depth c ns ne at) (Viable L t value c ns ne at) (valueAt L t depth ns ne at (c .after))
+  pub value-told : (depth : ℕ) (c : Seat) (ns ne at : ℕ) → Good-name L t (c .beside) ns ne → at ≤ length t
+      → Told (Parsed L t value depth c ns ne at) (Viable L t value at) (valueAt L t depth ns ne at (c .after))
   unfolding valueAt deep
-  value-told zero c ns ne at room g i =
+  value-told zero c ns ne at g i =
       with-told deep deep zero c ns ne at g i
-      (λ e. some-bracket L t c ns ne at i square 5 (omega arith) (λ k. omega arith) (good-first L t 5 at g) e)
-      (λ e. some-bracket L t c ns ne at i curly 5 (omega arith) (λ k. omega arith) (good-first L t 5 at g) e)
-  value-told (suc depth) c ns ne at room g i =
+      (λ e. some-bracket L t at i square e)
+      (λ e. some-bracket L t at i curly e)
+  value-told (suc depth) c ns ne at g i =
       let told = item-from depth (value-told depth) in
       with-told _ _ (suc depth) c ns ne at g i
-      (λ e. container-told L t square depth (itemAt L t depth square) (told square) c ns ne at room g e i)
-      (λ e. container-told L t curly depth (itemAt L t depth curly) (told curly) c ns ne at room g e i)
+      (λ e. container-told L t square depth (itemAt L t depth square) (told square) c ns ne at g e i)
+      (λ e. container-told L t curly depth (itemAt L t depth curly) (told curly) c ns ne at g e i)
 
-  pub item-told : (depth : ℕ) (b : Bracket) (c : Seat) (at : ℕ) → c .inside + depth ≡ L .depth → at ≤ length t
-      → Told (Parsed L t (item b) depth c 0 0 at) (Viable L t (item b) c 0 0 at) (itemAt L t depth b (c .beside) at (c .after))
+  pub item-told : (depth : ℕ) (b : Bracket) (c : Seat) (at : ℕ) → at ≤ length t
+      → Told (Parsed L t (item b) depth c 0 0 at) (Viable L t (item b) at) (itemAt L t depth b (c .beside) at (c .after))
   item-told depth = item-from depth (value-told depth)

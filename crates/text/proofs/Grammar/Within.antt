@@ -71,29 +71,29 @@ module _ (L : Limits) (t : List ℕ) where
 
   -- ---- where the place is ----
 
-  -- a seat in so many containers, after so many values and those before it
-  abbrev seat : ℕ → ℕ → Forest → Seat
-  seat k n before = record { inside = k; after = n; beside = before }
+  -- a seat after so many values, and those before it in its container
+  abbrev seat : ℕ → Forest → Seat
+  seat n before = record { inside = 0; after = n; beside = before }
 
-  module _ (k depth : ℕ) (room : k + depth ≡ L .depth) where
+  module _ (depth : ℕ) where
     pub value-later : (ns ne at n : ℕ) → at ≤ length t → at ≤ placeOf (valueAt L t depth ns ne at n)
     value-later ns ne at n i =
         rw (value-anonymous depth ns ne at n)
-        (told-place (λ x. at ≤ x) _ _ (λ f to p. omega (arith, stands-to (p .stands))) (λ n q e l v. v .later) (valueAt L t depth 0 0 at n)
-        (value-told L t depth (seat k n none) 0 0 at room (no-name L t none) i))
+        (told-place (λ x. at ≤ x) _ _ (λ f to p. omega (arith, stands-to (p .stands))) (λ q e l v. v .later) (valueAt L t depth 0 0 at n)
+        (value-told L t depth (seat n none) 0 0 at (no-name L t none) i))
 
     pub value-within : (ns ne at n : ℕ) → at ≤ length t → placeOf (valueAt L t depth ns ne at n) ≤ length t
     value-within ns ne at n i =
         rw (value-anonymous depth ns ne at n)
-        (told-place (λ x. x ≤ length t) _ _ (λ f to p. stands-inside (p .stands) i) (λ n q e l v. omega (arith, v .within)) (valueAt L t depth 0 0 at n)
-        (value-told L t depth (seat k n none) 0 0 at room (no-name L t none) i))
+        (told-place (λ x. x ≤ length t) _ _ (λ f to p. stands-inside (p .stands) i) (λ q e l v. omega (arith, v .within)) (valueAt L t depth 0 0 at n)
+        (value-told L t depth (seat n none) 0 0 at (no-name L t none) i))
 
     pub item-within : (b : Bracket) (before : Forest) (at n : ℕ) → at ≤ length t → placeOf (itemAt L t depth b before at n) ≤ length t
     item-within b before at n i =
-        told-place (λ x. x ≤ length t) _ _ (λ f to p. stands-inside (p .stands) i) (λ n q e l v. omega (arith, v .within)) (itemAt L t depth b before at n)
-        (item-told L t depth b (seat k n before) at room i)
+        told-place (λ x. x ≤ length t) _ _ (λ f to p. stands-inside (p .stands) i) (λ q e l v. omega (arith, v .within)) (itemAt L t depth b before at n)
+        (item-told L t depth b (seat n before) at i)
 
     pub items-later : (b : Bracket) (turns at n : ℕ) (before : Forest) → at ≤ length t → at ≤ placeOf (itemsFrom t (itemAt L t depth b) (closing b) turns at n before)
     items-later b turns at n before i =
-        told-place (λ x. at ≤ x) _ _ (λ f to p. omega (arith, stands-to (p .stands))) (λ n q e l v. v .later) (itemsFrom t (itemAt L t depth b) (closing b) turns at n before)
-        (items-told L t b depth (itemAt L t depth b) (item-told L t depth b) turns (seat k n before) at room i)
+        told-place (λ x. at ≤ x) _ _ (λ f to p. omega (arith, stands-to (p .stands))) (λ q e l v. v .later) (itemsFrom t (itemAt L t depth b) (closing b) turns at n before)
+        (items-told L t b depth (itemAt L t depth b) (item-told L t depth b) turns (seat n before) at i)

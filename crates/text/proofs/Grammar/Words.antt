@@ -23,7 +23,7 @@ use Rattle.text.specs.Grammar.{Blank, Ws, Number, String, quoted, Simple
 use Rattle.text.specs.declared.Token.{Token}
 use Rattle.text.specs.declared.Token.the-variants.{End, No2, No3}
 use Rattle.text.proofs.Grammar.Stands.{Stands, Like, stands-to, stands-inside, one-stands, stands-join, like-none, like-tail, like-stuck}
-use Rattle.text.proofs.Grammar.Exact.{Standing, Said, Goes, Exact, Tells, ends-exact, run-stands, run-exact}
+use Rattle.text.proofs.Grammar.Exact.{Standing, Said, Past, Goes, Exact, Tells, ends-exact, run-stands, run-exact}
 use Rattle.text.proofs.Grammar.Number.{Ends, between, digit-tells, number-exact}
 use Rattle.text.proofs.Grammar.Quotes.{quotedAt, string-exact}
 
@@ -55,7 +55,8 @@ module _ (t : List ℕ) where
   pub skip-told : (at : ℕ) → Standing t Ws at (skip t at)
   skip-told at = run-stands t blank-tells at
 
-  pub skip-follow : {q at : ℕ} {w : List ℕ} (s : List ℕ) → at ≤ length t → Ws w → isSpace (byteAt s 0) ≡ false → Like t q at (w ++ s) → (skip t at ≡ at + length w) ⊎ (q ≤ skip t at)
+  pub skip-follow : {q at : ℕ} {w : List ℕ} (s : List ℕ) → at ≤ length t → Ws w → isSpace (byteAt s 0) ≡ false → Like t q at (w ++ s)
+      → (skip t at ≡ at + length w) ⊎ Past q (at + length w) (skip t at)
   skip-follow {q} {at} {w} s i c o h = run-exact t blank-tells .follow q at w s i c o h
 
   pub skip-later : (at : ℕ) → at ≤ skip t at
@@ -112,7 +113,7 @@ module _ (t : List ℕ) where
       let one : at + suc (length v) ≡ at + 1 + length v = omega arith in
       if-equal (Goes q (at + suc (length v))) (byteAt t at) x
       (λ e. rw one (word-follow v q (at + 1) s (like-tail h)))
-      (λ e. like-stuck h e)
+      (λ e. let l = like-stuck h e in record { word = omega arith; answer = l })
 
   word-exact : (v : List ℕ) → Each-byte v → Exact t (Exactly v) (λ z. Unit {0}) (wordAt t v)
   word-exact v b =
@@ -219,7 +220,17 @@ first-number w s (seq (seq (seq Opt.none (this (Byte.byte e))) f) g) = rw e
 first-number w s (seq (seq (seq Opt.none (that (seq (Byte.byte {x} b) c))) f) g) =
     let lo = b .from in
     let hi = b .up-to in
-    rw (ne-eqb x 110 (omega arith), ne-eqb x 102 (omega arith), ne-eqb x 116 (omega arith), ne-eqb x 45 (omega arith), ne-eqb x 34 (omega arith), ne-eqb x 91 (omega arith), ne-eqb x 123 (omega arith), digit-tells .back x (omega arith))
+    rw (
+      ne-eqb x 110 (omega arith),
+      ne-eqb x 102 (omega arith),
+      ne-eqb x 116 (omega arith),
+      ne-eqb x 45 (omega arith),
+      ne-eqb x 34 (omega arith),
+      ne-eqb x 91
+          (omega arith),
+      ne-eqb x 123 (omega arith),
+      digit-tells .back x (omega arith),
+    )
 
 pub simple-first : (k : Simple) (w s : List ℕ) → Written k w → kindBy (byteAt (w ++ s) 0) ≡ kindOf k
 unfolding kindBy

@@ -1,9 +1,9 @@
 -- What is wrong with a value of a tree, in the words of the reading definitions: a string or a name that is refused with 3, a name that its object has
 -- already, a container too deep, a value too many; and which of two wrongs comes first (`rank`).
 --     clean         values that are read have nothing wrong
---     leaf-first, node-first     the first wrong of one value
+--     kept-leaf, kept-node, kept-join, kept-none     how they are put together
 -- Assumes nothing.
-use mathlib.Core.Path.{_≡_, refl, sym, _∙_}
+use mathlib.Core.Path.{_≡_, sym, _∙_}
 use mathlib.Core.List.{List}
 use mathlib.Core.Bool.{true, false}
 use Prim.Native.Nat.{ℕ, suc, _+_, _-_, _*_, _≤_, _<_}
@@ -23,7 +23,7 @@ use Rattle.text.proofs.Grammar.Trees.{size-join, depth-join, Either-of,
 abbrev pub rank : (number place : ℕ) → ℕ
 rank n p = 8 * p + n
 
-no-string : (b : Bracket) → kindIn b ≡ 5 → ⊥
+pub no-string : (b : Bracket) → kindIn b ≡ 5 → ⊥
 no-string square e = omega arith
 no-string curly e = omega arith
 
@@ -53,7 +53,8 @@ module _ (L : Limits) (t : List ℕ) where
   end-bad {A} {p} {x} k e f = let z : End p ≡ No3 x = sym e ∙ f in let o : _≡_ {A = ℕ} 0 1 = cc in absurd (omega arith)
 
   -- a name that is read is not there already
-  name-new : {A : Type 0} {before : Forest} {ns ne e : ℕ} (x : ℕ) → Good-name before ns ne → L .unique ≡ true → ns ≡ x + 1 → quotedAt t x ≡ End e → named t (nameOf t (x + 1) (e - 1)) before ≡ true → A
+  name-new : {A : Type 0} {before : Forest} {ns ne e : ℕ} (x : ℕ) → Good-name before ns ne → L .unique ≡ true → ns ≡ x + 1 → quotedAt t x ≡ End e
+      → named t (nameOf t (x + 1) (e - 1)) before ≡ true → A
   name-new {A} {before} {ns} {ne} {e} x g u k c m =
       let f : e ≡ ne + 1 = end-end x c (g .closed x k) in
       let h : e - 1 ≡ ne = omega arith in
@@ -105,56 +106,3 @@ module _ (L : Limits) (t : List ℕ) where
   pub kept-none : {depth : ℕ} {c : Seat} → c .after ≤ L .values → Kept depth c none
   unfolding depthOf size
   kept-none {depth} {c} l = record { shallow = omega arith; few = omega arith; sane = λ d h i. in-none i }
-
-  -- ---- the first wrong of one value ----
-
-  -- nothing is wrong before a place with a number
-  pub record First-wrong (c : Seat) (f : Forest) (n q : ℕ) : Type 0 where
-    pub least : (d : Seat) (h : Head) (m x : ℕ) → In c f d h → Wrong d h m x → rank n q ≤ rank m x
-
-  -- nor with the name of a value that stands after these
-  pub record First-name (before : Forest) (ns : ℕ) (n q : ℕ) : Type 0 where
-    pub spelled : (j x : ℕ) → ns ≡ j + 1 → quotedAt t j ≡ No3 x → rank n q ≤ rank 3 x
-    pub new : (x e : ℕ) → L .unique ≡ true → ns ≡ x + 1 → quotedAt t x ≡ End e → named t (nameOf t (x + 1) (e - 1)) before ≡ true → rank n q ≤ rank 4 x
-
-  pub good-first : {before : Forest} {ns ne : ℕ} (n q : ℕ) → Good-name before ns ne → First-name before ns n q
-  good-first n q g = record { spelled = λ j x k b. end-bad j (g .closed j k) b; new = λ x e u k c m. name-new x g u k c m }
-
-  module _ (c : Seat) (n q : ℕ) where
-    pub leaf-first : (kind ns ne at to : ℕ) → First-name (c .beside) ns n q
-        → ((x : ℕ) → kind ≡ 5 → quotedAt t at ≡ No3 x → rank n q ≤ rank 3 x) → (c .after ≡ L .values → rank n q ≤ rank 6 at)
-        → First-wrong c (leaf kind ns ne at to none) n q
-    leaf-first kind ns ne at to g s f = record { least = go }
-      where
-        go : (d : Seat) (h : Head) (m x : ℕ) → In c (leaf kind ns ne at to none) d h → Wrong d h m x → rank n q ≤ rank m x
-        go d h m x In.leaf-here (string k b) = s x k b
-        go d h m x In.leaf-here (name j k b) = g .spelled j x k b
-        go d h m x In.leaf-here (again {e} u k c′ o) = g .new x e u k c′ o
-        go d h m x In.leaf-here (deep o k) = clash false o refl
-        go d h m x In.leaf-here (many k) = f k
-
-    pub node-first : (b : Bracket) (ns ne at to : ℕ) (inner : Forest) → First-name (c .beside) ns n q
-        → (c .inside ≡ L .depth → rank n q ≤ rank 5 at) → (c .after ≡ L .values → rank n q ≤ rank 6 at) → First-wrong (under c) inner n q
-        → First-wrong c (node b ns ne at to inner none) n q
-    node-first b ns ne at to inner g s f r = record { least = go }
-      where
-        go : (d : Seat) (h : Head) (m x : ℕ) → In c (node b ns ne at to inner none) d h → Wrong d h m x → rank n q ≤ rank m x
-        go d h m x (In.into i) w = r .least d h m x i w
-        go d h m x In.node-here (string k b′) = absurd (no-string b k)
-        go d h m x In.node-here (name j k b′) = g .spelled j x k b′
-        go d h m x In.node-here (again {e} u k c′ o) = g .new x e u k c′ o
-        go d h m x In.node-here (deep o k) = s k
-        go d h m x In.node-here (many k) = f k
-
-    pub join-first : (f g : Forest) → ((d : Seat) (h : Head) (m x : ℕ) → In c f d h → Wrong d h m x → ⊥) → First-wrong (behind c f) g n q → First-wrong c (join f g) n q
-    join-first f g k l = record { least = λ d h m x i w. go d h m x w (in-join f g i) }
-      where
-        go : (d : Seat) (h : Head) (m x : ℕ) → Wrong d h m x → Either-of c f g d h → rank n q ≤ rank m x
-        go d h m x w (first j) = absurd (k d h m x j w)
-        go d h m x w (later j) = l .least d h m x j w
-
-    pub none-first : First-wrong c none n q
-    none-first = record { least = λ d h m x i w. in-none i }
-
-    pub kept-first : {f : Forest} (depth : ℕ) → c .inside + depth ≡ L .depth → Kept depth c f → First-wrong c f n q
-    kept-first depth e k = record { least = λ d h m x i w. absurd (clean depth e k i w) }
