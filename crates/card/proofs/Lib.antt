@@ -18,3 +18,5 @@ pub mod EntryLaws
 pub mod PointerOrders
 pub mod EntryOrders
 pub mod RunLaws
+pub mod WalkLaws
+pub mod VerdictLaws

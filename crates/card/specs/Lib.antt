@@ -8,3 +8,5 @@ pub mod Entries
 pub mod Members
 pub mod Paths
 pub mod Runs
+pub mod Walk
+pub mod Judged

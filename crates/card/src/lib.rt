@@ -15,6 +15,7 @@
 //   sort      rows of entries, in the order of their pointers
 mod dates;
 mod entries;
+pub mod judge;
 mod members;
 mod parts;
 mod paths;
@@ -27,3 +28,4 @@ pub mod sheet;
 mod sort;
 mod types;
 mod values;
+mod walk;
