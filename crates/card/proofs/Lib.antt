@@ -1,4 +1,15 @@
--- What the proofs of several functions share.
+-- Laws by subject, which the functions' proofs cite.
+pub mod Cursors
+pub mod Ids
+pub mod Counts
+pub mod Times
+pub mod Words
+pub mod Columns
+pub mod Search
+pub mod Roles
+pub mod Along
+pub mod ValueLaws
+pub mod Separators
 pub mod PartLaws
 pub mod PointerLaws
 pub mod MemberLaws
@@ -7,3 +18,5 @@ pub mod EntryLaws
 pub mod PointerOrders
 pub mod EntryOrders
 pub mod RunLaws
+pub mod WalkLaws
+pub mod VerdictLaws

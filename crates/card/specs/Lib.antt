@@ -1,6 +1,12 @@
+pub mod Types
+pub mod Table
+pub mod Rows
+pub mod Marks
 pub mod Parts
 pub mod Pointers
 pub mod Entries
 pub mod Members
 pub mod Paths
 pub mod Runs
+pub mod Walk
+pub mod Judged

@@ -1,10 +1,12 @@
--- Facts that speak of no format: places and parts of a list, runs, the outcomes of a test, the order of two runs of bytes, buffers being cleared, and sorting.
+-- Facts that speak of no format: places and parts of a list, runs, the outcomes of a test, the order of two runs of bytes, rules of a table, buffers
+-- being cleared, and sorting.
 pub mod Places
 pub mod Bounds
 pub mod Splits
 pub mod Picks
 pub mod Branches
 pub mod Orders
+pub mod Tables
 pub mod Outcomes
 pub mod Parts
 pub mod Cleared

@@ -1,0 +1,39 @@
+-- `card::dates::closes` meets its contract: what the cursor says after the byte decides. Assumes nothing.
+use mathlib.Core.Path.{sym}
+use borrow.Author.Needs.{needs}
+use denote.Ref.{now}
+use Rattle.json.specs.Cursors.{rest}
+use Rattle.card.proofs.Cursors.{byte-left, none-left}
+use Rattle.card.proofs.Times.{fraction-other, fraction-nought, fraction-end, fraction-more}
+use Rattle.card.proofs.dates.closes.Statement.{statement}
+use Rattle.card.proofs.dates.closes.Tie as tie
+
+returns : tie.Need-returns
+returns c = sym (fraction-other _ _ (c .before .before .pre) _ (c .if1 .taken))
+
+returns-2 : tie.Need-returns-2
+returns-2 c = sym (fraction-nought _ _ (c .before .before .before .pre) _ (c .if2 .taken))
+
+next-byte-requires : tie.Need-next-byte-requires
+next-byte-requires c κs = search needs
+
+enum-told : tie.Need-enum-told
+enum-told c = search needs
+
+enum-told-2 : tie.Need-enum-told-2
+enum-told-2 c = search needs
+
+returns-3 : tie.Need-returns-3
+returns-3 c =
+    let x = c .before .before .before .before .before .before .args in
+    sym (fraction-end (x .last) (x .b) (c .before .before .before .before .before .before .pre) (rest (now (x .content)) (x .after)) (none-left (now (x .content)) (x .after) (c .before .before .next-byte .ensures .0) (c .enum-told .given .1)) (c .before .before .before .before .if1 .left) (c .before .before .before .if2 .left))
+
+returns-4 : tie.Need-returns-4
+returns-4 c =
+    let x = c .before .before .before .before .before .before .args in
+    sym (fraction-more (x .last) (x .b) (c .before .before .before .before .before .before .pre) (rest (now (x .content)) (x .after)) (byte-left (now (x .content)) (x .after) (c .before .before .next-byte .ensures .0) (c .enum-told2 .given .1)))
+
+pub closes-spec : {M : Type 1} → statement M
+closes-spec =
+    tie.close
+    (tie.spec returns returns-2 next-byte-requires enum-told enum-told-2 returns-3 returns-4)

@@ -1,0 +1,69 @@
+-- `card::dates::fraction_ends` meets its contract: digit by digit. The measure is the number of bytes that the cursor has left. Assumes nothing.
+use mathlib.Core.Path.{_≡_, refl, sym, ap, _∙_}
+use native.Mathlib.Omega.{arith}
+use borrow.Author.Needs.{needs}
+use denote.Ref.{now}
+use lib.ListN.{length}
+use borrow.Author.Tests.{not-true, not-false}
+use Rattle.json.specs.Cursors.{rest}
+use Rattle.contact.specs.Dates.{fractionEnds}
+use Rattle.card.proofs.Cursors.{byte-left, none-left}
+use Rattle.card.proofs.Times.{fraction-on}
+use Rattle.card.proofs.dates.fraction_ends.Statement.{statement}
+use Rattle.card.proofs.dates.fraction_ends.Tie as tie
+
+abbrev Inv-loop : tie.InvT-loop
+Inv-loop content at₀ last₀ at last = fractionEnds last (rest content at) ≡ fractionEnds 48 (rest content at₀)
+
+abbrev μ-loop : tie.MeasureT-loop
+μ-loop content at₀ last₀ at last = length (rest content at)
+
+loop-holds : tie.Need-loop-holds Inv-loop μ-loop
+loop-holds c = refl
+
+next-byte-requires : tie.Need-next-byte-requires Inv-loop μ-loop
+next-byte-requires c κs = search needs
+
+enum-told : tie.Need-enum-told Inv-loop μ-loop
+enum-told c = search needs
+
+returns : tie.Need-returns Inv-loop μ-loop
+unfolding fractionEnds
+returns c = rw (← c .before .before .before .loop .inv, none-left (now (c .before .before .before .before .before .args .content)) (c .before .before .before .loop .at) (c .before .before .next-byte .ensures .0) (c .enum-told .given .1))
+
+enum-known-b : tie.Need-enum-known-b Inv-loop μ-loop
+enum-known-b c = search needs
+
+is-digit-requires : tie.Need-is-digit-requires Inv-loop μ-loop
+is-digit-requires c κs = search needs
+
+closes-requires : tie.Need-closes-requires Inv-loop μ-loop
+closes-requires c κs = sym (c .before .is-digit .ensures) ∙ not-true _ (c .if1 .taken)
+
+returns-2 : tie.Need-returns-2 Inv-loop μ-loop
+returns-2 c = rw (← c .before .before .before .before .before .before .before .loop .inv, byte-left (now (c .before .before .before .before .before .before .before .before .before .args .content)) (c .before .before .before .before .before .before .before .loop .at) (c .before .before .before .before .before .before .next-byte .ensures .0) (c .before .before .before .before .b .given .1)) (c .closes .ensures)
+
+loop-less : tie.Need-loop-less Inv-loop μ-loop
+loop-less c = omega (arith, ap length (byte-left (now (c .before .before .before .before .before .before .before .before .args .content)) (c .before .before .before .before .before .before .loop .at) (c .before .before .before .before .before .next-byte .ensures .0) (c .before .before .before .b .given .1)))
+
+loop-again : tie.Need-loop-again Inv-loop μ-loop
+loop-again c =
+    rw (← c .before .before .before .before .before .before .loop .inv, byte-left (now (c .before .before .before .before .before .before .before .before .args .content)) (c .before .before .before .before .before .before .loop .at) (c .before .before .before .before .before .next-byte .ensures .0) (c .before .before .before .b .given .1))
+    (sym (fraction-on (c .before .before .before .before .before .before .loop .last) (c .before .before .before .b .given .0 .0) _ (sym (c .before .is-digit .ensures) ∙ not-false _ (c .if1 .left))))
+
+pub fraction-ends-spec : {M : Type 1} → statement M
+fraction-ends-spec =
+    tie.close
+    (tie.spec
+    Inv-loop
+    μ-loop
+    loop-holds
+    next-byte-requires
+    enum-told
+    returns
+    enum-known-b
+    is-digit-requires
+    closes-requires
+    returns-2
+    loop-less
+    loop-again)

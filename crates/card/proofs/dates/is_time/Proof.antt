@@ -1,0 +1,99 @@
+-- `card::dates::is_time` meets its contract: nineteen bytes by their shape, and then the rest. The measure is the bytes to come of the nineteen.
+-- Assumes nothing.
+use mathlib.Core.Path.{refl, sym, _∙_}
+use Prim.Native.Nat.{_-_}
+use borrow.Author.Needs.{needs}
+use denote.Ref.{now}
+use borrow.Author.Tests.{not-true, not-false}
+use Rattle.text.specs.Strings.{conts, decode}
+use Rattle.json.specs.Cursors.{rest}
+use Rattle.card.proofs.Cursors.{byte-left, none-left}
+use Rattle.card.proofs.Times.{Begun, begun, begun-over, begun-other, begun-on, begun-done}
+use Rattle.card.proofs.dates.is_time.Statement.{statement}
+use Rattle.card.proofs.dates.is_time.Tie as tie
+
+abbrev Inv-loop : tie.InvT-loop
+Inv-loop content head₀ at₀ i₀ head at i = Begun (decode content) head (rest content at) i
+
+abbrev μ-loop : tie.MeasureT-loop
+μ-loop content head₀ at₀ i₀ head at i = 19 - i
+
+start-requires : tie.Need-start-requires Inv-loop μ-loop
+start-requires c κs = search needs
+
+loop-holds : tie.Need-loop-holds Inv-loop μ-loop
+unfolding conts
+loop-holds c = rw (c .start .ensures) (begun _ _ refl)
+
+next-byte-requires : tie.Need-next-byte-requires Inv-loop μ-loop
+next-byte-requires c κs = search needs
+
+enum-known-b : tie.Need-enum-known-b Inv-loop μ-loop
+enum-known-b c = search needs
+
+enum-told : tie.Need-enum-told Inv-loop μ-loop
+enum-told c = search needs
+
+returns : tie.Need-returns Inv-loop μ-loop
+returns c = sym (begun-over (c .before .before .before .before .loop .inv) (c .before .before .before .loop-test .taken) (none-left (now (c .before .before .before .before .before .before .before .args .content)) (c .before .before .before .before .loop .at) (c .before .before .next-byte .ensures .0) (c .enum-told .given .1)))
+
+array-read-suits : tie.Need-array-read-suits Inv-loop μ-loop
+array-read-suits c = search needs
+
+suits-requires : tie.Need-suits-requires Inv-loop μ-loop
+suits-requires c κs = search needs
+
+returns-2 : tie.Need-returns-2 Inv-loop μ-loop
+returns-2 c = sym (begun-other (c .before .before .before .before .before .before .before .loop .inv) (c .before .before .before .before .before .before .loop-test .taken) (byte-left (now (c .before .before .before .before .before .before .before .before .before .before .args .content)) (c .before .before .before .before .before .before .before .loop .at) (c .before .before .before .before .before .next-byte .ensures .0) (c .before .before .before .b .given .1)) (sym (c .before .suits .ensures) ∙ not-true _ (c .if1 .taken)))
+
+array-write-head : tie.Need-array-write-head Inv-loop μ-loop
+array-write-head c = search needs
+
+add-i : tie.Need-add-i Inv-loop μ-loop
+add-i c = search needs
+
+loop-less : tie.Need-loop-less Inv-loop μ-loop
+loop-less c = search needs
+
+loop-again : tie.Need-loop-again Inv-loop μ-loop
+loop-again c = begun-on (c .before .before .before .before .before .before .before .loop .inv) (c .before .before .before .before .before .before .loop-test .taken) (byte-left (now (c .before .before .before .before .before .before .before .before .before .before .args .content)) (c .before .before .before .before .before .before .before .loop .at) (c .before .before .before .before .before .next-byte .ensures .0) (c .before .before .before .b .given .1)) (sym (c .before .suits .ensures) ∙ not-false _ (c .if1 .left))
+
+slice-aggregate-in-range : tie.Need-slice-aggregate-in-range Inv-loop μ-loop
+slice-aggregate-in-range c = sym (c .before .before .loop .inv .full)
+
+in-range-requires : tie.Need-in-range-requires Inv-loop μ-loop
+in-range-requires c κs = search needs
+
+returns-3 : tie.Need-returns-3 Inv-loop μ-loop
+returns-3 c = sym (begun-done (c .before .before .before .before .loop .inv) (c .before .before .before .loop-test .left) ∙ rw (← c .before .in-range .ensures, not-true (c .before .in-range .result) (c .if2 .taken)))
+
+time-ends-requires : tie.Need-time-ends-requires Inv-loop μ-loop
+time-ends-requires c κs = search needs
+
+returns-4 : tie.Need-returns-4 Inv-loop μ-loop
+returns-4 c = c .time-ends .ensures ∙ sym (begun-done (c .before .before .before .before .before .loop .inv) (c .before .before .before .before .loop-test .left) ∙ rw (← c .before .before .in-range .ensures, not-false (c .before .before .in-range .result) (c .before .if2 .left)))
+
+pub is-time-spec : {M : Type 1} → statement M
+is-time-spec =
+    tie.close
+    (tie.spec
+    Inv-loop
+    μ-loop
+    start-requires
+    loop-holds
+    next-byte-requires
+    enum-known-b
+    enum-told
+    returns
+    array-read-suits
+    suits-requires
+    returns-2
+    array-write-head
+    add-i
+    loop-less
+    loop-again
+    slice-aggregate-in-range
+    in-range-requires
+    returns-3
+    time-ends-requires
+    returns-4)

@@ -1,0 +1,63 @@
+-- `card::dates::time_ends` meets its contract: what the cursor says after the first byte decides. Assumes nothing.
+use mathlib.Core.Path.{sym, _∙_}
+use borrow.Author.Needs.{needs}
+use denote.Ref.{now}
+use Rattle.contact.specs.Dates.{ends}
+use Rattle.card.proofs.Cursors.{byte-left, none-left}
+use Rattle.card.proofs.Times.{ends-fraction, ends-other, ends-here, ends-later}
+use Rattle.card.proofs.dates.time_ends.Statement.{statement}
+use Rattle.card.proofs.dates.time_ends.Tie as tie
+
+next-byte-requires : tie.Need-next-byte-requires
+next-byte-requires c κs = search needs
+
+enum-known-b : tie.Need-enum-known-b
+enum-known-b c = search needs
+
+enum-told : tie.Need-enum-told
+enum-told c = search needs
+
+returns : tie.Need-returns
+unfolding ends
+returns c = rw (none-left (now (c .before .before .before .before .args .content)) (c .before .before .before .before .args .from) (c .before .before .next-byte .ensures .0) (c .enum-told .given .1))
+
+fraction-ends-requires : tie.Need-fraction-ends-requires
+fraction-ends-requires c κs = search needs
+
+returns-2 : tie.Need-returns-2
+returns-2 c = rw (byte-left (now (c .before .before .before .before .before .before .before .args .content)) (c .before .before .before .before .before .before .before .args .from) (c .before .before .before .before .before .next-byte .ensures .0) (c .before .before .before .b .given .1)) (c .fraction-ends .ensures ∙ sym (ends-fraction _ _ (c .before .if1 .taken)))
+
+returns-3 : tie.Need-returns-3
+returns-3 c = rw (byte-left (now (c .before .before .before .before .before .before .before .args .content)) (c .before .before .before .before .before .before .before .args .from) (c .before .before .before .before .before .next-byte .ensures .0) (c .before .before .before .b .given .1)) (sym (ends-other _ _ (c .before .if1 .left) (c .if2 .taken)))
+
+next-byte-requires-2 : tie.Need-next-byte-requires-2
+next-byte-requires-2 c κs = search needs
+
+enum-told-2 : tie.Need-enum-told-2
+enum-told-2 c = search needs
+
+enum-told-3 : tie.Need-enum-told-3
+enum-told-3 c = search needs
+
+returns-4 : tie.Need-returns-4
+returns-4 c = rw (byte-left (now (c .before .before .before .before .before .before .before .before .before .before .args .content)) (c .before .before .before .before .before .before .before .before .before .before .args .from) (c .before .before .before .before .before .before .before .before .next-byte .ensures .0) (c .before .before .before .before .before .before .b .given .1)) (sym (ends-here _ _ (c .before .before .before .if2 .left) (none-left (now (c .before .before .before .before .before .before .before .before .before .before .args .content)) _ (c .before .before .next-byte2 .ensures .0) (c .enum-told2 .given .1))))
+
+returns-5 : tie.Need-returns-5
+returns-5 c = rw (byte-left (now (c .before .before .before .before .before .before .before .before .before .before .args .content)) (c .before .before .before .before .before .before .before .before .before .before .args .from) (c .before .before .before .before .before .before .before .before .next-byte .ensures .0) (c .before .before .before .before .before .before .b .given .1)) (sym (ends-later _ _ (c .before .before .before .if2 .left) (byte-left (now (c .before .before .before .before .before .before .before .before .before .before .args .content)) _ (c .before .before .next-byte2 .ensures .0) (c .enum-told3 .given .1))))
+
+pub time-ends-spec : {M : Type 1} → statement M
+time-ends-spec =
+    tie.close
+    (tie.spec
+    next-byte-requires
+    enum-known-b
+    enum-told
+    returns
+    fraction-ends-requires
+    returns-2
+    returns-3
+    next-byte-requires-2
+    enum-told-2
+    enum-told-3
+    returns-4
+    returns-5)

@@ -1,0 +1,44 @@
+-- `card::rows::find_kind` meets its contract. Assumes nothing.
+use mathlib.Core.Path.{refl}
+use borrow.Author.Needs.{needs}
+use denote.Ref.{now}
+use borrow.Author.Tests.{eq-eqb, ne-eqb}
+use mathlib.Core.Option.{Option}
+use Rattle.text.specs.Doc.{Property}
+use Rattle.card.specs.declared.rows.Found.the-variants.{At, Nothing}
+use Rattle.card.specs.Rows.{Finds, ofKind}
+use Rattle.card.proofs.ValueLaws.{seekIn, value-kind, by-found, by-nothing}
+use Rattle.card.proofs.rows.find_kind.Statement.{statement}
+use Rattle.card.proofs.rows.find_kind.Tie as tie
+
+find-requires : tie.Need-find-requires
+find-requires c κs = search needs
+
+enum-known-k : tie.Need-enum-known-k
+enum-known-k c = search needs
+
+enum-told : tie.Need-enum-told
+enum-told c = search needs
+
+returns : tie.Need-returns
+returns c = λ f s. by-nothing (now (c .before .before .before .before .before .before .args .text)) (now (c .before .before .before .before .before .before .args .table)) (seekIn (now (c .before .before .before .before .before .before .args .text)) (now (c .before .before .before .before .before .before .args .name)) f) (c .before .before .find .ensures f s) (λ (o : Option Property). Finds (now (c .before .before .before .before .before .before .args .text)) (now (c .before .before .before .before .before .before .args .table)) Nothing (ofKind (c .before .before .before .before .before .before .args .wanted) o)) (c .enum-told .given .1) tt
+
+kind-requires : tie.Need-kind-requires
+kind-requires c κs = search needs
+
+returns-2 : tie.Need-returns-2
+returns-2 c =
+    λ f s.
+    by-found (now (c .before .before .before .before .before .before .before .before .before .args .text)) (now (c .before .before .before .before .before .before .before .before .before .args .table)) (seekIn (now (c .before .before .before .before .before .before .before .before .before .args .text)) (now (c .before .before .before .before .before .before .before .before .before .args .name)) f) (c .before .before .before .before .before .find .ensures f s) (λ (o : Option Property). Finds (now (c .before .before .before .before .before .before .before .before .before .args .text)) (now (c .before .before .before .before .before .before .before .before .before .args .table)) (At (c .before .before .before .k .given .0 .0)) (ofKind (c .before .before .before .before .before .before .before .before .before .args .wanted) o)) (c .before .before .before .k .given .1)
+    (λ p g v e. rw (e, ← value-kind (now (c .before .before .before .before .before .before .before .before .before .args .text)) g v, ← c .before .kind .ensures, eq-eqb (c .before .kind .result) (c .before .before .before .before .before .before .before .before .before .args .wanted) (c .if1 .taken)) (g, v, refl))
+
+returns-3 : tie.Need-returns-3
+returns-3 c =
+    λ f s.
+    by-found (now (c .before .before .before .before .before .before .before .before .before .args .text)) (now (c .before .before .before .before .before .before .before .before .before .args .table)) (seekIn (now (c .before .before .before .before .before .before .before .before .before .args .text)) (now (c .before .before .before .before .before .before .before .before .before .args .name)) f) (c .before .before .before .before .before .find .ensures f s) (λ (o : Option Property). Finds (now (c .before .before .before .before .before .before .before .before .before .args .text)) (now (c .before .before .before .before .before .before .before .before .before .args .table)) Nothing (ofKind (c .before .before .before .before .before .before .before .before .before .args .wanted) o)) (c .before .before .before .k .given .1)
+    (λ p g v e. rw (e, ← value-kind (now (c .before .before .before .before .before .before .before .before .before .args .text)) g v, ← c .before .kind .ensures, ne-eqb (c .before .kind .result) (c .before .before .before .before .before .before .before .before .before .args .wanted) (c .if1 .left)) tt)
+
+pub find-kind-spec : {M : Type 1} → statement M
+find-kind-spec =
+    tie.close
+    (tie.spec find-requires enum-known-k enum-told returns kind-requires returns-2 returns-3)

@@ -1,0 +1,28 @@
+-- `card::rows::has` meets its contract. Assumes nothing.
+use mathlib.Core.Path.{_≡_, refl}
+use borrow.Author.Needs.{needs}
+use denote.Ref.{now}
+use mathlib.Core.Bool.{true, false}
+use mathlib.Core.Option.{Option}
+use Rattle.text.specs.Doc.{Property, isThere}
+use Rattle.card.proofs.ValueLaws.{seekIn, by-found, by-nothing}
+use Rattle.card.proofs.rows.has.Statement.{statement}
+use Rattle.card.proofs.rows.has.Tie as tie
+
+find-requires : tie.Need-find-requires
+find-requires c κs = search needs
+
+enum-told : tie.Need-enum-told
+enum-told c = search needs
+
+enum-told-2 : tie.Need-enum-told-2
+enum-told-2 c = search needs
+
+returns : tie.Need-returns
+returns c = λ f s. by-found (now (c .before .before .before .before .before .before .args .text)) (now (c .before .before .before .before .before .before .args .table)) (seekIn (now (c .before .before .before .before .before .before .args .text)) (now (c .before .before .before .before .before .before .args .name)) f) (c .before .before .find .ensures f s) (λ (o : Option Property). true ≡ isThere o) (c .enum-told .given .1) (λ p g v e. refl)
+
+returns-2 : tie.Need-returns-2
+returns-2 c = λ f s. by-nothing (now (c .before .before .before .before .before .before .args .text)) (now (c .before .before .before .before .before .before .args .table)) (seekIn (now (c .before .before .before .before .before .before .args .text)) (now (c .before .before .before .before .before .before .args .name)) f) (c .before .before .find .ensures f s) (λ (o : Option Property). false ≡ isThere o) (c .enum-told2 .given .1) refl
+
+pub has-spec : {M : Type 1} → statement M
+has-spec = tie.close (tie.spec find-requires enum-told enum-told-2 returns returns-2)

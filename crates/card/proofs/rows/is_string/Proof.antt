@@ -1,0 +1,52 @@
+-- `card::rows::is_string` meets its contract, by the words of the row. Assumes nothing.
+use mathlib.Core.Path.{_≡_}
+use native.Mathlib.Omega.{arith}
+use borrow.Author.Needs.{needs}
+use denote.Ref.{now}
+use borrow.Author.Tests.{eq-eqb, ne-eqb}
+use Rattle.contact.specs.Rules.{isString}
+use Rattle.card.proofs.ValueLaws.{value-kind, value-token}
+use Rattle.card.proofs.rows.is_string.Statement.{statement}
+use Rattle.card.proofs.rows.is_string.Tie as tie
+
+kind-requires : tie.Need-kind-requires
+kind-requires c κs = search needs
+
+returns : tie.Need-returns
+unfolding isString
+returns c = λ f v. rw (← value-kind (now (c .before .before .before .before .before .args .text)) f v, ← c .before .kind .ensures, ne-eqb (c .before .kind .result) 5 (c .if1 .taken))
+
+value-start-requires : tie.Need-value-start-requires
+value-start-requires c κs = search needs
+
+value-end-requires : tie.Need-value-end-requires
+value-end-requires c κs = search needs
+
+is-content-requires : tie.Need-is-content-requires
+is-content-requires c κs = search needs
+
+returns-2 : tie.Need-returns-2
+unfolding isString
+returns-2 c =
+    λ f v.
+    let five : c .before .before .before .before .kind .result ≡ 5 = c .before .before .before .if1 .left in
+    rw (
+      ← value-kind (now (c .before .before .before .before .before .before .before .before .args .text)) f v,
+      ← c .before .before .before .before .kind .ensures,
+      eq-eqb (c .before .before .before .before .kind .result) 5 five,
+      value-token (now (c .before .before .before .before .before .before .before .before .args .text)) f v (omega (arith, c .before .before .before .before .kind .ensures)),
+      ← c .before .before .value-start .ensures,
+      ← c .before .value-end .ensures,
+    )
+    (c .is-content .ensures)
+
+pub is-string-spec : {M : Type 1} → statement M
+is-string-spec =
+    tie.close
+    (tie.spec
+    kind-requires
+    returns
+    value-start-requires
+    value-end-requires
+    is-content-requires
+    returns-2)

@@ -1,0 +1,53 @@
+-- `card::rules::is_separator` meets its contract, by the rows of the entry. Assumes nothing.
+use native.Mathlib.Omega.{arith}
+use borrow.Author.Needs.{needs}
+use denote.Ref.{now}
+use borrow.Author.Tests.{eq-eqb, ne-eqb}
+use mathlib.Core.List.{[]}
+use Rattle.text.specs.Firsts.{insideAt}
+use Rattle.contact.specs.Rules.{isSeparator}
+use Rattle.card.proofs.ValueLaws.{value-kind, value-members, value-below, value-room}
+use Rattle.card.proofs.rules.is_separator.Statement.{statement}
+use Rattle.card.proofs.rules.is_separator.Tie as tie
+
+kind-requires : tie.Need-kind-requires
+kind-requires c κs = search needs
+
+returns : tie.Need-returns
+unfolding isSeparator
+returns c = λ f v. rw (← value-kind (now (c .before .before .before .before .args .text)) f v, ← c .before .kind .ensures, ne-eqb (c .before .kind .result) 7 (c .if1 .taken))
+
+next-row-requires : tie.Need-next-row-requires
+next-row-requires c κs = c .before .before .before .before .pre
+
+add-has-string : tie.Need-add-has-string
+add-has-string c = omega (arith, value-room [] (c .before .before .before .before .before .pre .0) (c .before .before .before .before .before .pre .1))
+
+slice-aggregate-has-string : tie.Need-slice-aggregate-has-string
+slice-aggregate-has-string c = search needs
+
+slice-aggregate-has-string-2 : tie.Need-slice-aggregate-has-string-2
+slice-aggregate-has-string-2 c = search needs
+
+has-string-requires : tie.Need-has-string-requires
+has-string-requires c κs = (insideAt (c .before .before .before .before .before .before .before .pre .0), rw (c .before .before .next-row .ensures) (value-members (now (c .before .before .before .before .before .before .before .args .text)) (c .before .before .before .before .before .before .before .pre .0) (c .before .before .before .before .before .before .before .pre .1)))
+
+returns-2 : tie.Need-returns-2
+unfolding isSeparator
+returns-2 c =
+    λ f v.
+    rw (← value-kind (now (c .before .before .before .before .before .before .before .before .args .text)) f v, ← c .before .before .before .before .before .kind .ensures, eq-eqb (c .before .before .before .before .before .kind .result) 7 (c .before .before .before .before .if1 .left), value-below (now (c .before .before .before .before .before .before .before .before .args .text)) f)
+    (c .has-string .ensures (insideAt f) (rw (c .before .before .before .next-row .ensures) (value-members (now (c .before .before .before .before .before .before .before .before .args .text)) f v)))
+
+pub is-separator-spec : {M : Type 1} → statement M
+is-separator-spec =
+    tie.close
+    (tie.spec
+    kind-requires
+    returns
+    next-row-requires
+    add-has-string
+    slice-aggregate-has-string
+    slice-aggregate-has-string-2
+    has-string-requires
+    returns-2)

@@ -1,0 +1,61 @@
+-- `card::rules::tally_of` meets its contract: a walk along the entries. The measure is the rows left. Assumes nothing.
+use mathlib.Core.Path.{_≡_, sym}
+use Prim.Native.Nat.{_-_}
+use native.Mathlib.Omega.{arith}
+use borrow.Author.Needs.{needs}
+use denote.Ref.{now}
+use Rattle.card.specs.Marks.{fresh}
+use Rattle.card.specs.declared.rules.Marks.{Marks}
+use Rattle.card.proofs.Along.{Along, along, along-here, along-on, along-end}
+use Rattle.card.proofs.Separators.{tallyIn, tally-on, tally-end}
+use Rattle.card.proofs.rules.tally_of.Statement.{statement}
+use Rattle.card.proofs.rules.tally_of.Tie as tie
+
+abbrev Inv-loop : tie.InvT-loop
+Inv-loop text table from end m₀ at₀ m at = Along table from end (tallyIn text fresh) at (tallyIn text m)
+
+abbrev μ-loop : tie.MeasureT-loop
+μ-loop text table from end m₀ at₀ m at = end - at
+
+loop-holds : tie.Need-loop-holds Inv-loop μ-loop
+loop-holds c = along _ _ _ _
+
+is-separator-requires : tie.Need-is-separator-requires Inv-loop μ-loop
+is-separator-requires c κs = let (ws, v, le) = along-here (now (c .before .before .before .before .args .table)) (c .before .before .before .before .args .from) (c .before .before .before .before .args .end) (tallyIn (now (c .before .before .before .before .args .text)) fresh) (c .before .loop .at) (tallyIn (now (c .before .before .before .before .args .text)) (c .before .loop .m)) (c .before .loop .inv) (c .before .before .before .before .pre .0) (c .before .before .before .before .pre .1) (c .loop-test .taken) in (ws, v)
+
+marked-requires : tie.Need-marked-requires Inv-loop μ-loop
+marked-requires c κs = search needs
+
+next-row-requires : tie.Need-next-row-requires Inv-loop μ-loop
+next-row-requires c κs = let (ws, v, le) = along-here (now (c .before .before .before .before .before .before .args .table)) (c .before .before .before .before .before .before .args .from) (c .before .before .before .before .before .before .args .end) (tallyIn (now (c .before .before .before .before .before .before .args .text)) fresh) (c .before .before .before .loop .at) (tallyIn (now (c .before .before .before .before .before .before .args .text)) (c .before .before .before .loop .m)) (c .before .before .before .loop .inv) (c .before .before .before .before .before .before .pre .0) (c .before .before .before .before .before .before .pre .1) (c .before .before .loop-test .taken) in (ws, v)
+
+loop-less : tie.Need-loop-less Inv-loop μ-loop
+loop-less c =
+    let (ws, v, le) = along-here (now (c .before .before .before .before .before .before .before .args .table)) (c .before .before .before .before .before .before .before .args .from) (c .before .before .before .before .before .before .before .args .end) (tallyIn (now (c .before .before .before .before .before .before .before .args .text)) fresh) (c .before .before .before .before .loop .at) (tallyIn (now (c .before .before .before .before .before .before .before .args .text)) (c .before .before .before .before .loop .m)) (c .before .before .before .before .loop .inv) (c .before .before .before .before .before .before .before .pre .0) (c .before .before .before .before .before .before .before .pre .1) (c .before .before .before .loop-test .taken) in
+    omega (arith, c .next-row .ensures, c .before .before .before .loop-test .taken)
+
+loop-again : tie.Need-loop-again Inv-loop μ-loop
+loop-again c =
+    along-on (now (c .before .before .before .before .before .before .before .args .table)) (c .before .before .before .before .before .before .before .args .from) (c .before .before .before .before .before .before .before .args .end) (tallyIn (now (c .before .before .before .before .before .before .before .args .text)) fresh) (c .before .before .before .before .loop .at) (tallyIn (now (c .before .before .before .before .before .before .before .args .text)) (c .before .before .before .before .loop .m)) (c .before .before .before .before .loop .inv) (c .before .before .before .loop-test .taken) (tallyIn (now (c .before .before .before .before .before .before .before .args .text)) (c .before .marked .result))
+    (λ ws v. tally-on (now (c .before .before .before .before .before .before .before .args .text)) (c .before .before .before .before .loop .m) (c .before .marked .result) (c .before .before .is-separator .result) (c .before .marked .ensures) ws v (c .before .before .is-separator .ensures ws v))
+    (c .next-row .result) (c .next-row .ensures)
+
+returns : tie.Need-returns Inv-loop μ-loop
+returns c =
+    along-end (now (c .before .before .before .before .args .table)) (c .before .before .before .before .args .from) (c .before .before .before .before .args .end) (tallyIn (now (c .before .before .before .before .args .text)) fresh) (c .before .loop .at) (tallyIn (now (c .before .before .before .before .args .text)) (c .before .loop .m)) (c .before .loop .inv) (c .loop-test .left)
+    (λ (r : Marks). c .before .loop .m ≡ r)
+    (sym (tally-end (now (c .before .before .before .before .args .text)) (c .before .loop .m)))
+
+pub tally-of-spec : {M : Type 1} → statement M
+tally-of-spec =
+    tie.close
+    (tie.spec
+    Inv-loop
+    μ-loop
+    loop-holds
+    is-separator-requires
+    marked-requires
+    next-row-requires
+    loop-less
+    loop-again
+    returns)

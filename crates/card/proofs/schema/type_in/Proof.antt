@@ -1,0 +1,63 @@
+-- `card::schema::type_in` meets its contract: a search through the entries. The measure is the entries left. Assumes nothing.
+use mathlib.Core.Path.{_≡_, sym, _∙_}
+use Prim.Native.Nat.{_≤_, _-_}
+use native.Mathlib.Omega.{arith}
+use borrow.Author.Needs.{needs}
+use denote.Ref.{now}
+use lib.ListN.{drop}
+use Rattle.text.specs.Strings.{nameOf}
+use Rattle.contact.specs.Schema.{properties, typeIn}
+use Rattle.card.specs.Types.{objectType}
+use Rattle.card.specs.Table.{entries, count}
+use Rattle.card.proofs.Search.{typeAmong, type-all, type-hit, type-on, type-end}
+use Rattle.card.proofs.schema.type_in.Statement.{statement}
+use Rattle.card.proofs.schema.type_in.Tie as tie
+
+abbrev Inv-loop : tie.InvT-loop
+Inv-loop text o s e i₀ i = (typeAmong (objectType o) (nameOf text s e) (drop i entries) ≡ typeIn (properties (objectType o)) (nameOf text s e)) × (i ≤ count)
+
+abbrev μ-loop : tie.MeasureT-loop
+μ-loop text o s e i₀ i = count - i
+
+loop-holds : tie.Need-loop-holds Inv-loop μ-loop
+loop-holds c = (type-all _ _, omega arith)
+
+is-property-requires : tie.Need-is-property-requires Inv-loop μ-loop
+is-property-requires c κs = search needs
+
+code-at-requires : tie.Need-code-at-requires Inv-loop μ-loop
+code-at-requires c κs = search needs
+
+type-of-requires : tie.Need-type-of-requires Inv-loop μ-loop
+type-of-requires c κs = search needs
+
+returns : tie.Need-returns Inv-loop μ-loop
+returns c = c .type-of .ensures ∙ c .before .code-at .ensures .type ∙ sym (type-hit (objectType (c .before .before .before .before .before .before .before .args .o)) (nameOf (now (c .before .before .before .before .before .before .before .args .text)) (c .before .before .before .before .before .before .before .args .s) (c .before .before .before .before .before .before .before .args .e)) (c .before .before .before .before .before .loop .i) (c .before .before .before .before .loop-test .taken) (sym (c .before .before .before .is-property .ensures) ∙ c .before .before .if1 .taken)) ∙ c .before .before .before .before .before .loop .inv .0
+
+add-i : tie.Need-add-i Inv-loop μ-loop
+add-i c = search needs
+
+loop-less : tie.Need-loop-less Inv-loop μ-loop
+loop-less c = search needs
+
+loop-again : tie.Need-loop-again Inv-loop μ-loop
+loop-again c = (sym (type-on (objectType (c .before .before .before .before .before .args .o)) (nameOf (now (c .before .before .before .before .before .args .text)) (c .before .before .before .before .before .args .s) (c .before .before .before .before .before .args .e)) (c .before .before .before .loop .i) (c .before .before .loop-test .taken) (sym (c .before .is-property .ensures) ∙ c .if1 .left)) ∙ c .before .before .before .loop .inv .0, omega arith)
+
+returns-2 : tie.Need-returns-2 Inv-loop μ-loop
+returns-2 c = sym (type-end (objectType (c .before .before .before .args .o)) (nameOf (now (c .before .before .before .args .text)) (c .before .before .before .args .s) (c .before .before .before .args .e)) (c .before .loop .i) (c .loop-test .left)) ∙ c .before .loop .inv .0
+
+pub type-in-spec : {M : Type 1} → statement M
+type-in-spec =
+    tie.close
+    (tie.spec
+    Inv-loop
+    μ-loop
+    loop-holds
+    is-property-requires
+    code-at-requires
+    type-of-requires
+    returns
+    add-i
+    loop-less
+    loop-again
+    returns-2)

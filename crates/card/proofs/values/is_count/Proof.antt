@@ -1,0 +1,100 @@
+-- `card::values::is_count` meets its contract: digit by digit, after digits of a value that is not too large. The measure is the digits left.
+-- Assumes nothing.
+use mathlib.Core.Path.{_≡_, sym, ap, _∙_}
+use Prim.Native.Nat.{_≤_, _-_}
+use native.Mathlib.Omega.{arith}
+use borrow.Author.Needs.{needs}
+use denote.Ref.{now}
+use lib.ListN.{length, getD, drop, drop-of-length-le}
+use borrow.Author.Tests.{not-true, not-false}
+use Rattle.laws.proofs.Picks.{picks}
+use Rattle.contact.specs.Values.{isCount}
+use Rattle.card.proofs.Counts.{digit-range, digits-from, countAfter, count-start, count-end, count-on, count-other, count-over}
+use Rattle.card.proofs.values.is_count.Statement.{statement}
+use Rattle.card.proofs.values.is_count.Tie as tie
+
+abbrev Inv-loop : tie.InvT-loop
+Inv-loop token low high value₀ i₀ value i = (countAfter low high value (drop i token) ≡ isCount low high token) × (value ≤ 9007199254740991) × (i ≤ length token)
+
+abbrev μ-loop : tie.MeasureT-loop
+μ-loop token low high value₀ i₀ value i = length token - i
+
+loop-holds : tie.Need-loop-holds Inv-loop μ-loop
+loop-holds c = (sym (count-start _ _ _), omega arith, omega arith)
+
+shared-slice-read-b : tie.Need-shared-slice-read-b Inv-loop μ-loop
+shared-slice-read-b c = search needs
+
+is-digit-requires : tie.Need-is-digit-requires Inv-loop μ-loop
+is-digit-requires c κs = search needs
+
+returns : tie.Need-returns Inv-loop μ-loop
+returns c =
+    let t = now (c .before .before .before .before .before .before .args .token) in
+    let i = c .before .before .before .before .loop .i in
+    sym (sym (c .before .before .before .before .loop .inv .0) ∙ ap (countAfter (c .before .before .before .before .before .before .args .low) (c .before .before .before .before .before .before .args .high) (c .before .before .before .before .loop .value)) (digits-from t i (c .before .before .before .loop-test .taken))
+    ∙ count-other _ _ _ _ _ (sym (c .before .is-digit .ensures) ∙ not-true _ (c .if1 .taken)))
+
+mul-value : tie.Need-mul-value Inv-loop μ-loop
+mul-value c = search needs
+
+sub-value : tie.Need-sub-value Inv-loop μ-loop
+sub-value c = omega (arith, digit-range (getD (now (c .before .before .before .before .before .before .args .token)) (c .before .before .before .before .loop .i) 0) (sym (c .before .is-digit .ensures) ∙ not-false _ (c .if1 .left)))
+
+cast-value : tie.Need-cast-value Inv-loop μ-loop
+cast-value c = omega (arith, digit-range (getD (now (c .before .before .before .before .before .before .args .token)) (c .before .before .before .before .loop .i) 0) (sym (c .before .is-digit .ensures) ∙ not-false _ (c .if1 .left)))
+
+add-value : tie.Need-add-value Inv-loop μ-loop
+add-value c = omega (arith, digit-range (getD (now (c .before .before .before .before .before .before .args .token)) (c .before .before .before .before .loop .i) 0) (sym (c .before .is-digit .ensures) ∙ not-false _ (c .if1 .left)))
+
+returns-2 : tie.Need-returns-2 Inv-loop μ-loop
+returns-2 c =
+    let t = now (c .before .before .before .before .before .before .before .args .token) in
+    let i = c .before .before .before .before .before .loop .i in
+    sym (sym (c .before .before .before .before .before .loop .inv .0) ∙ ap (countAfter (c .before .before .before .before .before .before .before .args .low) (c .before .before .before .before .before .before .before .args .high) (c .before .before .before .before .before .loop .value)) (digits-from t i (c .before .before .before .before .loop-test .taken))
+    ∙ count-on _ _ _ _ _ (sym (c .before .before .is-digit .ensures) ∙ not-false _ (c .before .if1 .left))
+    ∙ count-over _ _ _ _ (c .if2 .taken))
+
+add-i : tie.Need-add-i Inv-loop μ-loop
+add-i c = search needs
+
+loop-less : tie.Need-loop-less Inv-loop μ-loop
+loop-less c = search needs
+
+loop-again : tie.Need-loop-again Inv-loop μ-loop
+loop-again c =
+    let t = now (c .before .before .before .before .before .before .before .args .token) in
+    let i = c .before .before .before .before .before .loop .i in (
+      sym (count-on _ _ _ _ _ (sym (c .before .before .is-digit .ensures) ∙ not-false _ (c .before .if1 .left)))
+          ∙ ap (countAfter (c .before .before .before .before .before .before .before .args .low) (c .before .before .before .before .before .before .before .args .high) (c .before .before .before .before .before .loop .value)) (sym (digits-from t i (c .before .before .before .before .loop-test .taken)))
+          ∙ c .before .before .before .before .before .loop .inv .0,
+      omega arith,
+      omega arith,
+    )
+
+returns-3 : tie.Need-returns-3 Inv-loop μ-loop
+returns-3 c = sym (sym (c .before .before .loop .inv .0) ∙ ap (countAfter (c .before .before .before .before .args .low) (c .before .before .before .before .args .high) (c .before .before .loop .value)) (drop-of-length-le (now (c .before .before .before .before .args .token)) (c .before .loop-test .left)) ∙ count-end _ _ _ (c .before .before .loop .inv .1) ∙ search picks)
+
+returns-4 : tie.Need-returns-4 Inv-loop μ-loop
+returns-4 c = sym (sym (c .before .before .loop .inv .0) ∙ ap (countAfter (c .before .before .before .before .args .low) (c .before .before .before .before .args .high) (c .before .before .loop .value)) (drop-of-length-le (now (c .before .before .before .before .args .token)) (c .before .loop-test .left)) ∙ count-end _ _ _ (c .before .before .loop .inv .1) ∙ search picks)
+
+pub is-count-spec : {M : Type 1} → statement M
+is-count-spec =
+    tie.close
+    (tie.spec
+    Inv-loop
+    μ-loop
+    loop-holds
+    shared-slice-read-b
+    is-digit-requires
+    returns
+    mul-value
+    sub-value
+    cast-value
+    add-value
+    returns-2
+    add-i
+    loop-less
+    loop-again
+    returns-3
+    returns-4)

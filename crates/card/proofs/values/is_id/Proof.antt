@@ -1,0 +1,82 @@
+-- `card::values::is_id` meets its contract: byte by byte, after so many that passed. The measure is the number of bytes that the cursor has left.
+-- Assumes nothing.
+use mathlib.Core.Path.{_≡_, sym, ap, _∙_}
+use Prim.Native.Nat.{_≤_}
+use native.Mathlib.Omega.{arith}
+use borrow.Author.Needs.{needs}
+use denote.Ref.{now}
+use lib.ListN.{length}
+use borrow.Author.Tests.{not-true, not-false}
+use Rattle.text.specs.Strings.{conts, decode}
+use Rattle.json.specs.Cursors.{rest}
+use Rattle.contact.specs.Values.{isId}
+use Rattle.card.proofs.Cursors.{byte-left, none-left}
+use Rattle.card.proofs.Ids.{idAfter, id-start, id-end, id-on, id-other, id-long}
+use Rattle.card.proofs.values.is_id.Statement.{statement}
+use Rattle.card.proofs.values.is_id.Tie as tie
+
+abbrev Inv-loop : tie.InvT-loop
+Inv-loop name at₀ passed₀ at passed = (idAfter passed (rest name at) ≡ isId (decode name)) × (passed ≤ 255)
+
+abbrev μ-loop : tie.MeasureT-loop
+μ-loop name at₀ passed₀ at passed = length (rest name at)
+
+start-requires : tie.Need-start-requires Inv-loop μ-loop
+start-requires c κs = search needs
+
+loop-holds : tie.Need-loop-holds Inv-loop μ-loop
+unfolding conts
+loop-holds c = (rw (c .start .ensures) (sym (id-start _)), omega arith)
+
+next-byte-requires : tie.Need-next-byte-requires Inv-loop μ-loop
+next-byte-requires c κs = search needs
+
+enum-told : tie.Need-enum-told Inv-loop μ-loop
+enum-told c = search needs
+
+returns : tie.Need-returns Inv-loop μ-loop
+returns c = rw (← c .before .before .before .loop .inv .0, none-left (now (c .before .before .before .before .before .before .args .name)) (c .before .before .before .loop .at) (c .before .before .next-byte .ensures .0) (c .enum-told .given .1)) (sym (id-end (c .before .before .before .loop .passed) (c .before .before .before .loop .inv .1)))
+
+enum-known-b : tie.Need-enum-known-b Inv-loop μ-loop
+enum-known-b c = search needs
+
+returns-2 : tie.Need-returns-2 Inv-loop μ-loop
+returns-2 c = rw (← c .before .before .before .before .before .loop .inv .0, byte-left (now (c .before .before .before .before .before .before .before .before .args .name)) (c .before .before .before .before .before .loop .at) (c .before .before .before .before .next-byte .ensures .0) (c .before .before .b .given .1)) (sym (id-long (c .before .before .before .before .before .loop .passed) (c .before .before .b .given .0 .0) _ (c .if1 .taken)))
+
+id-byte-requires : tie.Need-id-byte-requires Inv-loop μ-loop
+id-byte-requires c κs = search needs
+
+returns-3 : tie.Need-returns-3 Inv-loop μ-loop
+returns-3 c = rw (← c .before .before .before .before .before .before .before .loop .inv .0, byte-left (now (c .before .before .before .before .before .before .before .before .before .before .args .name)) (c .before .before .before .before .before .before .before .loop .at) (c .before .before .before .before .before .before .next-byte .ensures .0) (c .before .before .before .before .b .given .1)) (sym (id-other (c .before .before .before .before .before .before .before .loop .passed) (c .before .before .before .before .b .given .0 .0) _ (sym (c .before .id-byte .ensures) ∙ not-true _ (c .if2 .taken))))
+
+add-passed : tie.Need-add-passed Inv-loop μ-loop
+add-passed c = omega arith
+
+loop-less : tie.Need-loop-less Inv-loop μ-loop
+loop-less c = omega (arith, ap length (byte-left (now (c .before .before .before .before .before .before .before .before .before .before .args .name)) (c .before .before .before .before .before .before .before .loop .at) (c .before .before .before .before .before .before .next-byte .ensures .0) (c .before .before .before .before .b .given .1)))
+
+loop-again : tie.Need-loop-again Inv-loop μ-loop
+loop-again c = (
+  rw (← c .before .before .before .before .before .before .before .loop .inv .0, byte-left (now (c .before .before .before .before .before .before .before .before .before .before .args .name)) (c .before .before .before .before .before .before .before .loop .at) (c .before .before .before .before .before .before .next-byte .ensures .0) (c .before .before .before .before .b .given .1))
+      (sym (id-on (c .before .before .before .before .before .before .before .loop .passed) (c .before .before .before .before .b .given .0 .0) _ (sym (c .before .id-byte .ensures) ∙ not-false _ (c .if2 .left)))),
+  omega (arith, c .before .before .if1 .left),
+)
+
+pub is-id-spec : {M : Type 1} → statement M
+is-id-spec =
+    tie.close
+    (tie.spec
+    Inv-loop
+    μ-loop
+    start-requires
+    loop-holds
+    next-byte-requires
+    enum-told
+    returns
+    enum-known-b
+    returns-2
+    id-byte-requires
+    returns-3
+    add-passed
+    loop-less
+    loop-again)

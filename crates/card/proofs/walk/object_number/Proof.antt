@@ -1,0 +1,31 @@
+use Rattle.card.specs.Walk.{objectNumber}
+use Rattle.laws.proofs.Picks.{granted, denied}
+use borrow.Author.Needs.{needs}
+use Rattle.card.proofs.walk.object_number.Statement.{statement}
+use Rattle.card.proofs.walk.object_number.Tie as tie
+
+is-lacking-requires : tie.Need-is-lacking-requires
+is-lacking-requires c κs = search needs
+
+returns : tie.Need-returns
+unfolding objectNumber
+returns c = λ f h. rw (← c .before .is-lacking .ensures f h, c .if1 .taken)
+
+returns-2 : tie.Need-returns-2
+unfolding objectNumber
+returns-2 c = λ f h. rw (← c .before .before .is-lacking .ensures f h, c .before .if1 .left, denied (c .before .before .before .before .before .args .key) (c .if2 .taken))
+
+breaks-requires : tie.Need-breaks-requires
+breaks-requires c κs = search needs
+
+returns-3 : tie.Need-returns-3
+unfolding objectNumber
+returns-3 c = λ f h. rw (← c .before .before .before .before .is-lacking .ensures f h, c .before .before .before .if1 .left, granted (c .before .before .before .before .before .before .before .args .key) (c .before .before .if2 .left), ← c .before .breaks .ensures f h, c .if3 .taken)
+
+returns-4 : tie.Need-returns-4
+unfolding objectNumber
+returns-4 c = λ f h. rw (← c .before .before .before .before .is-lacking .ensures f h, c .before .before .before .if1 .left, granted (c .before .before .before .before .before .before .before .args .key) (c .before .before .if2 .left), ← c .before .breaks .ensures f h, c .if3 .left)
+
+pub object-number-spec : {M : Type 1} → statement M
+object-number-spec =
+    tie.close (tie.spec is-lacking-requires returns returns-2 breaks-requires returns-3 returns-4)

@@ -1,0 +1,66 @@
+use mathlib.Core.Path.{_≡_, sym, ap, _∙_}
+use Prim.Native.Nat.{_+_}
+use native.Mathlib.Omega.{arith}
+use denote.Ref.{now}
+use Rattle.text.specs.Firsts.{insideAt}
+use Rattle.text.proofs.Promise.{row-at, inside}
+use Rattle.contact.specs.Schema.{objectOf, fits}
+use Rattle.card.specs.Types.{typeOf, objectType}
+use Rattle.laws.proofs.Picks.{granted, denied}
+use Rattle.card.proofs.WalkLaws.{row-unfit, row-object, row-value}
+use borrow.Author.Needs.{needs}
+use Rattle.card.proofs.walk.row_number.Statement.{statement}
+use Rattle.card.proofs.walk.row_number.Tie as tie
+
+kind-requires : tie.Need-kind-requires
+kind-requires c κs = search needs
+
+kind-fits-requires : tie.Need-kind-fits-requires
+kind-fits-requires c κs = search needs
+
+returns : tie.Need-returns
+returns c = λ f v k. row-unfit (now (c .before .before .before .before .before .args .text)) f (v .some) (typeOf (c .before .before .before .before .before .args .ty)) (c .before .before .before .before .before .args .key) (sym (ap (fits (typeOf (c .before .before .before .before .before .args .ty))) (c .before .before .kind .ensures ∙ row-at f (v .some) (v .stands) .kind)) ∙ sym (c .before .kind-fits .ensures) ∙ denied (c .before .kind-fits .result) (c .if1 .taken))
+
+role-of-requires : tie.Need-role-of-requires
+role-of-requires c κs = search needs
+
+enum-known-o : tie.Need-enum-known-o
+enum-known-o c = search needs
+
+next-row-requires : tie.Need-next-row-requires
+next-row-requires c κs = (c .before .before .before .before .before .before .before .before .before .pre .0, c .before .before .before .before .before .before .before .before .before .pre .1)
+
+add-object-number : tie.Need-add-object-number
+add-object-number c = let (f, v) = c .before .before .before .before .before .before .before .before .before .before .pre in omega (arith, row-at f (v .some) (v .stands) .room)
+
+object-number-requires : tie.Need-object-number-requires
+object-number-requires c κs = let (f, v) = c .before .before .before .before .before .before .before .before .before .before .pre in (insideAt f, (rw (c .next-row .ensures ∙ ap (λ m. c .before .before .before .before .before .before .before .before .before .before .args .row + 1 + m) (row-at f (v .some) (v .stands) .below)) (inside f (v .some) (v .stands))))
+
+enum-told : tie.Need-enum-told
+enum-told c = search needs
+
+value-number-requires : tie.Need-value-number-requires
+value-number-requires c κs = search needs
+
+returns-2 : tie.Need-returns-2
+returns-2 c = λ f v k. let ty : typeOf (c .before .before .before .before .before .before .before .before .before .before .before .args .ty) ≡ objectOf (objectType (c .before .before .before .o .given .0 .0)) = rw (c .before .before .before .o .given .1) at (c .before .before .before .before .before .role-of .ensures) in rw ty (c .object-number .ensures (insideAt f) (rw (c .before .next-row .ensures ∙ ap (λ m. c .before .before .before .before .before .before .before .before .before .before .before .args .row + 1 + m) (row-at f (v .some) (v .stands) .below)) (inside f (v .some) (v .stands))) ∙ row-object (now (c .before .before .before .before .before .before .before .before .before .before .before .args .text)) f (v .some) (objectType (c .before .before .before .o .given .0 .0)) (c .before .before .before .before .before .before .before .before .before .before .before .args .key) (rw ty at (sym (ap (fits (typeOf (c .before .before .before .before .before .before .before .before .before .before .before .args .ty))) (c .before .before .before .before .before .before .before .before .kind .ensures ∙ row-at f (v .some) (v .stands) .kind)) ∙ sym (c .before .before .before .before .before .before .before .kind-fits .ensures) ∙ granted (c .before .before .before .before .before .before .before .kind-fits .result) (c .before .before .before .before .before .before .if1 .left))))
+
+returns-3 : tie.Need-returns-3
+returns-3 c = λ f v k. c .value-number .ensures f v k ∙ row-value (now (c .before .before .before .before .before .before .before .before .before .args .text)) f (v .some) (typeOf (c .before .before .before .before .before .before .before .before .before .args .ty)) (c .before .before .before .before .before .before .before .before .before .args .key) (rw (c .before .enum-told .given .1) at (c .before .before .before .role-of .ensures)) (sym (ap (fits (typeOf (c .before .before .before .before .before .before .before .before .before .args .ty))) (c .before .before .before .before .before .before .kind .ensures ∙ row-at f (v .some) (v .stands) .kind)) ∙ sym (c .before .before .before .before .before .kind-fits .ensures) ∙ granted (c .before .before .before .before .before .kind-fits .result) (c .before .before .before .before .if1 .left))
+
+pub row-number-spec : {M : Type 1} → statement M
+row-number-spec =
+    tie.close
+    (tie.spec
+    kind-requires
+    kind-fits-requires
+    returns
+    role-of-requires
+    enum-known-o
+    next-row-requires
+    add-object-number
+    object-number-requires
+    enum-told
+    value-number-requires
+    returns-2
+    returns-3)

@@ -1,0 +1,30 @@
+-- What a search among the rows of a value's members finds. Assumes nothing: these are definitions.
+use Prim.Native.Nat.{ℕ}
+use mathlib.Core.Path.{_≡_}
+use mathlib.Core.List.{List}
+use mathlib.Core.Bool.{cond}
+use mathlib.Core.Option.{Option, none, some}
+use lib.Dec.{eqb}
+use Rattle.text.specs.Tree.{Forest}
+use Rattle.text.specs.Firsts.{Some}
+use Rattle.text.specs.Standing.{Stands}
+use Rattle.text.specs.Doc.{Property, docOf, kindOf}
+use Rattle.card.specs.declared.rows.Found.{Found}
+use Rattle.card.specs.declared.rows.Found.the-variants.{At, Nothing}
+
+-- a value stands at the row, the first of some
+pub record ValueAt (table : List ℕ) (row : ℕ) (f : Forest) : Type 0 where
+  pub some : Some f
+  pub stands : Stands table row f
+
+-- the answer names the row of the member that is sought, or none
+abbrev pub Finds : (text table : List ℕ) → Found → Option Property → Type 0
+Finds text table (At k) (some p) = (f : Forest) × ValueAt table k f × (p .content ≡ docOf text f)
+Finds text table (At k) none = ⊥
+Finds text table Nothing (some p) = ⊥
+Finds text table Nothing none = Prim.Unit {0}
+
+-- a member of another kind counts as absent
+abbrev pub ofKind : ℕ → Option Property → Option Property
+ofKind kind none = none
+ofKind kind (some p) = cond (eqb (kindOf (p .content)) kind) (some p) none

@@ -1,0 +1,63 @@
+// Judging a text as a card.
+use crate::types::Item;
+use crate::types::Object;
+use crate::types::Ty;
+use crate::walk::Breach;
+use crate::walk::breach_at;
+use contact::CardRefusal;
+use contact::Fault;
+use contact::Verdict;
+use json::read::read;
+use json::rows::value_start;
+use laws::clear::clear_words;
+use text::Reading;
+ghost use mathlib.Core.Path.{_≡_};
+ghost use mathlib.Core.List.{List};
+ghost use lib.ListN.{length};
+ghost use Rattle.text.specs.Limits.{base};
+ghost use Rattle.text.specs.Tree.{Forest};
+ghost use Rattle.contact.specs.Verdict.{faultOf};
+ghost use Rattle.contact.specs.Judging.{Judges};
+ghost use Rattle.card.specs.Judged.{ReadInto, JudgedRows};
+
+// The line of the sheet that a number from 11 to 14 names, at a place.
+fn fault_of(number: usize, place: usize) -> Fault
+    ensures { λ r. ⌜ r ≡ faultOf number place ⌝ }
+{
+    if number == 11 {
+        return Fault::Kind(place);
+    }
+    if number == 12 {
+        return Fault::Missing(place);
+    }
+    if number == 13 {
+        return Fault::Value(place);
+    }
+    Fault::Rule(place)
+}
+
+// The verdict on the n rows of a text that was read; where it fails, the table is cleared.
+fn judge_rows(text: &[u8], table: &mut [u32], n: usize) -> Verdict
+    requires { ⌜ ((f : Forest) × ReadInto (now text) (now table) n f) ⌝ }
+    ensures { λ r. ⌜ ((f : Forest) → ReadInto (now (text .entry)) (now (table .entry)) n f → JudgedRows (now (text .entry)) (now (table .entry)) n f r (now (table .exit))) ⌝ }
+{
+    let card = Ty::One(Item::ObjectOf(Object::Card));
+    match breach_at(text, table, 0, card, true) {
+        Breach::Nothing => Verdict::Passed(n),
+        Breach::At(row, number) => {
+            let place = value_start(table, row);
+            clear_words(table);
+            Verdict::Failed(CardRefusal::Card(fault_of(number, place)))
+        }
+    }
+}
+
+// Judges a text: 0 and its rows in the table, or the first refusal and a table of zeros.
+pub fn judge(text: &[u8], table: &mut [u32]) -> Verdict
+    ensures { λ r. ⌜ Judges base (now (text .entry)) (now (table .entry)) r (now (table .exit)) ⌝ }
+{
+    match read(text, table) {
+        Reading::Refused(r) => Verdict::Failed(CardRefusal::Text(r)),
+        Reading::Rows(n) => judge_rows(text, table, n),
+    }
+}

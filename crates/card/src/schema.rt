@@ -1,0 +1,385 @@
+// The one table of the known properties of a card's types.
+// A new property is a line in NAMES and one in KNOWN, at its type's place; the proofs compute over both and need no change.
+use crate::rows::has;
+use crate::types::Item;
+use crate::types::Keys;
+use crate::types::Object;
+use crate::types::Ty;
+use json::names::name_is;
+use json::names::part_is;
+ghost use mathlib.Core.Path.{_≡_};
+ghost use Prim.Native.Nat.{_*_, _≤_, _<_};
+ghost use lib.ListN.{length, getD, drop};
+ghost use Rattle.laws.specs.Order.{same};
+ghost use Rattle.text.specs.Strings.{decode, nameOf};
+ghost use Rattle.text.specs.Tree.{Forest};
+ghost use Rattle.text.specs.Standing.{StandsTo};
+ghost use Rattle.text.specs.Doc.{membersOf, seek, isThere};
+ghost use Rattle.contact.specs.Schema.{properties, typeIn};
+ghost use Rattle.contact.specs.Judge.{lacking};
+ghost use Rattle.card.specs.Types.{numberOf, objectType, typeName, typeOf, itemType, objectAt, itemAt, typeAt};
+ghost use Rattle.card.specs.Table.{count, nameWidth, wordOf, WordEnd, entries, noEntry, isOwned, isProperty, isMissing, CodeOf};
+
+// ---- the table
+
+// The table says each property in two lines: its name, and a number that says all else. The number is a sum: the object type that has it, as
+// `NAME * HAS`; MUST if it is mandatory; LIST, FREE or IDS for a list or a map of such items; and the item.
+const HAS: u32 = 1024;
+
+const MUST: u32 = 512;
+
+const LIST: u32 = 128;
+
+const FREE: u32 = 256;
+
+const IDS: u32 = 384;
+
+// The items: the value of a property, or each value of a list or a map.
+const STRING: u32 = 1;
+
+const VERSION: u32 = 2;
+
+const FLAG: u32 = 3;
+
+const YES: u32 = 4;
+
+const PREF: u32 = 5;
+
+const TIME: u32 = 6;
+
+const ANY_OBJECT: u32 = 7;
+
+// An object of a type, as `OBJECT + NAME`, and a type's own name, as `NAME_OF + NAME`.
+const OBJECT: u32 = 32;
+
+const NAME_OF: u32 = 64;
+
+// The object types.
+const CARD: u32 = 0;
+
+const NAME: u32 = 1;
+
+const NAME_COMPONENT: u32 = 2;
+
+const ADDRESS: u32 = 3;
+
+const ADDRESS_COMPONENT: u32 = 4;
+
+const EMAIL_ADDRESS: u32 = 5;
+
+const PHONE: u32 = 6;
+
+// The names of the object types, by their numbers.
+const TYPE_NAMES: [u8; 140] = *b"\
+    Card                \
+    Name                \
+    NameComponent       \
+    Address             \
+    AddressComponent    \
+    EmailAddress        \
+    Phone               ";
+
+// How many properties the table has, and the bytes for each name.
+const COUNT: usize = 53;
+
+const WIDTH: usize = 20;
+
+const NAMES: [u8; 1060] = *b"\
+    @type               \
+    version             \
+    uid                 \
+    created             \
+    updated             \
+    kind                \
+    language            \
+    prodId              \
+    members             \
+    name                \
+    emails              \
+    phones              \
+    addresses           \
+    localizations       \
+    @type               \
+    components          \
+    sortAs              \
+    isOrdered           \
+    defaultSeparator    \
+    full                \
+    phoneticScript      \
+    phoneticSystem      \
+    @type               \
+    value               \
+    kind                \
+    phonetic            \
+    @type               \
+    components          \
+    countryCode         \
+    coordinates         \
+    timeZone            \
+    contexts            \
+    pref                \
+    isOrdered           \
+    defaultSeparator    \
+    full                \
+    phoneticScript      \
+    phoneticSystem      \
+    @type               \
+    value               \
+    kind                \
+    phonetic            \
+    @type               \
+    address             \
+    contexts            \
+    pref                \
+    label               \
+    @type               \
+    number              \
+    features            \
+    contexts            \
+    pref                \
+    label               ";
+
+const KNOWN: [u32; COUNT] = [
+    CARD * HAS + MUST + NAME_OF + CARD, // @type
+    CARD * HAS + MUST + VERSION, // version
+    CARD * HAS + MUST + STRING, // uid
+    CARD * HAS + TIME, // created
+    CARD * HAS + TIME, // updated
+    CARD * HAS + STRING, // kind
+    CARD * HAS + STRING, // language
+    CARD * HAS + STRING, // prodId
+    CARD * HAS + FREE + YES, // members
+    CARD * HAS + OBJECT + NAME, // name
+    CARD * HAS + IDS + OBJECT + EMAIL_ADDRESS, // emails
+    CARD * HAS + IDS + OBJECT + PHONE, // phones
+    CARD * HAS + IDS + OBJECT + ADDRESS, // addresses
+    CARD * HAS + FREE + ANY_OBJECT, // localizations
+    NAME * HAS + NAME_OF + NAME, // @type
+    NAME * HAS + LIST + OBJECT + NAME_COMPONENT, // components
+    NAME * HAS + FREE + STRING, // sortAs
+    NAME * HAS + FLAG, // isOrdered
+    NAME * HAS + STRING, // defaultSeparator
+    NAME * HAS + STRING, // full
+    NAME * HAS + STRING, // phoneticScript
+    NAME * HAS + STRING, // phoneticSystem
+    NAME_COMPONENT * HAS + NAME_OF + NAME_COMPONENT, // @type
+    NAME_COMPONENT * HAS + MUST + STRING, // value
+    NAME_COMPONENT * HAS + MUST + STRING, // kind
+    NAME_COMPONENT * HAS + STRING, // phonetic
+    ADDRESS * HAS + NAME_OF + ADDRESS, // @type
+    ADDRESS * HAS + LIST + OBJECT + ADDRESS_COMPONENT, // components
+    ADDRESS * HAS + STRING, // countryCode
+    ADDRESS * HAS + STRING, // coordinates
+    ADDRESS * HAS + STRING, // timeZone
+    ADDRESS * HAS + FREE + YES, // contexts
+    ADDRESS * HAS + PREF, // pref
+    ADDRESS * HAS + FLAG, // isOrdered
+    ADDRESS * HAS + STRING, // defaultSeparator
+    ADDRESS * HAS + STRING, // full
+    ADDRESS * HAS + STRING, // phoneticScript
+    ADDRESS * HAS + STRING, // phoneticSystem
+    ADDRESS_COMPONENT * HAS + NAME_OF + ADDRESS_COMPONENT, // @type
+    ADDRESS_COMPONENT * HAS + MUST + STRING, // value
+    ADDRESS_COMPONENT * HAS + MUST + STRING, // kind
+    ADDRESS_COMPONENT * HAS + STRING, // phonetic
+    EMAIL_ADDRESS * HAS + NAME_OF + EMAIL_ADDRESS, // @type
+    EMAIL_ADDRESS * HAS + MUST + STRING, // address
+    EMAIL_ADDRESS * HAS + FREE + YES, // contexts
+    EMAIL_ADDRESS * HAS + PREF, // pref
+    EMAIL_ADDRESS * HAS + STRING, // label
+    PHONE * HAS + NAME_OF + PHONE, // @type
+    PHONE * HAS + MUST + STRING, // number
+    PHONE * HAS + FREE + YES, // features
+    PHONE * HAS + FREE + YES, // contexts
+    PHONE * HAS + PREF, // pref
+    PHONE * HAS + STRING, // label
+];
+
+fn number_of(o: Object) -> u32
+    ensures { λ r. ⌜ r ≡ numberOf (objectType o) ⌝ }
+{
+    match o {
+        Object::Card => CARD,
+        Object::Name => NAME,
+        Object::NameComponent => NAME_COMPONENT,
+        Object::Address => ADDRESS,
+        Object::AddressComponent => ADDRESS_COMPONENT,
+        Object::EmailAddress => EMAIL_ADDRESS,
+        Object::Phone => PHONE,
+    }
+}
+
+// The end of the word that begins at a place: the next space.
+fn word_end(names: &[u8], from: usize) -> usize
+    requires { ⌜ from ≤ length (now names) ⌝ }
+    ensures { λ r. ⌜ WordEnd (now (names .entry)) from r ⌝ }
+{
+    let mut at = from;
+    while at < names.len() {
+        if names[at] == b' ' {
+            return at;
+        }
+        at = at + 1;
+    }
+    at
+}
+
+// The word with that number among words of the same width, without the spaces after it.
+fn word_at(names: &[u8], i: usize) -> &[u8]
+    requires { ⌜ i * nameWidth ≤ length (now names) ⌝ }
+    ensures { λ r. ⌜ now r ≡ wordOf (drop (i * nameWidth) (now (names .entry))) ⌝ }
+{
+    let from = i * WIDTH;
+    let to = word_end(names, from);
+    &names[from..to]
+}
+
+// Is a name of a text, decoded, that of property i?
+fn named(text: &[u8], s: usize, e: usize, i: usize) -> bool
+    requires { ⌜ i < count ⌝ }
+    ensures { λ r. ⌜ r ≡ same (nameOf (now (text .entry)) s e) (getD entries i noEntry .known .spelling) ⌝ }
+{
+    name_is(text, s, e, word_at(&NAMES, i))
+}
+
+// Do a string's inner bytes decode to the name of the object type?
+pub(crate) fn is_type_name(content: &[u8], o: Object) -> bool
+    ensures { λ r. ⌜ r ≡ same (decode (now (content .entry))) (typeName (objectType o)) ⌝ }
+{
+    let i = number_of(o) as usize;
+    part_is(content, word_at(&TYPE_NAMES, i))
+}
+
+fn object_of(n: u32) -> Object
+    ensures { λ r. ⌜ objectType r ≡ objectAt n ⌝ }
+{
+    match n {
+        CARD => Object::Card,
+        NAME => Object::Name,
+        NAME_COMPONENT => Object::NameComponent,
+        ADDRESS => Object::Address,
+        ADDRESS_COMPONENT => Object::AddressComponent,
+        EMAIL_ADDRESS => Object::EmailAddress,
+        _ => Object::Phone,
+    }
+}
+
+fn item_of(n: u32) -> Item
+    ensures { λ r. ⌜ itemType r ≡ itemAt n ⌝ }
+{
+    if NAME_OF <= n {
+        return Item::TypeName(object_of(n - NAME_OF));
+    }
+    if OBJECT <= n {
+        return Item::ObjectOf(object_of(n - OBJECT));
+    }
+    match n {
+        STRING => Item::AnyString,
+        VERSION => Item::Version,
+        FLAG => Item::Flag,
+        YES => Item::Yes,
+        PREF => Item::Count(1, 100),
+        TIME => Item::Time,
+        ANY_OBJECT => Item::AnyObject,
+        _ => Item::Any,
+    }
+}
+
+fn type_of(code: u32) -> Ty
+    ensures { λ r. ⌜ typeOf r ≡ typeAt code ⌝ }
+{
+    let item = item_of(code % LIST);
+    match code / LIST % 4 {
+        1 => Ty::ListOf(item),
+        2 => Ty::MapOf(Keys::Free, item),
+        3 => Ty::MapOf(Keys::Ids, item),
+        _ => Ty::One(item),
+    }
+}
+
+// What the table says of property i besides its name.
+fn code_at(i: usize) -> u32
+    requires { ⌜ i < count ⌝ }
+    ensures { λ r. ⌜ CodeOf r (getD entries i noEntry) ⌝ }
+{
+    KNOWN[i]
+}
+
+fn is_needed(i: usize) -> bool
+    requires { ⌜ i < count ⌝ }
+    ensures { λ r. ⌜ r ≡ getD entries i noEntry .known .mandatory ⌝ }
+{
+    code_at(i) / MUST % 2 == 1
+}
+
+// Is property i one of the object type's?
+fn is_owned(o: Object, i: usize) -> bool
+    requires { ⌜ i < count ⌝ }
+    ensures { λ r. ⌜ r ≡ isOwned (objectType o) (getD entries i noEntry) ⌝ }
+{
+    code_at(i) / HAS == number_of(o)
+}
+
+// Is a name of a text, decoded, that of property i of the object type?
+fn is_property(text: &[u8], o: Object, s: usize, e: usize, i: usize) -> bool
+    requires { ⌜ i < count ⌝ }
+    ensures { λ r. ⌜ r ≡ isProperty (objectType o) (nameOf (now (text .entry)) s e) (getD entries i noEntry) ⌝ }
+{
+    if !is_owned(o, i) {
+        return false;
+    }
+    named(text, s, e, i)
+}
+
+// Is property i among the members of the rows from .. end?
+fn has_property(text: &[u8], table: &[u32], from: usize, end: usize, i: usize) -> bool
+    requires { ⌜ i < count ⌝ }
+    requires { ⌜ ((f : Forest) × StandsTo (now table) from end f) ⌝ }
+    ensures { λ r. ⌜ ((f : Forest) → StandsTo (now (table .entry)) from end f → r ≡ isThere (seek (getD entries i noEntry .known .spelling) (membersOf (now (text .entry)) f))) ⌝ }
+{
+    has(text, table, from, end, word_at(&NAMES, i))
+}
+
+// Is property i a mandatory one of the object type, and not there?
+fn is_missing(text: &[u8], table: &[u32], from: usize, end: usize, o: Object, i: usize) -> bool
+    requires { ⌜ i < count ⌝ }
+    requires { ⌜ ((f : Forest) × StandsTo (now table) from end f) ⌝ }
+    ensures { λ r. ⌜ ((f : Forest) → StandsTo (now (table .entry)) from end f → r ≡ isMissing (objectType o) (membersOf (now (text .entry)) f) (getD entries i noEntry)) ⌝ }
+{
+    if !is_owned(o, i) {
+        return false;
+    }
+    if !is_needed(i) {
+        return false;
+    }
+    !has_property(text, table, from, end, i)
+}
+
+// Is a mandatory member of the object type missing?
+pub(crate) fn is_lacking(text: &[u8], table: &[u32], from: usize, end: usize, o: Object) -> bool
+    requires { ⌜ ((f : Forest) × StandsTo (now table) from end f) ⌝ }
+    ensures { λ r. ⌜ ((f : Forest) → StandsTo (now (table .entry)) from end f → r ≡ lacking (properties (objectType o)) (membersOf (now (text .entry)) f)) ⌝ }
+{
+    let mut i: usize = 0;
+    while i < COUNT {
+        if is_missing(text, table, from, end, o, i) {
+            return true;
+        }
+        i = i + 1;
+    }
+    false
+}
+
+// The type of a member of that name in an object of that type.
+pub(crate) fn type_in(text: &[u8], o: Object, s: usize, e: usize) -> Ty
+    ensures { λ r. ⌜ typeOf r ≡ typeIn (properties (objectType o)) (nameOf (now (text .entry)) s e) ⌝ }
+{
+    let mut i: usize = 0;
+    while i < COUNT {
+        if is_property(text, o, s, e, i) {
+            return type_of(code_at(i));
+        }
+        i = i + 1;
+    }
+    Ty::One(Item::Any)
+}

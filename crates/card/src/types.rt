@@ -1,0 +1,222 @@
+// The types of a card's values, and what each asks of a value by itself.
+use crate::dates::is_time;
+use crate::schema::is_type_name;
+use crate::schema::type_in;
+use crate::values::is_count;
+use crate::values::is_id;
+use json::names::part;
+use json::names::part_is;
+ghost use mathlib.Core.Path.{_≡_};
+ghost use mathlib.Core.Bool.{true, cond};
+ghost use mathlib.Core.List.{List};
+ghost use Prim.Native.Nat.{_-_};
+ghost use lib.Dec.{eqb};
+ghost use lib.ListN.{length};
+ghost use Rattle.laws.specs.Lists.{partOf};
+ghost use Rattle.laws.specs.Order.{same};
+ghost use Rattle.text.specs.Strings.{nameOf, contentOf};
+ghost use Rattle.text.specs.Doc.{Name};
+ghost use Rattle.contact.specs.Schema.{fits};
+ghost use Rattle.contact.specs.Judge.{allowed, memberType, keyFits};
+ghost use Rattle.card.specs.Types.{objectType, typeOf, itemType, AsObject, innerType};
+
+// Object types.
+pub enum Object {
+    Card,
+    Name,
+    NameComponent,
+    Address,
+    AddressComponent,
+    EmailAddress,
+    Phone,
+}
+
+// The keys of a map: any, or Ids.
+pub enum Keys {
+    Free,
+    Ids,
+}
+
+// What a value may have to be, or each value of a list or a map.
+pub enum Item {
+    // of an unknown property: nothing is judged
+    Any,
+    AnyString,
+    // the name of that object type
+    TypeName(Object),
+    // "1.0"
+    Version,
+    Flag,
+    // a value of a set: true
+    Yes,
+    // an unsigned integer from the one to the other
+    Count(u64, u64),
+    Time,
+    ObjectOf(Object),
+    // an object whose members aren't judged
+    AnyObject,
+}
+
+pub enum Ty {
+    One(Item),
+    ListOf(Item),
+    MapOf(Keys, Item),
+}
+
+// The JSON kinds: 1 null, 2 false, 3 true, 4 number, 5 string, 6 array, 7 object.
+fn is_flag(kind: usize) -> bool
+    ensures { λ r. ⌜ r ≡ cond (eqb kind 2) true (eqb kind 3) ⌝ }
+{
+    if kind == 2 {
+        return true;
+    }
+    kind == 3
+}
+
+fn item_fits(item: Item, kind: usize) -> bool
+    ensures { λ r. ⌜ r ≡ fits (itemType item) kind ⌝ }
+{
+    match item {
+        Item::Any => true,
+        Item::AnyString => kind == 5,
+        Item::TypeName(_) => kind == 5,
+        Item::Version => kind == 5,
+        Item::Flag => is_flag(kind),
+        Item::Yes => is_flag(kind),
+        Item::Count(_, _) => kind == 4,
+        Item::Time => kind == 5,
+        Item::ObjectOf(_) => kind == 7,
+        Item::AnyObject => kind == 7,
+    }
+}
+
+// May a value of that kind have the type?
+pub(crate) fn kind_fits(ty: Ty, kind: usize) -> bool
+    ensures { λ r. ⌜ r ≡ fits (typeOf ty) kind ⌝ }
+{
+    match ty {
+        Ty::One(item) => item_fits(item, kind),
+        Ty::ListOf(_) => kind == 6,
+        Ty::MapOf(_, _) => kind == 7,
+    }
+}
+
+// What a type is for the rules on objects.
+pub enum Role {
+    As(Object),
+    Other,
+}
+
+fn item_role(item: Item) -> Role
+    ensures { λ r. ⌜ AsObject r (itemType item) ⌝ }
+{
+    match item {
+        Item::Any => Role::Other,
+        Item::AnyString => Role::Other,
+        Item::TypeName(_) => Role::Other,
+        Item::Version => Role::Other,
+        Item::Flag => Role::Other,
+        Item::Yes => Role::Other,
+        Item::Count(_, _) => Role::Other,
+        Item::Time => Role::Other,
+        Item::ObjectOf(o) => Role::As(o),
+        Item::AnyObject => Role::Other,
+    }
+}
+
+// The object type of a type that is one.
+pub(crate) fn role_of(ty: Ty) -> Role
+    ensures { λ r. ⌜ AsObject r (typeOf ty) ⌝ }
+{
+    match ty {
+        Ty::One(item) => item_role(item),
+        Ty::ListOf(_) => Role::Other,
+        Ty::MapOf(_, _) => Role::Other,
+    }
+}
+
+// ---- what stands below
+
+// The type of the values of a list or a map; below any other value nothing is judged.
+fn inner(ty: Ty) -> Ty
+    ensures { λ r. ⌜ typeOf r ≡ innerType (typeOf ty) ⌝ }
+{
+    match ty {
+        Ty::One(_) => Ty::One(Item::Any),
+        Ty::ListOf(item) => Ty::One(item),
+        Ty::MapOf(_, item) => Ty::One(item),
+    }
+}
+
+// The type of a member of that name.
+pub(crate) fn member_type(text: &[u8], ty: Ty, s: usize, e: usize) -> Ty
+    ensures { λ r. ⌜ typeOf r ≡ memberType (typeOf ty) (nameOf (now (text .entry)) s e) ⌝ }
+{
+    match role_of(ty) {
+        Role::As(o) => type_in(text, o, s, e),
+        Role::Other => inner(ty),
+    }
+}
+
+// Is the key of an entry allowed? A test that looks at the keys before it too would be handed their rows.
+pub(crate) fn key_fits(text: &[u8], ty: Ty, s: usize, e: usize) -> bool
+    ensures { λ r. ⌜ ((earlier : List Name) → r ≡ keyFits (typeOf ty) earlier (nameOf (now (text .entry)) s e)) ⌝ }
+{
+    match ty {
+        Ty::One(_) => true,
+        Ty::ListOf(_) => true,
+        Ty::MapOf(keys, _) => match keys {
+            Keys::Free => true,
+            Keys::Ids => is_id(part(text, s, e)),
+        },
+    }
+}
+
+// ---- values
+
+// The inner bytes of a string whose token, quotes included, stands from a place up to another.
+fn content(text: &[u8], from: usize, to: usize) -> &[u8]
+    ensures { λ r. ⌜ now r ≡ partOf (partOf (now (text .entry)) from to) 1 (length (partOf (now (text .entry)) from to) - 1) ⌝ }
+{
+    let token = part(text, from, to);
+    let size = token.len();
+    if size < 1 {
+        return part(token, 1, 0);
+    }
+    part(token, 1, size - 1)
+}
+
+// Is a string's content, decoded, the literal?
+pub(crate) fn is_content(text: &[u8], from: usize, to: usize, lit: &[u8]) -> bool
+    ensures { λ r. ⌜ r ≡ same (contentOf (partOf (now (text .entry)) from to)) (now (lit .entry)) ⌝ }
+{
+    part_is(content(text, from, to), lit)
+}
+
+fn item_allows(text: &[u8], item: Item, kind: usize, from: usize, to: usize) -> bool
+    ensures { λ r. ⌜ r ≡ allowed (itemType item) kind (partOf (now (text .entry)) from to) ⌝ }
+{
+    match item {
+        Item::Any => true,
+        Item::AnyString => true,
+        Item::TypeName(o) => is_type_name(content(text, from, to), o),
+        Item::Version => is_content(text, from, to, b"1.0"),
+        Item::Flag => true,
+        Item::Yes => kind == 3,
+        Item::Count(low, high) => is_count(part(text, from, to), low, high),
+        Item::Time => is_time(content(text, from, to)),
+        Item::ObjectOf(_) => true,
+        Item::AnyObject => true,
+    }
+}
+
+// Is a value of that kind, whose token stands from a place up to another, allowed?
+pub(crate) fn allows(text: &[u8], ty: Ty, kind: usize, from: usize, to: usize) -> bool
+    ensures { λ r. ⌜ r ≡ allowed (typeOf ty) kind (partOf (now (text .entry)) from to) ⌝ }
+{
+    match ty {
+        Ty::One(item) => item_allows(text, item, kind, from, to),
+        Ty::ListOf(_) => true,
+        Ty::MapOf(_, _) => true,
+    }
+}
