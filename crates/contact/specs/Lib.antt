@@ -13,12 +13,12 @@ pub mod Kinds
 pub mod Between
 pub mod Breaks
 pub mod Judging
-pub mod JudgeSpecimens
 pub mod Likeness
 pub mod Entries
 pub mod Conditions
 pub mod Demand
 pub mod Contract
-pub mod LocalizeSpecimens
 pub mod Again
 pub mod Readback
+pub mod Services
+pub mod Specimens
