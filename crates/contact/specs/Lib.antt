@@ -21,4 +21,5 @@ pub mod Contract
 pub mod Again
 pub mod Readback
 pub mod Services
+pub mod Demands
 pub mod Specimens
