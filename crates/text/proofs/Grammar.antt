@@ -10,6 +10,7 @@
 --     Low, Calm             and nothing that is wrong before is passed over
 --     Rules                 what is wrong in the words of reading and what breaks the rules of specs/Fault.antt is the same
 --     Wholes                whole texts
+-- Assumes nothing.
 pub mod Stands
 pub mod Exact
 pub mod Number

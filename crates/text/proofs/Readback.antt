@@ -7,6 +7,7 @@
 --     Again         so what is written is read back: `reads-back` (`ReadsBack`, specs/Writable.antt)
 --     Shorter       what is written of a derived value is no longer than the value
 --     Documents     the document of a text that is read is writable, and no longer than the text
+-- Assumes nothing.
 pub mod Runs
 pub mod Says
 pub mod Derived

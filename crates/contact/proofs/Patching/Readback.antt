@@ -26,7 +26,6 @@ use Rattle.contact.specs.Judge.{Breach, nothing, found, cardBreach}
 use Rattle.contact.specs.Verdict.{refusedFault, refusedCard, Judged, passed, failed, faultOf, placed, judgedRead, judgedOf}
 use Rattle.contact.specs.Localize.{Outcome, refusedLocal, done, denied, localizedOf}
 use Rattle.contact.specs.Conditions.{PatchOf, Broken, short, Smallest, Accepted}
-use Rattle.contact.specs.Again.{Modest, InnerOf}
 use Rattle.contact.specs.Readback.{patchedDoc, WrittenCard, PatchedRows, OnlyInner, deep, fault, Readback}
 use Rattle.contact.specs.declared.Fault.the-variants.{Kind, Missing, Value, Rule}
 use Rattle.contact.specs.declared.CardRefusal.{CardRefusal}
@@ -37,7 +36,7 @@ use Rattle.contact.proofs.Judging.{judging}
 use Rattle.contact.proofs.Patching.Refused.{refused-iff, accepted-iff}
 use Rattle.contact.proofs.Patching.Public.{passed-so, failed-so}
 use Rattle.contact.proofs.Patching.Fine.{Fine, fine}
-use Rattle.contact.proofs.Patching.Again.{modest, inner-modest}
+use Rattle.contact.proofs.Patching.Again.{Modest, InnerOf, modest, inner-modest}
 
 -- ---- a document that is read back is judged as it is ----
 
