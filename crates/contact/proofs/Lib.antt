@@ -1,3 +1,4 @@
 -- The theorems over the definitions of specs/, by subject.
 pub mod Judging
 pub mod Patching
+pub mod Demands

@@ -9,7 +9,6 @@ pub mod Judge
 pub mod Breaks
 pub mod Verdict
 pub mod Judging
-pub mod JudgeSpecimens
 pub mod Pointer
 pub mod PointerText
 pub mod Patch
@@ -20,4 +19,6 @@ pub mod Likeness
 pub mod Demand
 pub mod Readback
 pub mod Contract
-pub mod LocalizeSpecimens
+pub mod Services
+pub mod Demands
+pub mod Specimens

@@ -1,0 +1,122 @@
+-- The three demands hold (specs/Demands.antt): `demands`, and with the limits of 01 `base-demands`.
+--     Sheet         the refusals and the lines of the sheet
+--     Reading       demand 2
+--     Localizing    demand 3
+-- Assumes nothing.
+pub mod Sheet
+pub mod Reading
+pub mod Localizing
+use Prim.Native.Nat.{ℕ, _*_, _≤_}
+use native.Mathlib.Nat.{sub-zero}
+use native.Mathlib.Omega.{arith}
+use mathlib.Core.Path.{_≡_, refl, sym, _∙_}
+use mathlib.Core.Bool.{true}
+use mathlib.Core.List.{List, []}
+use lib.ListN.{length}
+use Rattle.laws.specs.Lists.{filled}
+use Rattle.text.specs.Limits.{Limits, rowWords, base}
+use Rattle.text.specs.Tree.{Forest, size, rowsOf}
+use Rattle.text.specs.Reader.{Read, good, bad}
+use Rattle.text.specs.declared.Paper.{Paper}
+use Rattle.text.specs.Whole.{wholeOf, sheetOf, tableOf}
+use Rattle.text.specs.Doc.{Name, docOf}
+use Rattle.text.proofs.Outcomes.{paper-unique}
+use Rattle.text.proofs.Promise.{rows-length, whole-good}
+use Rattle.contact.specs.Verdict.{Judged, passed, failed, judgedOf, sheetOfJudged, tableOfJudged}
+use Rattle.contact.specs.Localize.{Outcome, done, denied, localizedOf, sheetOfOutcome, tableOfOutcome, outputOfOutcome}
+use Rattle.contact.specs.Services.{Call, read, judge, localize, wordsOf, roomOf, leaves, served}
+use Rattle.contact.specs.Demands.{Lines, Ends, acceptance, refusal, Demands}
+use Rattle.contact.proofs.Judging.{judging}
+use Rattle.contact.proofs.Patching.Demand.{demand}
+use Rattle.contact.proofs.Patching.Contract.{one-outcome, output-fits}
+use Rattle.contact.proofs.Patching.Readback.{readback}
+use Rattle.contact.proofs.Demands.Sheet.{OnLine, on-line, text-line, card-line, local-line}
+use Rattle.contact.proofs.Demands.Reading.{card-passed, read-passes, read-rows, read-describes, read-long, read-fault, read-short, judge-unread, judge-passes, judge-rows, judge-offends, judge-offender}
+use Rattle.contact.proofs.Demands.Localizing.{of-doc, card-written, localize-own, localize-patched, localize-accepted, localize-refused, localize-room, localize-inner}
+
+-- ---- demand 1
+
+-- a refusal leaves zero alone
+refused-ends : (c : Call) {p : Paper} → OnLine (Lines c) p → Ends c (leaves p (filled (wordsOf c) []) (filled (roomOf c) []))
+refused-ends c (on-line n second l) = rw (sub-zero (wordsOf c), sub-zero (roomOf c)) (refusal l)
+
+module _ (L : Limits) (unique : L .unique ≡ true) (six : L .words ≡ rowWords) where
+  -- rows that have room
+  rows-fit : (words : ℕ) (f : Forest) → L .words * size f ≤ words → length (rowsOf f) ≤ words
+  rows-fit words f l = let k : rowWords * size f ≤ words = rw six at l in omega (arith, rows-length f)
+
+  read-ends : (t : List ℕ) (words : ℕ) → Ends (read t words) (served L (read t words))
+  unfolding served sheetOf tableOf
+  read-ends t words = go (wholeOf L words t) refl
+    where
+      go : (R : Read) → wholeOf L words t ≡ R → Ends (read t words) (leaves (sheetOf R) (tableOf words R) [])
+      go (bad r) e = refused-ends (read t words) (text-line r)
+      go (good f to) e = acceptance (rowsOf f) [] (size f) (rows-length f) (rows-fit words f (whole-good L words t f to e .room)) (omega arith)
+
+  judge-ends : (t : List ℕ) (words : ℕ) → Ends (judge t words) (served L (judge t words))
+  unfolding served sheetOfJudged tableOfJudged
+  judge-ends t words = go (judgedOf L words t) refl
+    where
+      go : (j : Judged) → judgedOf L words t ≡ j → Ends (judge t words) (leaves (sheetOfJudged j) (tableOfJudged words j) [])
+      go (failed r) e = refused-ends (judge t words) (card-line r)
+      go (passed f) e =
+          let (to, whole, keeps) = judging .accepted L words t f .0 e in
+          acceptance (rowsOf f) [] (size f) (rows-length f) (rows-fit words f (whole-good L words t f to whole .room)) (omega arith)
+
+  localize-ends : (t : List ℕ) (lang : Name) (words room : ℕ) → Ends (localize t lang words room) (served L (localize t lang words room))
+  unfolding served sheetOfOutcome tableOfOutcome outputOfOutcome
+  localize-ends t lang words room = go (localizedOf L words room t lang) refl
+    where
+      go : (o : Outcome) → localizedOf L words room t lang ≡ o
+          → Ends (localize t lang words room) (leaves (sheetOfOutcome o) (tableOfOutcome words o) (outputOfOutcome room o))
+      go (denied r) e = refused-ends (localize t lang words room) (local-line r)
+      go (done text g) e =
+          let (f, pass, rows) = readback L words room unique .accepted t lang text g e in
+          let c = card-written L unique words room t lang f pass text g e (rows .reads) in
+          acceptance (rowsOf g) text (size g) (rows-length g) (rows-fit words g (c .readable .enough))
+          (output-fits L words room (docOf t f) lang text g (of-doc L unique words room t lang f pass (done text g) e))
+
+  all-ends : (c : Call) → Ends c (served L c)
+  all-ends (read t words) = read-ends t words
+  all-ends (judge t words) = judge-ends t words
+  all-ends (localize t lang words room) = localize-ends t lang words room
+
+  -- ---- all three
+
+  pub demands : Demands L
+  unfolding served
+  demands = record {
+    every-call = record {
+      ends = all-ends;
+      one-reading = λ words t a b x y p q. (paper-unique a b (p .answered ∙ sym (q .answered)), p .left ∙ sym (q .left));
+      one-judging = judging .one-outcome L;
+      one-localizing = λ words room t lang a b x y o q p r. one-outcome p r;
+    };
+    reading-and-judging = record {
+      accepts = λ t small words. read-passes L words t small;
+      rows = λ t words. read-rows L words t;
+      describe = λ t words. read-describes L words t;
+      too-long = λ t words. read-long L words t;
+      first-fault = λ t small within words. read-fault L words t small within;
+      rows-short = λ t small words. read-short L words t small;
+      unread = λ t words. judge-unread L words t;
+      passes = λ t small words. judge-passes L words t small;
+      card-rows = λ t words. judge-rows L words t;
+      offends = λ t small words. judge-offends L words t small;
+      offender = λ t words. judge-offender L words t;
+    };
+    localizing = record {
+      own = λ t lang words room. localize-own L unique words room t lang;
+      any-order = λ t u lang words room f g c d o.
+          let e = demand L words room .order-of-texts t u lang f g (card-passed L words t f c) (card-passed L words u g d) o in rw e;
+      patched = λ t lang words room f c. localize-patched L unique words room t lang f (card-passed L words t f c);
+      accepted = λ t lang words room f c. localize-accepted L unique words room t lang f (card-passed L words t f c);
+      refused = λ t lang words room f c. localize-refused L unique words room t lang f (card-passed L words t f c);
+      room-enough = λ t lang words room. localize-room L unique words room t lang;
+      inner = λ t lang words room. localize-inner L unique words room t lang;
+    };
+  }
+
+-- with the limits of 01
+pub base-demands : Demands base
+base-demands = demands base refl refl

@@ -1,0 +1,129 @@
+-- Demand 3, of what localizing leaves, from `demand` and `readback`. Assumes nothing.
+use Prim.Native.Nat.{ℕ, _≤_, _<_}
+use native.Mathlib.Omega.{arith}
+use mathlib.Core.Path.{_≡_, refl, sym, _∙_}
+use mathlib.Core.Bool.{true}
+use mathlib.Core.Logic.{_⊎_, _↔_}
+use mathlib.Core.List.{List}
+use lib.ListN.{length}
+use Rattle.text.specs.Limits.{Limits}
+use Rattle.text.specs.Tree.{Forest}
+use Rattle.text.specs.Reader.{good}
+use Rattle.text.specs.Sheet.{numbers}
+use Rattle.text.specs.Whole.{readOf}
+use Rattle.text.specs.Doc.{Name, docOf}
+use Rattle.text.proofs.Promise.{whole-good}
+use Rattle.text.proofs.Grammar.Accepted.{accepts}
+use Rattle.contact.specs.Verdict.{Judged, passed, failed, judgedOf, sheetOfJudged}
+use Rattle.contact.specs.Localize.{refusedLocal, Outcome, done, denied, localizedDoc, localizedOf, sheetOfOutcome, tableOfOutcome, outputOfOutcome}
+use Rattle.contact.specs.Conditions.{Broken, Smallest}
+use Rattle.contact.specs.Services.{judge, localize, served}
+use Rattle.contact.specs.Demands.{Passes, Within, CardText, Localization}
+use Rattle.contact.specs.declared.LocalRefusal.{LocalRefusal}
+use Rattle.contact.proofs.Judging.{judging}
+use Rattle.contact.proofs.Patching.Public.{passed-so, failed-so}
+use Rattle.contact.proofs.Patching.Demand.{demand}
+use Rattle.contact.proofs.Patching.Readback.{readback}
+use Rattle.contact.proofs.Demands.Sheet.{line-of, local-line, local-some, Late, early, late-short, late-inner, late, same-number, same-second}
+
+module _ (L : Limits) (unique : L .unique ≡ true) (words room : ℕ) (t : List ℕ) (lang : Name) where
+  abbrev outcome : Outcome
+  outcome = localizedOf L words room t lang
+
+  pub localize-own : ¬ Passes L (judge t words) → served L (localize t lang words room) .answer ≡ served L (judge t words) .answer
+  unfolding served sheetOfOutcome sheetOfJudged refusedLocal
+  localize-own not = go (judgedOf L words t) refl
+    where
+      go : (j : Judged) → judgedOf L words t ≡ j → sheetOfOutcome outcome ≡ sheetOfJudged (judgedOf L words t)
+      go (failed r) e = rw (failed-so L words room t lang r e, e)
+      go (passed f) e = absurd (not (rw e))
+
+  -- a card that passes
+  module _ (f : Forest) (pass : judgedOf L words t ≡ passed f) where
+    pub of-doc : (o : Outcome) → outcome ≡ o → localizedDoc L words room (docOf t f) lang ≡ o
+    of-doc o e = sym (passed-so L words room t lang f pass) ∙ e
+
+    -- the written text is a card
+    pub card-written : (text : List ℕ) (g : Forest) → outcome ≡ done text g → readOf L text ≡ good g (length text) → CardText L words text g
+    card-written text g e back =
+        let a = demand L words room .accepted (docOf t f) lang text g .0 (of-doc (done text g) e) in
+        let (to, whole, keeps) = judging .accepted L words text g .0 (a .reads) in
+        record { readable = record { accepts = accepts L text g .0 back; enough = whole-good L words text g to whole .room }; keeps = keeps }
+
+    localization : (text : List ℕ) (g : Forest) → outcome ≡ done text g → Localization L words room t f lang
+    unfolding served sheetOfOutcome tableOfOutcome outputOfOutcome
+    localization text g e =
+        let (h, k, rows) = readback L words room unique .accepted t lang text g e in
+        let tree : h ≡ f = cc in
+        record {
+          text = text;
+          tree = g;
+          left = rw e;
+          patched = demand L words room .written-so (docOf t f) lang text g (of-doc (done text g) e);
+          back = rw tree at rows;
+          card = card-written text g e (rows .reads);
+        }
+
+    pub localize-patched : Passes L (localize t lang words room) → Localization L words room t f lang
+    unfolding served sheetOfOutcome
+    localize-patched = go outcome refl
+      where
+        go : (o : Outcome) → outcome ≡ o → sheetOfOutcome o .number ≡ 0 → Localization L words room t f lang
+        go (done text g) e z = localization text g e
+        go (denied r) e z = absurd (omega (arith, local-some (refusedLocal r .number) (line-of (local-line r))))
+
+    pub localize-accepted : Passes L (localize t lang words room) ↔ ((n : ℕ) (r : LocalRefusal) → ¬ Broken L words room (docOf t f) lang n r)
+    unfolding served sheetOfOutcome
+    localize-accepted = (λ z. unbroken outcome refl z, λ u. whole outcome refl u)
+      where
+        unbroken : (o : Outcome) → outcome ≡ o → sheetOfOutcome o .number ≡ 0 → (n : ℕ) (r : LocalRefusal) → ¬ Broken L words room (docOf t f) lang n r
+        unbroken (done text g) e z = demand L words room .accepted (docOf t f) lang text g .0 (of-doc (done text g) e) .unbroken
+        unbroken (denied r) e z = absurd (omega (arith, local-some (refusedLocal r .number) (line-of (local-line r))))
+
+        whole : (o : Outcome) → outcome ≡ o → ((n : ℕ) (r : LocalRefusal) → ¬ Broken L words room (docOf t f) lang n r) → sheetOfOutcome outcome .number ≡ 0
+        whole (done text g) e u = rw e
+        whole (denied r) e u = absurd (u (refusedLocal r .number) r (demand L words room .refused (docOf t f) lang r .0 (of-doc (denied r) e) .broken))
+
+    pub localize-refused : (n second : ℕ) → 0 < n
+        → (served L (localize t lang words room) .answer ≡ numbers n second 0)
+        ↔ ((r : LocalRefusal) × (refusedLocal r ≡ numbers n second 0) × Smallest L words room (docOf t f) lang n r)
+    unfolding served sheetOfOutcome
+    localize-refused n second some = (λ e. go outcome refl e, back)
+      where
+        go : (o : Outcome) → outcome ≡ o → sheetOfOutcome o ≡ numbers n second 0
+            → (r : LocalRefusal) × (refusedLocal r ≡ numbers n second 0) × Smallest L words room (docOf t f) lang n r
+        go (done text g) e q = absurd (omega (arith, same-number q))
+        go (denied r) e q = (r, q, rw (same-number q) at (demand L words room .refused (docOf t f) lang r .0 (of-doc (denied r) e)))
+
+        back : (r : LocalRefusal) × (refusedLocal r ≡ numbers n second 0) × Smallest L words room (docOf t f) lang n r → sheetOfOutcome outcome ≡ numbers n second 0
+        back (r, q, s) =
+            let e = demand L words room .refused (docOf t f) lang r .1 (rw (sym (same-number q)) at s) in
+            rw (passed-so L words room t lang f pass, e) q
+
+  -- 27 and 28
+  localize-late : (n second : ℕ) → 27 ≤ n → served L (localize t lang words room) .answer ≡ numbers n second 0
+      → (r : LocalRefusal) × (outcome ≡ denied r) × (refusedLocal r ≡ numbers n second 0) × Late r
+  unfolding served sheetOfOutcome
+  localize-late n second w = go outcome refl
+    where
+      go : (o : Outcome) → outcome ≡ o → sheetOfOutcome o ≡ numbers n second 0 → (r : LocalRefusal) × (outcome ≡ denied r) × (refusedLocal r ≡ numbers n second 0) × Late r
+      go (done text g) e q = absurd (omega (arith, same-number q))
+      go (denied r) e q = (r, e, q, late r)
+
+  pub localize-room : (needed : ℕ) → served L (localize t lang words room) .answer ≡ numbers 27 needed 0 → (room < needed) × (needed ≤ length t)
+  unfolding refusedLocal
+  localize-room needed e = let (r, k, q, l) = localize-late 27 needed (omega arith) e in go r k q l
+    where
+      go : (r : LocalRefusal) → outcome ≡ denied r → refusedLocal r ≡ numbers 27 needed 0 → Late r → (room < needed) × (needed ≤ length t)
+      go r k q (early r₁ l) = absurd (omega (arith, same-number q))
+      go r k q (late-short n) = rw (same-second q) at (readback L words room unique .enough t lang n k)
+      go r k q (late-inner x) = absurd (omega (arith, same-number q))
+
+  pub localize-inner : (number : ℕ) → served L (localize t lang words room) .answer ≡ numbers 28 number 0 → (number ≡ 5) ⊎ Within 11 14 number
+  unfolding refusedLocal
+  localize-inner number e = let (r, k, q, l) = localize-late 28 number (omega arith) e in go r k q l
+    where
+      go : (r : LocalRefusal) → outcome ≡ denied r → refusedLocal r ≡ numbers 28 number 0 → Late r → (number ≡ 5) ⊎ Within 11 14 number
+      go r k q (early r₁ l) = absurd (omega (arith, same-number q))
+      go r k q (late-short n) = absurd (omega (arith, same-number q))
+      go r k q (late-inner x) = rw (same-second q) at (readback L words room unique .number t lang x k)

@@ -1,0 +1,203 @@
+-- Demand 2, of what reading and judging leave: what an answer means is told by the theorems `accepts`, `refuses` and `too-long` of the grammar, and
+-- `judging`. Assumes nothing.
+use Prim.Native.Nat.{ℕ, _*_, _≤_, _<_}
+use native.Mathlib.Omega.{arith}
+use mathlib.Core.Path.{_≡_, refl, sym, ap, subst, _∙_}
+use mathlib.Core.Logic.{_↔_}
+use mathlib.Core.List.{List, []}
+use lib.ListN.{length}
+use borrow.Author.Tests.{lt-ltb, le-ltb}
+use Rattle.laws.specs.Lists.{filled}
+use Rattle.laws.proofs.Bounds.{below-at}
+use Rattle.laws.proofs.Branches.{if-less}
+use Rattle.text.specs.Limits.{Limits}
+use Rattle.text.specs.Tokens.{skip}
+use Rattle.text.specs.Tree.{Forest, size, rowsOf}
+use Rattle.text.specs.Reader.{Read, good, bad}
+use Rattle.text.specs.Grammar.{value}
+use Rattle.text.specs.Seats.{top}
+use Rattle.text.specs.declared.Paper.{Paper}
+use Rattle.text.specs.Sheet.{numbers, refused}
+use Rattle.text.specs.Whole.{readOf, fitOf, wholeOf, sheetOf, tableOf}
+use Rattle.text.specs.Meaning.{Accepts}
+use Rattle.text.specs.Promised.{Filled}
+use Rattle.text.specs.Fault.{Fault, grammar, violated, First}
+use Rattle.text.specs.declared.Refusal.{Refusal}
+use Rattle.text.specs.declared.Refusal.the-variants.{TooLong, Grammar, Character, Repeated, Deep, Many, Small}
+use Rattle.text.proofs.Induction.{read-accepted}
+use Rattle.text.proofs.Promise.{filled-stands, promised, whole-good}
+use Rattle.text.proofs.Grammar.Stands.{by-order}
+use Rattle.text.proofs.Grammar.Sound.{Parsed}
+use Rattle.text.proofs.Grammar.Rules.{wrong-number, breaks-wrong}
+use Rattle.text.proofs.Grammar.Wholes.{root-told, read-inside}
+use Rattle.text.proofs.Grammar.Accepted.{accepts}
+use Rattle.text.proofs.Grammar.Refused.{refuses, too-long}
+use Rattle.contact.specs.Verdict.{refusedCard, Judged, passed, failed, judgedRead, judgedOf, sheetOfJudged, tableOfJudged}
+use Rattle.contact.specs.Judging.{Says, unread, passes, breaks-first}
+use Rattle.contact.specs.Services.{read, judge, leaves, served}
+use Rattle.contact.specs.Demands.{Bytes, Passes, Within, Readable, CardText, RowsShort, Offends}
+use Rattle.contact.proofs.Judging.{judging}
+use Rattle.contact.proofs.Demands.Sheet.{OnLine, on-line, line-of, text-line, card-line, card-some, same-number, same-second}
+
+module _ (L : Limits) (words : ℕ) (t : List ℕ) where
+  readable-good : (f : Forest) → Readable L words t f → wholeOf L words t ≡ good f (length t)
+  unfolding wholeOf fitOf
+  readable-good f r = rw (accepts L t f .1 (r .accepts), le-ltb words (L .words * size f) (r .enough))
+
+  whole-bad : (r : Refusal) → readOf L t ≡ bad r → wholeOf L words t ≡ bad r
+  unfolding wholeOf fitOf
+  whole-bad r e = rw e
+
+  -- a text of bytes that is read is read to its end
+  to-the-end : Bytes t → (f : Forest) (to : ℕ) → readOf L t ≡ good f to → to ≡ length t
+  to-the-end small f to e =
+      let a = read-accepted L t f to e in
+      let p : Parsed L t value (L .depth) top 0 0 (skip t 0) f (a .end) = rw (a .value) at (root-told L t) in
+      let i : skip t (a .end) ≤ length t = read-inside L t p in
+      by-order to (length t) (λ l. absurd (omega (arith, below-at 256 t small to 256 l))) (λ l. omega arith)
+
+  read-accepts : Bytes t → (f : Forest) (to : ℕ) → readOf L t ≡ good f to → Accepts L t f
+  read-accepts small f to e = accepts L t f .0 (e ∙ ap (good f) (to-the-end small f to e))
+
+  good-readable : Bytes t → (f : Forest) (to : ℕ) → wholeOf L words t ≡ good f to → Readable L words t f
+  good-readable small f to e = let fit = whole-good L words t f to e in record { accepts = read-accepts small f to (fit .read); enough = fit .room }
+
+  fault-number : {n p : ℕ} → Fault L t n p → Within 2 6 n
+  fault-number (grammar g) = omega arith
+  fault-number (violated v) = let w = wrong-number L t (breaks-wrong L t (v .broken .breaks)) in omega arith
+
+  -- what each answer means
+  data Means : Read → Type 0 where
+    long : L .bytes < length t → Means (bad TooLong)
+    faulty : {r : Refusal} (n p : ℕ) → refused r ≡ numbers n p 0 → length t ≤ L .bytes → First L t n p → Means (bad r)
+    short : (f : Forest) → Accepts L t f → words < L .words * size f → Means (bad (Small (size f)))
+    fits : (f : Forest) (to : ℕ) → Readable L words t f → Means (good f to)
+
+  refusal-means : Bytes t → (r : Refusal) → readOf L t ≡ bad r → Means (bad r)
+  refusal-means small r e =
+      by-order (L .bytes) (length t)
+      (λ l. let z : bad TooLong ≡ bad r = sym (too-long L t .1 l) ∙ e in subst Means z (long l))
+      (λ l. go l (refused r) refl (text-line r))
+    where
+      go : length t ≤ L .bytes → (q : Paper) → refused r ≡ q → OnLine (Within 1 7) q → Means (bad r)
+      go l q k (on-line n p w) = faulty n p k l (refuses L t small l n p .0 (record { refusal = r; answer = e; sheet = k }))
+
+  means : Bytes t → Means (wholeOf L words t)
+  unfolding wholeOf fitOf
+  means small = go (readOf L t) refl
+    where
+      go : (R : Read) → readOf L t ≡ R → Means (fitOf L words R)
+      go (bad r) e = refusal-means small r e
+      go (good f to) e =
+          let a = read-accepts small f to e in
+          if-less Means words (L .words * size f) (λ l. short f a l) (λ l. fits f to (record { accepts = a; enough = l }))
+
+  -- ---- reading, of what it leaves
+
+  pub read-passes : Bytes t → Passes L (read t words) ↔ ((f : Forest) × Readable L words t f)
+  unfolding served sheetOf refused
+  read-passes small = (λ e. go (wholeOf L words t) (means small) e, λ (f, r). rw (readable-good f r))
+    where
+      go : (R : Read) → Means R → sheetOf R .number ≡ 0 → (f : Forest) × Readable L words t f
+      go R (long l) e = absurd (omega arith)
+      go R (faulty n p k l h) e = let z : n ≡ 0 = same-number (sym k) ∙ e in absurd (omega (arith, fault-number (h .fault)))
+      go R (short f a l) e = absurd (omega arith)
+      go R (fits f to r) e = (f, r)
+
+  pub read-rows : (f : Forest) → Readable L words t f → served L (read t words) ≡ leaves (numbers 0 (size f) 0) (filled words (rowsOf f)) []
+  unfolding served sheetOf tableOf
+  read-rows f r = rw (readable-good f r)
+
+  pub read-describes : (f : Forest) → Readable L words t f → Filled L t (served L (read t words) .table) (size f) f
+  read-describes f r =
+      rw (read-rows f r) (record { promised = promised L t f (length t) (accepts L t f .1 (r .accepts)); stands = filled-stands words f })
+
+  pub read-long : (second : ℕ) → (served L (read t words) .answer ≡ numbers 1 second 0) ↔ ((L .bytes < length t) × (second ≡ 0))
+  unfolding served wholeOf fitOf sheetOf refused
+  read-long second = (λ e. let k = go (readOf L t) e in (too-long L t .0 (k .0), k .1), λ (l, e). rw (too-long L t .1 l, e))
+    where
+      one : (r : Refusal) → refused r ≡ numbers 1 second 0 → (bad r ≡ bad TooLong) × (second ≡ 0)
+      one TooLong e = (refl, sym (same-second e))
+      one (Grammar p) e = absurd (omega (arith, same-number e))
+      one (Character p) e = absurd (omega (arith, same-number e))
+      one (Repeated p) e = absurd (omega (arith, same-number e))
+      one (Deep p) e = absurd (omega (arith, same-number e))
+      one (Many p) e = absurd (omega (arith, same-number e))
+      one (Small n) e = absurd (omega (arith, same-number e))
+
+      go : (R : Read) → sheetOf (fitOf L words R) ≡ numbers 1 second 0 → (R ≡ bad TooLong) × (second ≡ 0)
+      go (bad r) e = one r e
+      go (good f to) e =
+          absurd (if-less (λ (R : Read). sheetOf R ≡ numbers 1 second 0 → ⊥) words (L .words * size f)
+          (λ l k. omega (arith, same-number k)) (λ l k. omega (arith, same-number k)) e)
+
+  pub read-fault : Bytes t → length t ≤ L .bytes → (n p : ℕ) → Within 2 6 n → (served L (read t words) .answer ≡ numbers n p 0) ↔ First L t n p
+  unfolding served sheetOf refused
+  read-fault small within n p w = (λ e. go (wholeOf L words t) (means small) e, back)
+    where
+      go : (R : Read) → Means R → sheetOf R ≡ numbers n p 0 → First L t n p
+      go R (long l) e = absurd (omega arith)
+      go R (faulty m q k l h) e = let z = sym k ∙ e in rw (same-number z, same-second z) at h
+      go R (short f a l) e = absurd (omega (arith, same-number e))
+      go R (fits f to r) e = absurd (omega (arith, same-number e))
+
+      back : First L t n p → sheetOf (wholeOf L words t) ≡ numbers n p 0
+      back h = let r = refuses L t small within n p .1 h in rw (whole-bad (r .refusal) (r .answer)) (r .sheet)
+
+  pub read-short : Bytes t → (n : ℕ) → (served L (read t words) .answer ≡ numbers 7 n 0) ↔ RowsShort L words t n
+  unfolding served sheetOf refused wholeOf fitOf
+  read-short small n = (λ e. go (wholeOf L words t) (means small) e, back)
+    where
+      go : (R : Read) → Means R → sheetOf R ≡ numbers 7 n 0 → RowsShort L words t n
+      go R (long l) e = absurd (omega (arith, same-number e))
+      go R (faulty m q k l h) e = absurd (omega (arith, fault-number (h .fault), same-number (sym k ∙ e)))
+      go R (short f a l) e = record { tree = f; accepts = a; short = l; needed = sym (same-second e) }
+      go R (fits f to r) e = absurd (omega (arith, same-number e))
+
+      back : RowsShort L words t n → sheetOf (wholeOf L words t) ≡ numbers 7 n 0
+      back s =
+          rw (accepts L t (s .tree) .1 (s .accepts), lt-ltb words (L .words * size (s .tree)) (s .short)) (ap (λ (k : ℕ). numbers 7 k 0) (sym (s .needed)))
+
+  -- ---- judging
+
+  pub judge-unread : ¬ Passes L (read t words) → served L (judge t words) ≡ served L (read t words)
+  unfolding served judgedOf judgedRead sheetOf tableOf sheetOfJudged tableOfJudged refusedCard
+  judge-unread not = go (wholeOf L words t) refl
+    where
+      go : (R : Read) → wholeOf L words t ≡ R → served L (judge t words) ≡ served L (read t words)
+      go (bad r) e = rw e
+      go (good f to) e = absurd (not (rw e))
+
+  pub card-passed : (f : Forest) → CardText L words t f → judgedOf L words t ≡ passed f
+  card-passed f c = judging .accepted L words t f .1 (length t, readable-good f (c .readable), c .keeps)
+
+  pub judge-passes : Bytes t → Passes L (judge t words) ↔ ((f : Forest) × CardText L words t f)
+  unfolding served sheetOfJudged
+  judge-passes small = (λ e. go (judgedOf L words t) refl e, λ (f, c). rw (card-passed f c))
+    where
+      go : (j : Judged) → judgedOf L words t ≡ j → sheetOfJudged j .number ≡ 0 → (f : Forest) × CardText L words t f
+      go (failed r) k e = absurd (omega (arith, card-some (refusedCard r .number) (line-of (card-line r))))
+      go (passed f) k e =
+          let (to, whole, keeps) = judging .accepted L words t f .0 k in
+          (f, record { readable = good-readable small f to whole; keeps = keeps })
+
+  pub judge-rows : (f : Forest) → CardText L words t f → served L (judge t words) ≡ served L (read t words)
+  unfolding served sheetOf tableOf sheetOfJudged tableOfJudged
+  judge-rows f c = rw (card-passed f c, readable-good f (c .readable))
+
+  pub judge-offends : Bytes t → (n p : ℕ) → Passes L (read t words) → 0 < n → (served L (judge t words) .answer ≡ numbers n p 0) ↔ Offends L words t n p
+  unfolding served sheetOf
+  judge-offends small n p reads some = (λ e. go (judging .answer L words t _ _ .0 (refl, refl)) e, back)
+    where
+      go : {q : Paper} {table : List ℕ} → Says L words t q table → q ≡ numbers n p 0 → Offends L words t n p
+      go (unread {r = r} k) e = let z : sheetOf (bad r) .number ≡ 0 = rw k at reads in absurd (omega (arith, line-of (text-line r)))
+      go (passes k h) e = absurd (omega (arith, same-number e))
+      go (breaks-first {f = f} {to = to} {row = row} k h) e =
+          record { tree = f; readable = good-readable small f to k; row = row; first = rw (same-number e) at h; place = sym (same-second e) }
+
+      back : Offends L words t n p → sheetOfJudged (judgedOf L words t) ≡ numbers n p 0
+      back o =
+          sym (judging .answer L words t _ _ .1 (breaks-first (readable-good (o .tree) (o .readable)) (o .first)) .0) ∙ ap (λ (k : ℕ). numbers n k 0) (sym (o .place))
+
+  pub judge-offender : (n p : ℕ) (o : Offends L words t n p) → o .row < size (o .tree)
+  judge-offender n p o = judging .place L words t (o .tree) (length t) (o .row) n (readable-good (o .tree) (o .readable)) (o .first)

@@ -1,0 +1,98 @@
+-- The numbers of each refusal stand on the lines of the sheet that its service has. Assumes nothing.
+use Prim.Native.Nat.{ℕ, _<_}
+use native.Mathlib.Omega.{arith}
+use mathlib.Core.Path.{_≡_, ap}
+use mathlib.Core.Logic.{_⊎_, inl, inr, ⊎-elim}
+use Rattle.text.specs.declared.Paper.{Paper}
+use Rattle.text.specs.Sheet.{numbers, refused}
+use Rattle.text.specs.declared.Refusal.{Refusal}
+use Rattle.text.specs.declared.Refusal.the-variants.{TooLong, Grammar, Character, Repeated, Deep, Many, Small}
+use Rattle.contact.specs.Verdict.{refusedFault, refusedCard}
+use Rattle.contact.specs.Localize.{refusedLocal}
+use Rattle.contact.specs.Demands.{Within}
+use Rattle.contact.specs.declared.Fault.the-variants.{Kind, Missing, Value, Rule}
+use Rattle.contact.specs.declared.CardRefusal.{CardRefusal}
+use Rattle.contact.specs.declared.CardRefusal.the-variants.{Text, Card}
+use Rattle.contact.specs.declared.LocalRefusal.{LocalRefusal}
+use Rattle.contact.specs.declared.LocalRefusal.the-variants.{Given, NoLanguage, BadKey, OwnLocalizations, Clash, InArray, NoObject, Short, Inner}
+
+-- the numbers of a refusal, on one of these lines
+pub data OnLine (Line : ℕ → Type 0) : Paper → Type 0 where
+  on-line : (n second : ℕ) → Line n → OnLine Line (numbers n second 0)
+
+pub wider : {Line Wide : ℕ → Type 0} {p : Paper} → ((n : ℕ) → Line n → Wide n) → OnLine Line p → OnLine Wide p
+wider f (on-line n second l) = on-line n second (f n l)
+
+pub line-of : {Line : ℕ → Type 0} {p : Paper} → OnLine Line p → Line (p .number)
+line-of (on-line n second l) = l
+
+abbrev pub CardLine : ℕ → Type 0
+CardLine n = Within 1 7 n ⊎ Within 11 14 n
+
+abbrev pub LocalLine : ℕ → Type 0
+LocalLine n = Within 1 7 n ⊎ Within 11 14 n ⊎ Within 21 28 n
+
+pub text-line : (r : Refusal) → OnLine (Within 1 7) (refused r)
+unfolding refused
+text-line TooLong = on-line 1 0 (omega arith)
+text-line (Grammar p) = on-line 2 p (omega arith)
+text-line (Character p) = on-line 3 p (omega arith)
+text-line (Repeated p) = on-line 4 p (omega arith)
+text-line (Deep p) = on-line 5 p (omega arith)
+text-line (Many p) = on-line 6 p (omega arith)
+text-line (Small n) = on-line 7 n (omega arith)
+
+pub card-line : (r : CardRefusal) → OnLine CardLine (refusedCard r)
+unfolding refusedCard refusedFault
+card-line (Text r) = wider (λ n l. inl l) (text-line r)
+card-line (Card (Kind p)) = on-line 11 p (inr (omega arith))
+card-line (Card (Missing p)) = on-line 12 p (inr (omega arith))
+card-line (Card (Value p)) = on-line 13 p (inr (omega arith))
+card-line (Card (Rule p)) = on-line 14 p (inr (omega arith))
+
+pub local-line : (r : LocalRefusal) → OnLine LocalLine (refusedLocal r)
+unfolding refusedLocal
+local-line (Given r) = wider (λ n l. ⊎-elim (λ x. inl x) (λ x. inr (inl x)) l) (card-line r)
+local-line NoLanguage = on-line 21 0 (inr (inr (omega arith)))
+local-line BadKey = on-line 22 0 (inr (inr (omega arith)))
+local-line OwnLocalizations = on-line 23 0 (inr (inr (omega arith)))
+local-line Clash = on-line 24 0 (inr (inr (omega arith)))
+local-line InArray = on-line 25 0 (inr (inr (omega arith)))
+local-line NoObject = on-line 26 0 (inr (inr (omega arith)))
+local-line (Short n) = on-line 27 n (inr (inr (omega arith)))
+local-line (Inner r) = on-line 28 (refusedCard r .number) (inr (inr (omega arith)))
+
+-- a line's number is not 0
+pub card-some : (n : ℕ) → CardLine n → 0 < n
+card-some n (inl l) = omega arith
+card-some n (inr l) = omega arith
+
+pub local-some : (n : ℕ) → LocalLine n → 0 < n
+local-some n (inl l) = omega arith
+local-some n (inr (inl l)) = omega arith
+local-some n (inr (inr l)) = omega arith
+
+-- 27 and 28 are given by one case each
+pub data Late : LocalRefusal → Type 0 where
+  early : (r : LocalRefusal) → refusedLocal r .number < 27 → Late r
+  late-short : (n : ℕ) → Late (Short n)
+  late-inner : (r : CardRefusal) → Late (Inner r)
+
+pub late : (r : LocalRefusal) → Late r
+unfolding refusedLocal
+late (Given r) = early (Given r) (⊎-elim (λ (l : Within 1 7 (refusedCard r .number)). omega arith) (λ l. omega arith) (line-of (card-line r)))
+late NoLanguage = early NoLanguage (omega arith)
+late BadKey = early BadKey (omega arith)
+late OwnLocalizations = early OwnLocalizations (omega arith)
+late Clash = early Clash (omega arith)
+late InArray = early InArray (omega arith)
+late NoObject = early NoObject (omega arith)
+late (Short n) = late-short n
+late (Inner r) = late-inner r
+
+-- the same numbers
+pub same-number : {p q : Paper} → p ≡ q → p .number ≡ q .number
+same-number e = ap (λ (a : Paper). a .number) e
+
+pub same-second : {p q : Paper} → p ≡ q → p .second ≡ q .second
+same-second e = ap (λ (a : Paper). a .second) e

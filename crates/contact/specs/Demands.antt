@@ -1,0 +1,176 @@
+-- The three demands, sentence by sentence, of what the services answer and leave (specs/Services.antt): `Demands`. proofs/Demands.antt proves them for
+-- all limits that refuse repeated names and have six words to a row, and for those of 01.
+--
+-- A service is called with whatever bytes, words and lengths there are, and that its code ends is part of its proof. No public function has a
+-- `requires`, so nothing is tested beforehand: the contracts give the answer, the table and the output of `served` for every call.
+-- Assumes nothing: these are definitions.
+use Prim.Native.Nat.{ℕ, _*_, _≤_, _<_}
+use mathlib.Core.Path.{_≡_}
+use mathlib.Core.Logic.{_⊎_, _↔_}
+use mathlib.Core.List.{List, []}
+use lib.ListN.{length, getD, replicate}
+use Rattle.laws.specs.Lists.{filled}
+use Rattle.laws.specs.Bounds.{AllBelow}
+use Rattle.text.specs.Limits.{Limits, rowWords}
+use Rattle.text.specs.Tree.{Forest, size, rowsOf, startsOf}
+use Rattle.text.specs.Sheet.{numbers, paper}
+use Rattle.text.specs.Whole.{wholeOf, sheetOf, tableOf}
+use Rattle.text.specs.Doc.{Name, docOf}
+use Rattle.text.specs.Meaning.{Accepts}
+use Rattle.text.specs.Fault as Fault
+use Rattle.text.specs.Promised.{Filled}
+use Rattle.text.specs.declared.Reading.{Reading}
+use Rattle.contact.specs.Localize.{refusedLocal}
+use Rattle.contact.specs.Breaks.{Keeps}
+use Rattle.contact.specs.Breaks as Breaks
+use Rattle.contact.specs.Judging.{Judges}
+use Rattle.contact.specs.Conditions.{Broken, Smallest}
+use Rattle.contact.specs.Demand.{OrderOnly, PatchedText}
+use Rattle.contact.specs.Contract.{Localizes}
+use Rattle.contact.specs.Readback.{PatchedRows}
+use Rattle.contact.specs.Services.{Call, read, judge, localize, wordsOf, roomOf, Left, leaves, served}
+use Rattle.contact.specs.declared.Verdict.{Verdict}
+use Rattle.contact.specs.declared.LocalRefusal.{LocalRefusal}
+use Rattle.contact.specs.declared.Localized.{Localized}
+
+-- a list of bytes, as every lent text is
+abbrev pub Bytes : List ℕ → Type 0
+Bytes t = AllBelow 256 t
+
+-- the call is accepted: its first number is 0
+abbrev pub Passes : Limits → Call → Type 0
+Passes L c = served L c .answer .number ≡ 0
+
+-- ---- demand 1: every call ends, and leaves nothing else
+
+abbrev pub Within : (low high n : ℕ) → Type 0
+Within low high n = (low ≤ n) × (n ≤ high)
+
+-- the lines of the sheet that a service refuses by
+abbrev pub Lines : Call → ℕ → Type 0
+Lines (read text words) n = Within 1 7 n
+Lines (judge text words) n = Within 1 7 n ⊎ Within 11 14 n
+Lines (localize text language words room) n = Within 1 7 n ⊎ Within 11 14 n ⊎ Within 21 28 n
+
+-- how a call ends
+pub data Ends (c : Call) : Left → Type 0 where
+  -- with acceptance: so many rows, which have room in the table, and so many bytes, which have room in the output; what is unused is zero
+  acceptance : (rows bytes : List ℕ) (count : ℕ) → length rows ≡ rowWords * count → length rows ≤ wordsOf c → length bytes ≤ roomOf c
+      → Ends c (leaves (numbers 0 count (length bytes)) (filled (wordsOf c) rows) (filled (roomOf c) bytes))
+  -- or with one numbered refusal of the sheet: every word and every byte that was lent is zero
+  refusal : {number second : ℕ} → Lines c number → Ends c (leaves (numbers number second 0) (replicate (wordsOf c) 0) (replicate (roomOf c) 0))
+
+-- what reading's contract allows as its answer and as what is left in a table of so many words; for the others `Judges` and `Localizes` say it
+pub record Reads (L : Limits) (words : ℕ) (t : List ℕ) (answer : Reading) (table : List ℕ) : Type 0 where
+  pub answered : paper answer ≡ sheetOf (wholeOf L words t)
+  pub left : table ≡ tableOf words (wholeOf L words t)
+
+pub record EveryCall (L : Limits) : Type 0 where
+  -- whatever is lent, a call ends with acceptance or one numbered refusal; after a refusal all is zero, after acceptance all that is unused
+  pub ends : (c : Call) → Ends c (served L c)
+  -- for every input, answer, table and output are determined: two outcomes that a contract allows are equal
+  pub one-reading : (words : ℕ) (t : List ℕ) (a b : Reading) (x y : List ℕ) → Reads L words t a x → Reads L words t b y → (a ≡ b) × (x ≡ y)
+  pub one-judging : (t lent : List ℕ) (a b : Verdict) (x y : List ℕ) → Judges L t lent a x → Judges L t lent b y → (a ≡ b) × (x ≡ y)
+  pub one-localizing : (words room : ℕ) (t : List ℕ) (lang : Name) (a b : Localized) (x y o q : List ℕ)
+      → Localizes L words room t lang a x o → Localizes L words room t lang b y q → (a ≡ b) × (x ≡ y) × (o ≡ q)
+
+-- ---- demand 2: reading and judging
+
+-- t is a JSON text that keeps I-JSON's rules within the limits, f is its tree, and a table of so many words has rows enough
+pub record Readable (L : Limits) (words : ℕ) (t : List ℕ) (f : Forest) : Type 0 where
+  pub accepts : Accepts L t f
+  pub enough : L .words * size f ≤ words
+
+-- the same, and what it says keeps the listed rules
+pub record CardText (L : Limits) (words : ℕ) (t : List ℕ) (f : Forest) : Type 0 where
+  pub readable : Readable L words t f
+  pub keeps : Keeps (docOf t f)
+
+-- t would be accepted, but it has n values, and a table of so many words has fewer whole rows
+pub record RowsShort (L : Limits) (words : ℕ) (t : List ℕ) (n : ℕ) : Type 0 where
+  pub tree : Forest
+  pub accepts : Accepts L t tree
+  pub short : words < L .words * size tree
+  pub needed : n ≡ size tree
+
+-- t is read, the rule of number n is the first that it breaks as a card, and p is where the value of that row starts
+pub record Offends (L : Limits) (words : ℕ) (t : List ℕ) (n p : ℕ) : Type 0 where
+  pub tree : Forest
+  pub readable : Readable L words t tree
+  pub row : ℕ
+  pub first : Breaks.First (docOf t tree) row n
+  pub place : p ≡ getD (startsOf tree) row 0
+
+pub record ReadingAndJudging (L : Limits) : Type 0 where
+  -- reading accepts exactly the JSON texts that keep I-JSON's rules, within the limits and given rows enough
+  pub accepts : (t : List ℕ) → Bytes t → (words : ℕ) → Passes L (read t words) ↔ ((f : Forest) × Readable L words t f)
+  -- it leaves the rows of that text's tree, one for each value
+  pub rows : (t : List ℕ) (words : ℕ) (f : Forest) → Readable L words t f
+      → served L (read t words) ≡ leaves (numbers 0 (size f) 0) (filled words (rowsOf f)) []
+  -- and these describe the text: the tree stands in the table and lies in the text
+  pub describe : (t : List ℕ) (words : ℕ) (f : Forest) → Readable L words t f → Filled L t (served L (read t words) .table) (size f) f
+  -- any other text is refused: by 1 if it is too long
+  pub too-long : (t : List ℕ) (words second : ℕ) → (served L (read t words) .answer ≡ numbers 1 second 0) ↔ ((L .bytes < length t) × (second ≡ 0))
+  -- else by 2 to 6 if it has such a fault, by the one of smallest place and then of smallest number
+  pub first-fault : (t : List ℕ) → Bytes t → length t ≤ L .bytes → (words n p : ℕ) → Within 2 6 n
+      → (served L (read t words) .answer ≡ numbers n p 0) ↔ Fault.First L t n p
+  -- else by 7, with the rows needed
+  pub rows-short : (t : List ℕ) → Bytes t → (words n : ℕ) → (served L (read t words) .answer ≡ numbers 7 n 0) ↔ RowsShort L words t n
+  -- judging refuses as reading does what reading refuses
+  pub unread : (t : List ℕ) (words : ℕ) → ¬ Passes L (read t words) → served L (judge t words) ≡ served L (read t words)
+  -- a card passes exactly when it keeps the listed rules, and its rows are left
+  pub passes : (t : List ℕ) → Bytes t → (words : ℕ) → Passes L (judge t words) ↔ ((f : Forest) × CardText L words t f)
+  pub card-rows : (t : List ℕ) (words : ℕ) (f : Forest) → CardText L words t f → served L (judge t words) ≡ served L (read t words)
+  -- otherwise the first offending place and its rule come back, of any text that is read
+  pub offends : (t : List ℕ) → Bytes t → (words n p : ℕ) → Passes L (read t words) → 0 < n
+      → (served L (judge t words) .answer ≡ numbers n p 0) ↔ Offends L words t n p
+  -- and the row of that place is one of the text's
+  pub offender : (t : List ℕ) (words n p : ℕ) (o : Offends L words t n p) → o .row < size (o .tree)
+
+-- ---- demand 3: localizing
+
+-- what an accepted localization of the card text t, of which f is the tree, has left
+pub record Localization (L : Limits) (words room : ℕ) (t : List ℕ) (f : Forest) (lang : Name) : Type 0 where
+  pub text : List ℕ
+  pub tree : Forest
+  -- the row count and the length are those of the written card
+  pub left : served L (localize t lang words room) ≡ leaves (numbers 0 (size tree) (length text)) (filled words (rowsOf tree)) (filled room text)
+  -- Set or removed one at a time, in any order, from the card without its localizations, each entry finds its parent, and the end is the written card,
+  -- member order not counted. Each entry has its way; a property that no pointer names, enters or covers keeps its value; what is kept stays at its
+  -- place, and what is added follows in ascending order of name (`Patched`, specs/Demand.antt).
+  pub patched : PatchedText (docOf t f) lang text
+  -- the written text is read back as the patched card; it is no longer than t and has no more values
+  pub back : PatchedRows L t f lang text tree
+  -- and is a card itself: the whole result was judged
+  pub card : CardText L words text tree
+
+pub record Localizing (L : Limits) : Type 0 where
+  -- the card's own refusal comes first
+  pub own : (t : List ℕ) (lang : Name) (words room : ℕ) → ¬ Passes L (judge t words)
+      → served L (localize t lang words room) .answer ≡ served L (judge t words) .answer
+  -- the entries of the PatchObject in any order, white space aside: the same answer, table and output, refusals too
+  pub any-order : (t u : List ℕ) (lang : Name) (words room : ℕ) (f g : Forest) → CardText L words t f → CardText L words u g
+      → OrderOnly lang (docOf t f) (docOf u g) → served L (localize t lang words room) ≡ served L (localize u lang words room)
+  -- all patches or none: what is accepted is patched by all entries, as the set-or-remove definition says, and is judged as a whole
+  pub patched : (t : List ℕ) (lang : Name) (words room : ℕ) (f : Forest) → CardText L words t f → Passes L (localize t lang words room)
+      → Localization L words room t f lang
+  -- it is accepted exactly when none of the conditions 21 to 28 is broken
+  pub accepted : (t : List ℕ) (lang : Name) (words room : ℕ) (f : Forest) → CardText L words t f
+      → Passes L (localize t lang words room) ↔ ((n : ℕ) (r : LocalRefusal) → ¬ Broken L words room (docOf t f) lang n r)
+  -- and else refused by the broken condition of smallest number
+  pub refused : (t : List ℕ) (lang : Name) (words room : ℕ) (f : Forest) → CardText L words t f → (n second : ℕ) → 0 < n
+      → (served L (localize t lang words room) .answer ≡ numbers n second 0)
+      ↔ ((r : LocalRefusal) × (refusedLocal r ≡ numbers n second 0) × Smallest L words room (docOf t f) lang n r)
+  -- an output as long as the card's text always has room
+  pub room-enough : (t : List ℕ) (lang : Name) (words room needed : ℕ) → served L (localize t lang words room) .answer ≡ numbers 27 needed 0
+      → (room < needed) × (needed ≤ length t)
+  -- the refusal inside 28 can be 5 or 11 to 14
+  pub inner : (t : List ℕ) (lang : Name) (words room number : ℕ) → served L (localize t lang words room) .answer ≡ numbers 28 number 0
+      → (number ≡ 5) ⊎ Within 11 14 number
+
+-- ---- all three
+
+pub record Demands (L : Limits) : Type 0 where
+  pub every-call : EveryCall L
+  pub reading-and-judging : ReadingAndJudging L
+  pub localizing : Localizing L

@@ -1,0 +1,41 @@
+-- The three services as a caller sees them: what a call lends, and what it leaves: the three numbers of the answer, the whole table and the whole output.
+-- These are the sides of the public contracts, under one name. Assumes nothing: these are definitions.
+use Prim.Native.Nat.{ℕ}
+use mathlib.Core.List.{List, []}
+use Rattle.text.specs.Limits.{Limits}
+use Rattle.text.specs.declared.Paper.{Paper}
+use Rattle.text.specs.Whole.{wholeOf, sheetOf, tableOf}
+use Rattle.text.specs.Doc.{Name}
+use Rattle.contact.specs.Verdict.{judgedOf, sheetOfJudged, tableOfJudged}
+use Rattle.contact.specs.Localize.{localizedOf, sheetOfOutcome, tableOfOutcome, outputOfOutcome}
+
+-- a text and a table of so many words; to localize, also a language and an output of so many bytes
+pub data Call : Type 0 where
+  read judge : (text : List ℕ) → (words : ℕ) → Call
+  localize : (text : List ℕ) → (language : Name) → (words room : ℕ) → Call
+
+abbrev pub wordsOf : Call → ℕ
+wordsOf (read text words) = words
+wordsOf (judge text words) = words
+wordsOf (localize text language words room) = words
+
+-- reading and judging are lent no output
+abbrev pub roomOf : Call → ℕ
+roomOf (read text words) = 0
+roomOf (judge text words) = 0
+roomOf (localize text language words room) = room
+
+-- what a call leaves
+pub record Left : Type 0 where
+  pub answer : Paper
+  pub table : List ℕ
+  pub output : List ℕ
+
+abbrev pub leaves : Paper → (table output : List ℕ) → Left
+leaves answer table output = record { answer = answer; table = table; output = output }
+
+unfoldable pub served : Limits → Call → Left
+served L (read text words) = let r = wholeOf L words text in leaves (sheetOf r) (tableOf words r) []
+served L (judge text words) = let j = judgedOf L words text in leaves (sheetOfJudged j) (tableOfJudged words j) []
+served L (localize text language words room) =
+    let o = localizedOf L words room text language in leaves (sheetOfOutcome o) (tableOfOutcome words o) (outputOfOutcome room o)

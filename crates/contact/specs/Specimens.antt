@@ -1,0 +1,179 @@
+-- 01's specimens, those marked (P) and some more, on whole texts and whole cards, as one statement over a list of cases: for each call of a service
+-- the three numbers of the answer, the whole table and the whole output. Each line of the refusal sheet stands here at least once.
+-- Assumes nothing.
+use Prim.Native.Nat.{ℕ, _+_}
+use Prim.Native.String.{String}
+use mathlib.Core.Path.{_≡_, refl}
+use mathlib.Core.List.{List, [], _∷_, _++_, map}
+use mathlib.Core.Bool.{true}
+use lib.ListN.{replicate}
+use Rattle.laws.specs.Lists.{filled, partOf}
+use Rattle.laws.specs.Scan.{scan}
+use Rattle.laws.specs.Order.{orderOf}
+use Rattle.text.specs.Limits.{Limits, rowWords, base}
+use Rattle.text.specs.Text.{bytes}
+use Rattle.text.specs.Chars.{digitOf, hex4Of, digitAt, hex4At, checkedAt, tailOf, seq2, seq3, seq4, tailAt, rawAt, letterOf, lowAt, pairAt, unitAt, onHex, escapeAt, stepBy}
+use Rattle.text.specs.Strings.{stringEnd, conts, utf8, pieceBy, decodeFrom}
+use Rattle.text.specs.Tokens.{runEnd, wordAt, digitsAt, minusEnd, intAt, fracAt, signEnd, expAt, numberAt, kindBy, tokenAt}
+use Rattle.text.specs.Tree.{size, rowsOf, startsOf, join}
+use Rattle.text.specs.Reader.{scalarWith, scalarAt, closeOf, container, deep, valueWith, afterItem, itemsFrom, insideOf, named, colonAt, memberWith, memberOf, valueAt, elementsAt, membersAt, arrayAt, objectAt}
+use Rattle.text.specs.Sheet.{numbers, refused}
+use Rattle.text.specs.Whole.{endOf, readOf, fitOf, wholeOf, sheetOf, tableOf}
+use Rattle.text.specs.Doc.{membersOf, docOf, countOf, countAll}
+use Rattle.contact.specs.Schema.{properties, typeIn}
+use Rattle.contact.specs.Values.{every, idByte, isId, valueFrom, isCount}
+use Rattle.contact.specs.Dates.{monthLengths, isLeap, daysOf, isDay, shaped, fractionEnds, ends, inRange, isTime}
+use Rattle.contact.specs.Rules.{present, isString, isSeparator, marksOf, anyMark, allMarks, adjacent, breaksCard, breaksSeparators, breaksName}
+use Rattle.contact.specs.Judge.{lacking, rowNumber, breachOf, breachAmong}
+use Rattle.contact.specs.Verdict.{refusedFault, refusedCard, faultOf, placed, judgedRead, judgedOf, sheetOfJudged, tableOfJudged}
+use Rattle.contact.specs.Localize.{refusedLocal, byJudge, byRoom, byEntries, inPatch, withPatch, localizedDoc, localizedJudged, localizedOf, sheetOfOutcome, tableOfOutcome, outputOfOutcome}
+use Rattle.contact.specs.Services.{Call, read, judge, localize, wordsOf, roomOf, Left, leaves, served}
+
+-- ---- cases
+
+-- a call under limits, and what it leaves
+pub record Case : Type 0 where
+  pub limits : Limits
+  pub call : Call
+  pub left : Left
+
+-- what the definitions say of a case's call
+unfoldable pub worked : Case → Case
+worked c = record { limits = c .limits; call = c .call; left = served (c .limits) (c .call) }
+
+-- accepted: the row count and the bytes written, the rows and the bytes; and zero after them
+abbrev accepted : Call → (count written : ℕ) → (rows output : List ℕ) → Case
+accepted c count written rows output =
+    record { limits = base; call = c; left = leaves (numbers 0 count written) (filled (wordsOf c) rows) (filled (roomOf c) output) }
+
+-- refused: the number and the second number; and zero alone
+abbrev refusedUnder : Limits → Call → (number second : ℕ) → Case
+refusedUnder L c number second = record { limits = L; call = c; left = leaves (numbers number second 0) (replicate (wordsOf c) 0) (replicate (roomOf c) 0) }
+
+abbrev refusedAt : Call → (number second : ℕ) → Case
+refusedAt = refusedUnder base
+
+-- small limits, so that a short text is over them: 9 bytes, 2 open at once, 3 values
+abbrev tight : Limits
+tight = record { bytes = 9; depth = 2; values = 3; words = rowWords; unique = true }
+
+-- ---- texts
+
+-- a card with more members
+abbrev with : List ℕ → List ℕ
+with more = bytes "{\"@type\":\"Card\",\"version\":\"1.0\",\"uid\":\"u1\"" ++ more ++ bytes "}"
+
+abbrev withPref : String → List ℕ
+withPref p = with (bytes ",\"emails\":{\"e1\":{\"address\":\"a\",\"pref\":" ++ bytes p ++ bytes "}}")
+
+abbrev withId : List ℕ → List ℕ
+withId id = with (bytes ",\"addresses\":{\"" ++ id ++ bytes "\":{}}")
+
+abbrev created : String → List ℕ
+created time = with (bytes ",\"created\":\"" ++ bytes time ++ bytes "\"")
+
+abbrev name : String → List ℕ
+name inside = bytes ",\"name\":{" ++ bytes inside ++ bytes "}"
+
+-- a card with more members and a PatchObject for `de`
+abbrev patched : List ℕ → String → List ℕ
+patched more patch = with (more ++ bytes ",\"localizations\":{\"de\":{" ++ bytes patch ++ bytes "}}")
+
+-- judged with a table of 50 words; localized for `de` with a table of 100 words and an output of 99 bytes
+abbrev judging : List ℕ → Call
+judging text = judge text 50
+
+abbrev localizing : List ℕ → Call
+localizing text = localize text (bytes "de") 100 99
+
+-- ---- rows
+
+abbrev row : (kind name-start name-end start end below : ℕ) → List ℕ
+row kind name-start name-end start end below = kind ∷ name-start ∷ name-end ∷ start ∷ end ∷ below ∷ []
+
+-- those of a card with more members, of which the last ends before `end`
+abbrev cardRows : (end below : ℕ) → List ℕ → List ℕ
+cardRows end below more = row 7 0 0 0 end below ++ row 5 2 7 9 15 0 ++ row 5 17 24 26 31 0 ++ row 5 33 36 38 42 0 ++ more
+
+abbrev prefRows : (end : ℕ) → List ℕ
+prefRows end = cardRows (end + 3) 7 (row 7 44 50 52 (end + 2) 3 ++ row 7 54 56 58 (end + 1) 2 ++ row 5 60 67 69 72 0 ++ row 4 74 78 80 end 0)
+
+-- ---- the cases
+
+unfoldable pub cases : List Case
+cases =
+    -- (P) the empty text: 2 at 0
+    refusedAt (read [] 12) 2 0
+    -- (P) a name again, written with an escape: 4 at 7; also where the table has no row
+    ∷ refusedAt (read (bytes "{\"a\":1,\"\\u0061\":2}") 18) 4 7
+    ∷ refusedAt (read (bytes "{\"a\":1,\"\\u0061\":2}") 0) 4 7
+    -- (P) a lone surrogate: 3 at 1
+    ∷ refusedAt (read (bytes "\"\\uD800\"") 6) 3 1
+    -- (P) three rows
+    ∷ accepted (read (bytes "{\"a\":[1]}") 20) 3 0 (row 7 0 0 0 9 2 ++ row 6 2 3 5 8 1 ++ row 4 0 0 6 7 0) []
+    -- a table without a third whole row: 7, three needed
+    ∷ refusedAt (read (bytes "{\"a\":[1]}") 17) 7 3
+    ∷ refusedAt (read (bytes "{\"a\":[1]}") 0) 7 3
+    -- the 33rd open array: 5
+    ∷ refusedAt (read (replicate 33 91) 6) 5 32
+    -- small limits: 1, 5 and 6 one past each, and 5 before 6 at one place
+    ∷ refusedUnder tight (read (bytes "[1, 22, 3]") 60) 1 0
+    ∷ refusedUnder tight (read (bytes "[[[]]]") 60) 5 2
+    ∷ refusedUnder tight (read (bytes "[1,2,3]") 60) 6 5
+    ∷ refusedUnder tight (read (bytes "[[1,[]]]") 60) 5 4
+    -- (P) pref 1 and 100 pass; 0, 101 and 1.0 are 13
+    ∷ accepted (judging (withPref "1")) 8 0 (prefRows 81) []
+    ∷ accepted (judging (withPref "100")) 8 0 (prefRows 83) []
+    ∷ refusedAt (judging (withPref "0")) 13 80
+    ∷ refusedAt (judging (withPref "101")) 13 80
+    ∷ refusedAt (judging (withPref "1.0")) 13 80
+    -- (P) an Id of 255 bytes passes, 256 and empty are 13
+    ∷ accepted (judging (withId (replicate 255 97))) 6 0 (cardRows 318 5 (row 7 44 53 55 317 1 ++ row 7 57 312 314 316 0)) []
+    ∷ refusedAt (judging (withId (replicate 256 97))) 13 315
+    ∷ refusedAt (judging (withId [])) 13 59
+    -- (P) a fraction passes unless it ends in 0
+    ∷ accepted (judging (created "2010-10-10T10:10:10.003Z")) 5 0 (cardRows 80 4 (row 5 44 51 53 79 0)) []
+    ∷ refusedAt (judging (created "2010-10-10T10:10:10.000Z")) 13 53
+    -- (P) 2000-02-29 is a day, 1900-02-29 isn't
+    ∷ accepted (judging (created "2000-02-29T00:00:00Z")) 5 0 (cardRows 76 4 (row 5 44 51 53 75 0)) []
+    ∷ refusedAt (judging (created "1900-02-29T00:00:00Z")) 13 53
+    -- a wrong kind; a mandatory member that is missing; a rule between members
+    ∷ refusedAt (judging (with (bytes ",\"kind\":5"))) 11 50
+    ∷ refusedAt (judging (bytes " {}")) 12 1
+    ∷ refusedAt (judging (with (name ""))) 14 50
+    -- no such language; a loose `~`; a pointer into `localizations`
+    ∷ refusedAt (localizing (with [])) 21 0
+    ∷ refusedAt (localizing (patched [] "\"~2\":1")) 22 0
+    ∷ refusedAt (localizing (patched [] "\"localizations/de\":null")) 23 0
+    -- (P) keys `emails/e1` and `emails/e10` don't clash
+    ∷ accepted (localizing (patched (bytes ",\"emails\":{\"e1\":{\"address\":\"a\"},\"e10\":{\"address\":\"b\"}}") "\"emails/e1\":null,\"emails/e10\":null")) 5 55
+    (cardRows 55 4 (row 7 44 50 52 54 0)) (with (bytes ",\"emails\":{}"))
+    -- (P) `name` and `name/full` are 24
+    ∷ refusedAt (localizing (patched (name "\"full\":\"Ann\"") "\"name\":null,\"name/full\":\"Anne\"")) 24 0
+    -- (P) `name/components/0` is 25 where components is an array
+    ∷ refusedAt (localizing (patched (name "\"components\":[{\"kind\":\"given\",\"value\":\"Ann\"}]") "\"name/components/0\":1")) 25 0
+    -- (P) `name/full/x` is 26 where full is a string
+    ∷ refusedAt (localizing (patched (name "\"full\":\"Ann\"") "\"name/full/x\":1")) 26 0
+    -- (P) null on `uid` is 28 with 12
+    ∷ refusedAt (localizing (patched [] "\"uid\":null")) 28 12
+    -- an output that is one byte short is 27, also where more room would give 28
+    ∷ refusedAt (localize (patched (name "\"full\":\"Ann\"") "") (bytes "de") 100 64) 27 65
+    ∷ refusedAt (localize (patched [] "\"uid\":null") (bytes "de") 100 31) 27 32
+    -- an empty PatchObject gives the card without localizations
+    ∷ accepted (localizing (patched (name "\"full\":\"Ann\"") "")) 6 65 (cardRows 65 5 (row 7 44 48 50 64 1 ++ row 5 52 56 58 63 0)) (with (name "\"full\":\"Ann\""))
+    -- a name with just `full` and `components`, null on both: 28 with 14
+    ∷ refusedAt (localizing (patched (name "\"full\":\"Ann\",\"components\":[{\"kind\":\"given\",\"value\":\"Ann\"}]") "\"name/full\":null,\"name/components\":null")) 28 14
+    -- `~01` is `~1`, not `/`
+    ∷ accepted (localizing (patched [] "\"~01\":1")) 5 50 (cardRows 50 4 (row 4 44 46 48 49 0)) (with (bytes ",\"~1\":1"))
+    -- the whole example, for a table of twelve rows and an output as long as the card text
+    ∷ accepted
+    (localize
+    (bytes "{\"@type\":\"Card\",\"version\":\"1.0\",\"uid\":\"u1\",\"name\":{\"full\":\"Ann\"},\"localizations\":{\"de\":{\"ex.com:b\":2,\"name/full\":\"Anne\",\"ex.com:a\": 1}}}")
+    (bytes "de") 72 136)
+    8 92 (cardRows 92 7 (row 7 44 48 50 65 1 ++ row 5 52 56 58 64 0 ++ row 4 67 75 77 78 0 ++ row 4 80 88 90 91 0))
+    (bytes "{\"@type\":\"Card\",\"version\":\"1.0\",\"uid\":\"u1\",\"name\":{\"full\":\"Anne\"},\"ex.com:a\":1,\"ex.com:b\":2}")
+    ∷ []
+
+pub specimens : map worked cases ≡ cases
+unfolding worked cases served partOf scan orderOf digitOf hex4Of digitAt hex4At checkedAt tailOf seq2 seq3 seq4 tailAt rawAt letterOf lowAt pairAt unitAt onHex escapeAt stepBy stringEnd conts utf8 pieceBy decodeFrom runEnd wordAt digitsAt minusEnd intAt fracAt signEnd expAt numberAt kindBy tokenAt size rowsOf startsOf join scalarWith scalarAt closeOf container deep valueWith afterItem itemsFrom insideOf named colonAt memberWith memberOf valueAt elementsAt membersAt arrayAt objectAt refused endOf readOf fitOf wholeOf sheetOf tableOf membersOf docOf countOf countAll properties typeIn every idByte isId valueFrom isCount monthLengths isLeap daysOf isDay shaped fractionEnds ends inRange isTime present isString isSeparator marksOf anyMark allMarks adjacent breaksCard breaksSeparators breaksName lacking rowNumber breachOf breachAmong refusedFault refusedCard faultOf placed judgedRead judgedOf sheetOfJudged tableOfJudged refusedLocal byJudge byRoom byEntries inPatch withPatch localizedDoc localizedJudged localizedOf sheetOfOutcome tableOfOutcome outputOfOutcome
+specimens = refl
