@@ -1,4 +1,6 @@
-// The intake for those who link it from C: thin functions over reading, whose answers go into three lent words.
+// The intake for those who link it from C: thin functions over reading and judging, whose answers go into three lent words.
+use card::judge::judge;
+use card::sheet::verdict_on_paper;
 use json::read::read;
 use json::sheet::on_paper;
 use text::Paper;
@@ -6,6 +8,7 @@ ghost use mathlib.Core.Path.{_≡_};
 ghost use lib.ListN.{length};
 ghost use Rattle.text.specs.Limits.{base};
 ghost use Rattle.text.specs.Whole.{wholeOf, sheetOf, tableOf};
+ghost use Rattle.contact.specs.Verdict.{judgedOf, sheetOfJudged, tableOfJudged};
 ghost use Rattle.bezinkol.specs.Answer.{words};
 
 // The three numbers of an answer, in their order.
@@ -23,4 +26,14 @@ pub extern "C" fn bezinkol_read(text: &[u8], table: &mut [u32], answer: &mut [u6
 {
     let r = read(text, table);
     put_answer(on_paper(r), answer);
+}
+
+// Judges a text as a card.
+#[no_mangle]
+pub extern "C" fn bezinkol_judge(text: &[u8], table: &mut [u32], answer: &mut [u64; 3])
+    ensures { λ _. ⌜ now (answer .exit) ≡ words (sheetOfJudged (judgedOf base (length (now (table .entry))) (now (text .entry)))) ⌝ }
+    ensures { λ _. ⌜ now (table .exit) ≡ tableOfJudged (length (now (table .entry))) (judgedOf base (length (now (table .entry))) (now (text .entry))) ⌝ }
+{
+    let v = judge(text, table);
+    put_answer(verdict_on_paper(v), answer);
 }
