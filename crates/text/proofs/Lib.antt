@@ -15,3 +15,4 @@ pub mod Outcomes
 pub mod Promise
 pub mod NewNames
 pub mod Labels
+pub mod Lengths
