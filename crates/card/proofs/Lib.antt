@@ -4,3 +4,4 @@ pub mod PointerLaws
 pub mod MemberLaws
 pub mod PathLaws
 pub mod EntryLaws
+pub mod PointerOrders

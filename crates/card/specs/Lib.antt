@@ -3,3 +3,4 @@ pub mod Pointers
 pub mod Entries
 pub mod Members
 pub mod Paths
+pub mod Runs

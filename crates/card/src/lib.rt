@@ -5,9 +5,11 @@
 //   paths     where a pointer leads
 //   pointers  keys as pointers: prefixes, order, bad tildes
 //   sheet     the answers in the refusal sheet's numbers
+//   sort      rows of entries, in the order of their pointers
 mod entries;
 mod members;
 mod parts;
 mod paths;
 mod pointers;
 pub mod sheet;
+mod sort;

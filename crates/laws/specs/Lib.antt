@@ -3,3 +3,4 @@ pub mod Lists
 pub mod Bounds
 pub mod Order
 pub mod Each
+pub mod Sorting
