@@ -1,3 +1,4 @@
 -- What the proofs of several functions share.
 pub mod PartLaws
 pub mod PointerLaws
+pub mod Bytes

@@ -2,3 +2,4 @@ pub mod Parts
 pub mod Pointers
 pub mod Entries
 pub mod Runs
+pub mod Written

@@ -1,5 +1,7 @@
 // Judging and localizing a card.
 //   parts     one part of a pointer, read off a key as the key is decoded
 //   pointers  keys as pointers: prefixes, order, bad tildes
+//   output    bytes, parts of a text and names, counted always and stored where they fit
+mod output;
 mod parts;
 mod pointers;

@@ -7,3 +7,4 @@ pub mod Branches
 pub mod Orders
 pub mod Parts
 pub mod Cleared
+pub mod Stores
