@@ -2,3 +2,5 @@
 pub mod PartLaws
 pub mod PointerLaws
 pub mod Bytes
+pub mod Walks
+pub mod Copies

@@ -3,3 +3,4 @@ pub mod Pointers
 pub mod Entries
 pub mod Runs
 pub mod Written
+pub mod Copied
