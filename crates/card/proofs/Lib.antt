@@ -5,3 +5,6 @@ pub mod MemberLaws
 pub mod PathLaws
 pub mod EntryLaws
 pub mod PointerOrders
+pub mod Bytes
+pub mod Walks
+pub mod Copies

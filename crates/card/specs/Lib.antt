@@ -4,3 +4,5 @@ pub mod Entries
 pub mod Members
 pub mod Paths
 pub mod Runs
+pub mod Written
+pub mod Copied

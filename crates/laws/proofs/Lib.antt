@@ -13,3 +13,4 @@ pub mod Sorting
 pub mod Slices
 pub mod Merging
 pub mod Halving
+pub mod Stores
