@@ -8,3 +8,5 @@ pub mod PointerOrders
 pub mod Bytes
 pub mod Walks
 pub mod Copies
+pub mod ChildLaws
+pub mod ConditionLaws

@@ -6,3 +6,5 @@ pub mod Paths
 pub mod Runs
 pub mod Written
 pub mod Copied
+pub mod Patches
+pub mod Conditions
