@@ -30,7 +30,7 @@ abbrev pub nameAt : (t table rows : List ℕ) → ℕ → Name
 nameAt t table rows i = decode (keyBytes t table (getD rows i 0))
 
 -- the member at a place, and those after it
-pub record First (t table rows : List ℕ) (i n : ℕ) (ms : Members) : Type 0 where
+record First (t table rows : List ℕ) (i n : ℕ) (ms : Members) : Type 0 where
   pub label : List ℕ
   pub value : Doc
   pub rest : Members
@@ -38,7 +38,7 @@ pub record First (t table rows : List ℕ) (i n : ℕ) (ms : Members) : Type 0 w
   pub listed : Listed t table rows (i + 1) n rest
 
 module _ {t table rows : List ℕ} where
-  pub first-at : {i n : ℕ} {ms : Members} → Listed t table rows i n ms → i < n → First t table rows i n ms
+  first-at : {i n : ℕ} {ms : Members} → Listed t table rows i n ms → i < n → First t table rows i n ms
   first-at over lt = absurd (omega arith)
   first-at (next {i} {n} {ms} g h s k stands l) lt =
       let r = row-at g s stands in

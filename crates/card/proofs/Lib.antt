@@ -10,3 +10,5 @@ pub mod Walks
 pub mod Copies
 pub mod ChildLaws
 pub mod ConditionLaws
+pub mod EntryOrders
+pub mod RunLaws

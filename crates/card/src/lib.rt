@@ -7,6 +7,7 @@
 //   patches   the PatchObject of a language
 //   paths     where a pointer leads
 //   pointers  keys as pointers: prefixes, order, bad tildes
+//   runs      where a name parts a run of sorted entries
 //   sheet     the answers in the refusal sheet's numbers
 //   sort      rows of entries, in the order of their pointers
 //   writing   values written as they are, or as the entries of a patch leave them
@@ -18,6 +19,7 @@ mod parts;
 mod patches;
 mod paths;
 mod pointers;
+mod runs;
 pub mod sheet;
 mod sort;
 mod writing;
