@@ -4,3 +4,6 @@ pub mod PointerLaws
 pub mod Bytes
 pub mod Walks
 pub mod Copies
+pub mod MemberRuns
+pub mod PatchLaws
+pub mod Additions

@@ -4,3 +4,4 @@ pub mod Entries
 pub mod Runs
 pub mod Written
 pub mod Copied
+pub mod Patched
