@@ -1,6 +1,12 @@
 -- What the proofs of several functions share.
 pub mod PartLaws
 pub mod PointerLaws
+pub mod MemberLaws
+pub mod PathLaws
+pub mod EntryLaws
+pub mod PointerOrders
+pub mod EntryOrders
+pub mod RunLaws
 pub mod Bytes
 pub mod Walks
 pub mod Copies

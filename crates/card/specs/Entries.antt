@@ -1,17 +1,21 @@
 -- The entries of a PatchObject by the rows at which they stand, in an order that may be another than the text's.
 -- Assumes nothing: these are definitions.
-use Prim.Native.Nat.{ℕ, _+_, _<_}
+use Prim.Native.Nat.{ℕ, _+_, _<_, _≤_}
+use mathlib.Core.Bool.{Bool, true, false, cond}
 use mathlib.Core.List.{List, [], _∷_}
 use lib.ListN.{getD}
 use Rattle.laws.specs.declared.Order.{Order}
 use Rattle.text.specs.Strings.{nameOf}
-use Rattle.text.specs.Tree.{Forest}
+use Rattle.laws.specs.Lists.{partOf}
+use Rattle.text.specs.Tree.{Forest, size}
 use Rattle.text.specs.Firsts.{Some, Kinds, nameStart, nameEnd}
-use Rattle.text.specs.Standing.{Stands}
-use Rattle.text.specs.Doc.{Name, Members, empty, member, labelAt, docOf}
+use Rattle.text.specs.Standing.{Stands, StandsTo}
+use Rattle.text.specs.Doc.{Name, Doc, Members, empty, member, labelAt, docOf}
 use Rattle.json.specs.Rows.{nameStartIn, nameEndIn}
 use Rattle.contact.specs.Pointer.{pointerOf}
-use Rattle.contact.specs.Patch.{Entry, entry, changeOf}
+use Rattle.contact.specs.Patch.{Entry, entry, changeOf, Walk, arrives, inArray, noObject, isInArray, isNoObject, anyWalk}
+use Rattle.card.specs.declared.entries.Clash.{Clash}
+use Rattle.card.specs.declared.entries.Clash.the-variants.{Pair, Nothing}
 use Rattle.card.specs.Pointers.{pointerOrder, strip}
 
 -- at the rows that the words i up to n of a list name stand these members, one after the other
@@ -25,9 +29,33 @@ unfoldable pub stripped : (parts : ℕ) → Members → List Entry
 stripped parts empty = []
 stripped parts (member key label d ms) = entry (strip parts (pointerOf key)) (changeOf d) ∷ stripped parts ms
 
+-- ---- keys at rows
+
+-- the key at a row, as it is written
+abbrev pub keyBytes : (t table : List ℕ) → (row : ℕ) → List ℕ
+keyBytes t table row = partOf t (nameStartIn table row) (nameEndIn table row)
+
 -- the decoded name at a row, and the order of two rows by their names as pointers
 abbrev pub keyAt : (t table : List ℕ) → (row : ℕ) → Name
 keyAt t table row = nameOf t (nameStartIn table row) (nameEndIn table row)
 
 abbrev pub rowOrder : (t table : List ℕ) → (row other : ℕ) → Order
 rowOrder t table row other = pointerOrder (pointerOf (keyAt t table row)) (pointerOf (keyAt t table other))
+
+-- ---- listing and testing
+
+-- values stand between two rows of a table, and their rows fit a list of so many words
+pub record Collects (table : List ℕ) (from end room : ℕ) : Type 0 where
+  pub values : Forest
+  pub stand : StandsTo table from end values
+  pub room-for : size values ≤ room
+  pub few : end ≤ 65536
+
+-- 25 before 26: does any pointer lead inside an array, and if none does, to no object?
+unfoldable pub worstWalk : List Entry → Doc → Walk
+worstWalk es d = cond (anyWalk isInArray es d) inArray (cond (anyWalk isNoObject es d) noObject arrives)
+
+-- a clash was found
+abbrev pub isPair : Clash → Bool
+isPair (Pair row other) = true
+isPair Nothing = false

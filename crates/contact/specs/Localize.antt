@@ -13,7 +13,8 @@ use Rattle.text.specs.Tree.{Forest, size, rowsOf}
 use Rattle.text.specs.Doc.{Name, Doc, scalar, array, object, Members, Property, docOf}
 use Rattle.text.specs.Writing.{written}
 use Rattle.contact.specs.Verdict.{Judged, passed, failed, judgedOf, refusedCard}
-use Rattle.text.specs.Sheet.{Paper, numbers}
+use Rattle.text.specs.declared.Paper.{Paper}
+use Rattle.text.specs.Sheet.{numbers}
 use Rattle.contact.specs.Pointer.{Pointer, last, down, find}
 use Rattle.contact.specs.Patch.{Entry, entriesOf, anyBadKey, anyOwn, anyClash, anyWalk, isInArray, isNoObject, without, inObject, applied}
 use Rattle.contact.specs.declared.LocalRefusal.{LocalRefusal}
@@ -98,6 +99,11 @@ module _ (L : Limits) (words room : ℕ) where
   localizedOf text lang = localizedJudged text lang (judgedOf L words text)
 
 -- ---- the answer, the whole table and the whole output
+
+-- the answer as it is handed out, with 28's inner place, which the paper's numbers leave out
+unfoldable pub answerOfOutcome : Outcome → Localized
+answerOfOutcome (done text f) = Written (size f) (length text)
+answerOfOutcome (denied r) = Denied r
 
 -- in the paper's numbers: 0, the row count and the output's length; or the refusal's number and its second number
 unfoldable pub sheetOfOutcome : Outcome → Paper

@@ -9,7 +9,8 @@ use Rattle.text.specs.Limits.{Limits}
 use Rattle.laws.specs.Lists.{filled}
 use Rattle.text.specs.Tree.{Forest, size, rowsOf, startsOf}
 use Rattle.text.specs.Reader.{Read, good, bad}
-use Rattle.text.specs.Sheet.{Paper, numbers, refused}
+use Rattle.text.specs.declared.Paper.{Paper}
+use Rattle.text.specs.Sheet.{numbers, refused}
 use Rattle.text.specs.Whole.{wholeOf}
 use Rattle.text.specs.Doc.{docOf}
 use Rattle.contact.specs.Judge.{Breach, nothing, found, cardBreach}

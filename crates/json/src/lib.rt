@@ -5,6 +5,7 @@
 //   strings  where a string ends
 //   decode   a string's decoded bytes, one at a time
 //   names    names compared decoded
+//   sheet    an answer in the refusal sheet's numbers
 //   tokens   white space, literals and numbers
 //   rows     the words of a row, stored and read
 pub mod bytes;
@@ -13,5 +14,6 @@ pub mod decode;
 mod limits;
 pub mod names;
 pub mod rows;
+pub mod sheet;
 pub mod strings;
 mod tokens;

@@ -1,4 +1,4 @@
--- Facts that speak of no format: places and parts of a list, runs, the outcomes of a test, the order of two runs of bytes, and buffers being cleared.
+-- Facts that speak of no format: places and parts of a list, runs, the outcomes of a test, the order of two runs of bytes, buffers being cleared, and sorting.
 pub mod Places
 pub mod Bounds
 pub mod Splits
@@ -7,4 +7,10 @@ pub mod Branches
 pub mod Orders
 pub mod Parts
 pub mod Cleared
+pub mod Decides
+pub mod Bools
+pub mod Sorting
+pub mod Slices
+pub mod Merging
+pub mod Halving
 pub mod Stores

@@ -2,3 +2,5 @@ pub mod Scan
 pub mod Lists
 pub mod Bounds
 pub mod Order
+pub mod Each
+pub mod Sorting

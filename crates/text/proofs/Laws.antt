@@ -17,6 +17,7 @@ use Rattle.text.specs.declared.Step.{Step}
 use Rattle.text.specs.declared.Step.the-variants.{Close, Char, Bad2, Bad3}
 use Rattle.text.specs.declared.Token.the-variants.{End, No2, No3}
 use Rattle.laws.proofs.Places.{drop-byte}
+use Rattle.text.proofs.Sequences.{by-seq2, by-seq3, by-seq4}
 use Rattle.text.proofs.Walks.{end-at, decode-at, past-piece, close-inside, char-inside}
 
 -- ---- where a string ends ----
@@ -76,20 +77,20 @@ decode-plain l p = plain (suc (length l - 0)) l 0 p (omega arith)
 -- ---- the UTF-8 of a raw character ----
 
 pub two : (b x : ℕ) → 192 ≤ b → b < 224 → x < 64 → 128 ≤ b % 32 * 64 + x → utf8 (seq2 b x) ≡ b ∷ (128 + x) ∷ []
-unfolding seq2 utf8 conts
+unfolding utf8 conts
 two b x lo hi hx ov =
     let code : ℕ = b % 32 * 64 + x in
-    let s : seq2 b x ≡ code = simp (le-ltb 63 x (omega arith), le-ltb code 128 ov) in
+    let s : seq2 b x ≡ code = by-seq2 (λ c. c ≡ code) b x (λ h. absurd (omega arith)) (λ h. absurd (omega arith)) (λ h k. refl) in
     let u : utf8 code ≡ (192 + code / 64 % 32) ∷ (128 + code % 64) ∷ [] = simp (le-ltb code 128 ov, lt-ltb code 2048 (omega arith)) in
     let p : 192 + code / 64 % 32 ≡ b = omega arith in
     let q : 128 + code % 64 ≡ 128 + x = omega arith in
     ap utf8 s ∙ u ∙ ap₂ (λ (m n : ℕ). m ∷ n ∷ []) p q
 
 pub three : (b x y : ℕ) → 224 ≤ b → b < 240 → x < 64 → y < 64 → 2048 ≤ b % 16 * 4096 + x * 64 + y → utf8 (seq3 b x y) ≡ b ∷ (128 + x) ∷ (128 + y) ∷ []
-unfolding seq3 utf8 conts
+unfolding utf8 conts
 three b x y lo hi hx hy ov =
     let code : ℕ = b % 16 * 4096 + x * 64 + y in
-    let s : seq3 b x y ≡ code = simp (le-ltb 63 x (omega arith), le-ltb 63 y (omega arith), le-ltb code 2048 ov) in
+    let s : seq3 b x y ≡ code = by-seq3 (λ c. c ≡ code) b x y (λ h. absurd (omega arith)) (λ h. absurd (omega arith)) (λ h. absurd (omega arith)) (λ h k l. refl) in
     let u : utf8 code ≡ (224 + code / 4096 % 16) ∷ (128 + code / 64 % 64) ∷ (128 + code % 64) ∷ [] =
     simp (le-ltb code 128 (omega arith), le-ltb code 2048 ov, lt-ltb code 65536 (omega arith)) in
     let p : 224 + code / 4096 % 16 ≡ b = omega arith in
@@ -99,10 +100,10 @@ three b x y lo hi hx hy ov =
 
 pub four : (b x y z : ℕ) → 240 ≤ b → b < 248 → x < 64 → y < 64 → z < 64 → 65536 ≤ b % 8 * 262144 + x * 4096 + y * 64 + z
     → utf8 (seq4 b x y z) ≡ b ∷ (128 + x) ∷ (128 + y) ∷ (128 + z) ∷ []
-unfolding seq4 utf8 conts
+unfolding utf8 conts
 four b x y z lo hi hx hy hz ov =
     let code : ℕ = b % 8 * 262144 + x * 4096 + y * 64 + z in
-    let s : seq4 b x y z ≡ code = simp (le-ltb 63 x (omega arith), le-ltb 63 y (omega arith), le-ltb 63 z (omega arith), le-ltb code 65536 ov) in
+    let s : seq4 b x y z ≡ code = by-seq4 (λ c. c ≡ code) b x y z (λ h. absurd (omega arith)) (λ h. absurd (omega arith)) (λ h. absurd (omega arith)) (λ h. absurd (omega arith)) (λ h k l m. refl) in
     let u : utf8 code ≡ (240 + code / 262144 % 8) ∷ (128 + code / 4096 % 64) ∷ (128 + code / 64 % 64) ∷ (128 + code % 64) ∷ [] =
     simp (le-ltb code 128 (omega arith), le-ltb code 2048 (omega arith), le-ltb code 65536 ov) in
     let p : 240 + code / 262144 % 8 ≡ b = omega arith in

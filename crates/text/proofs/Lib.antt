@@ -1,5 +1,6 @@
 -- The theorems over the definitions of specs/, by subject.
 pub mod Walks
+pub mod Sequences
 pub mod Laws
 pub mod Standing
 pub mod Fewer
@@ -12,3 +13,5 @@ pub mod TokenBytes
 pub mod Placing
 pub mod Outcomes
 pub mod Promise
+pub mod NewNames
+pub mod Labels

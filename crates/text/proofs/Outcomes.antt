@@ -11,7 +11,8 @@ use mathlib.Core.Bool.{cond}
 use lib.Dec.{eqb}
 use Rattle.text.specs.Limits.{Limits}
 use Rattle.text.specs.Tree.{size}
-use Rattle.text.specs.Sheet.{Paper, refused, paper}
+use Rattle.text.specs.declared.Paper.{Paper}
+use Rattle.text.specs.Sheet.{refused, paper}
 use Rattle.text.specs.Reader.{Read, good, bad}
 use Rattle.text.specs.Whole.{wholeOf, sheetOf, tableOf}
 use Rattle.text.specs.declared.Refusal.{Refusal}

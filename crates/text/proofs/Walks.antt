@@ -5,14 +5,14 @@
 use mathlib.Core.Path.{_≡_, refl, ap, subst, _∙_}
 use mathlib.Core.List.{List, []}
 use mathlib.Core.Bool.{Bool, true, false, cond}
-use Prim.Native.Nat.{ℕ, _+_, _*_, _%_, _≤_, _<_}
+use Prim.Native.Nat.{ℕ, _+_, _≤_, _<_}
 use native.Mathlib.Decide.{decLe}
 use native.Mathlib.Omega.{arith}
 use lib.ListN.{length, List·getD-eq-default}
-use lib.Dec.{ltb, eqb}
+use lib.Dec.{eqb}
 use borrow.Author.Needs.{needs}
 use Rattle.text.specs.Text.{byteAt}
-use Rattle.text.specs.Chars.{hex4At, letterOf, checkedAt, rawAt, lowAt, pairAt, unitAt, onHex, escapeAt, stepBy, stepAt}
+use Rattle.text.specs.Chars.{checkedAt, rawAt, lowAt, pairAt, unitAt, onHex, escapeAt, stepBy, stepAt}
 use Rattle.laws.specs.Scan.{scan-step}
 use Rattle.text.specs.Strings.{onStep, endBody, stringEnd, Piece, stop, piece, pieceOf, pieceBy, onPiece, decodeBody, decodeFrom}
 use Rattle.text.specs.declared.Hex.{Hex}
@@ -41,31 +41,20 @@ long-cond false x y p q = q
 
 checked-long : (i code n : ℕ) → Length n → Long (checkedAt i code n)
 unfolding checkedAt
-checked-long i code n h =
-    long-cond (ltb code 0xD800) _ _ h
-    (long-cond (ltb code 0xE000) _ _ tt
-    (long-cond (ltb code 0xFDD0) _ _ h
-    (long-cond (ltb code 0xFDF0) _ _ tt
-    (long-cond (ltb 0x10FFFF code) _ _ tt (long-cond (ltb (code % 65536) 0xFFFE) _ _ h tt)))))
+checked-long i code n h = search (needs, long-cond, tt) depth 9
 
 low-long : (i high : ℕ) (h : Hex) → Long (lowAt i high h)
 unfolding lowAt
 low-long i high (Bad p) = tt
-low-long i high (Unit low) =
-    long-cond (ltb low 0xDC00) _ _ tt (long-cond (ltb low 0xE000) _ _ (checked-long i (65536 + high % 1024 * 1024 + low % 1024) 12 (omega arith)) tt)
+low-long i high (Unit low) = search (needs, long-cond, checked-long, tt) depth 9
 
 pair-long : (t : List ℕ) (i high : ℕ) → Long (pairAt t i high)
 unfolding pairAt
-pair-long t i high =
-    long-cond (eqb (byteAt t (i + 6)) 92) _ _
-    (long-cond (eqb (byteAt t (i + 7)) 117) _ _ (low-long i high (hex4At t (i + 8))) tt)
-    tt
+pair-long t i high = search (needs, long-cond, low-long, tt) depth 9
 
 unit-long : (t : List ℕ) (i u : ℕ) → Long (unitAt t i u)
 unfolding unitAt
-unit-long t i u =
-    long-cond (ltb u 0xD800) _ _ (checked-long i u 6 (omega arith))
-    (long-cond (ltb u 0xDC00) _ _ (pair-long t i u) (checked-long i u 6 (omega arith)))
+unit-long t i u = search (needs, long-cond, checked-long, pair-long, tt) depth 9
 
 hex-long : (t : List ℕ) (i : ℕ) (h : Hex) → Long (onHex t i h)
 unfolding onHex
@@ -74,9 +63,7 @@ hex-long t i (Bad p) = tt
 
 pub escape-long : (t : List ℕ) (i : ℕ) → Long (escapeAt t i)
 unfolding escapeAt
-escape-long t i =
-    long-cond (eqb (byteAt t (i + 1)) 117) _ _ (hex-long t i (hex4At t (i + 2)))
-    (long-cond (eqb (letterOf (byteAt t (i + 1))) 0) _ _ tt (omega arith))
+escape-long t i = search (needs, long-cond, hex-long, tt) depth 9
 
 raw-long : (t : List ℕ) (i b : ℕ) → Long (rawAt t i b)
 unfolding rawAt

@@ -17,3 +17,4 @@ pub mod Placed
 pub mod Promised
 pub mod Writing
 pub mod Fewer
+pub mod Labels

@@ -1,16 +1,12 @@
 -- The refusal sheet: the paper's numbers for each case of reading's answer. Assumes nothing: these are definitions.
 use Prim.Native.Nat.{ℕ}
+use Rattle.text.specs.declared.Paper.{Paper}
 use Rattle.text.specs.declared.Refusal.{Refusal}
 use Rattle.text.specs.declared.Refusal.the-variants.{TooLong, Grammar, Character, Repeated, Deep, Many, Small}
 use Rattle.text.specs.declared.Reading.{Reading}
 use Rattle.text.specs.declared.Reading.the-variants.{Rows, Refused}
 
--- An answer on paper: 0 or the refusal's number; the row count or the refusal's second number; and the bytes written, which only localizing has.
-pub record Paper : Type 0 where
-  pub number : ℕ
-  pub second : ℕ
-  pub written : ℕ
-
+-- an answer on paper, by its three numbers (src/lib.rt says which)
 abbrev pub numbers : ℕ → ℕ → ℕ → Paper
 numbers number second written = record { number = number; second = second; written = written }
 

@@ -11,7 +11,8 @@ use Rattle.text.specs.Text.{byteAt}
 use Rattle.text.specs.Tokens.{skip}
 use Rattle.text.specs.Tree.{size, rowsOf}
 use Rattle.text.specs.Reader.{Read, good, bad, valueAt}
-use Rattle.text.specs.Sheet.{Paper, numbers, refused}
+use Rattle.text.specs.declared.Paper.{Paper}
+use Rattle.text.specs.Sheet.{numbers, refused}
 use Rattle.text.specs.declared.Refusal.the-variants.{TooLong, Grammar, Small}
 
 -- a value with nothing but white space after it (8259: JSON-text = ws value ws)

@@ -38,3 +38,10 @@ pub enum Reading {
     Rows(usize),
     Refused(Refusal),
 }
+
+// An answer on paper: 0 or the refusal's number; the row count or the refusal's second number; and the bytes written, which only localizing has.
+pub struct Paper {
+    pub number: u64,
+    pub second: u64,
+    pub written: u64,
+}

@@ -7,9 +7,9 @@
 -- Assumes nothing.
 use mathlib.Core.Path.{_≡_, refl, _∙_}
 use mathlib.Core.List.{List, [], _∷_}
-use mathlib.Core.Logic.{_⊎_, inl, inr}
+use mathlib.Core.Logic.{_⊎_, inl, inr, ⊎-elim}
 use Prim.Native.Nat.{ℕ, _+_, _*_, _/_, _%_, _≤_, _<_}
-use native.Mathlib.Decide.{decLt}
+use native.Mathlib.Nat.{not-le-of-lt}
 use native.Mathlib.Omega.{arith}
 use borrow.Author.Tests.{lt-ltb, le-ltb}
 use Rattle.laws.specs.Bounds.{AllBelow}
@@ -19,6 +19,7 @@ use Rattle.text.specs.Strings.{conts, utf8}
 use Rattle.text.specs.Spelling.{Noncharacter, block, last-two, Good}
 use Rattle.text.specs.declared.Step.{Step}
 use Rattle.text.specs.declared.Step.the-variants.{Char, Bad3}
+use Rattle.text.proofs.Sequences.{by-seq2, by-seq3, by-seq4}
 use Rattle.text.proofs.Laws.{two, three, four}
 
 -- ---- good code points ----
@@ -35,37 +36,38 @@ no-noncharacter o (last-two h) = omega arith
 made-good : (c : ℕ) → c ≤ 0x10FFFF → (c < 0xD800) ⊎ (0xE000 ≤ c) → Outside c → Good c
 made-good c r s o = record { scalar = record { in-range = r; no-surrogate = s }; character = λ n. no-noncharacter o n }
 
-pub ascii-good : (c : ℕ) → c < 128 → Good c
-ascii-good c h = made-good c (omega arith) (inl (omega arith)) (record { block-left = inl (omega arith); plane = omega arith })
+low-good : (c : ℕ) → c < 0xD800 → Good c
+low-good c h = made-good c (omega arith) (inl h) (record { block-left = inl (omega arith); plane = omega arith })
 
-pub by-checked : (P : Step → Type 0) (i c n : ℕ) → (Good c → P (Char c n)) → P (Bad3 i) → P (checkedAt i c n)
+middle-good : (c : ℕ) → 0xE000 ≤ c → c < 0xFDD0 → Good c
+middle-good c h k = made-good c (omega arith) (inr h) (record { block-left = inl k; plane = omega arith })
+
+high-good : (c : ℕ) → 0xFDF0 ≤ c → c ≤ 0x10FFFF → c % 65536 < 0xFFFE → Good c
+high-good c h k l = made-good c k (inr (omega arith)) (record { block-left = inr h; plane = l })
+
+surrogate-bad : (c : ℕ) → 0xD800 ≤ c → c < 0xE000 → Good c → ⊥
+surrogate-bad c h k g = ⊎-elim (λ (l : c < 0xD800). omega arith) (λ (l : 0xE000 ≤ c). omega arith) (g .scalar .no-surrogate)
+
+block-bad : (c : ℕ) → 0xFDD0 ≤ c → c < 0xFDF0 → Good c → ⊥
+block-bad c h k g = g .character (block h (omega arith))
+
+plane-bad : (c : ℕ) → 0xFFFE ≤ c % 65536 → Good c → ⊥
+plane-bad c h g = g .character (last-two h)
+
+large-bad : (c : ℕ) → 0x10FFFF < c → Good c → ⊥
+large-bad c h g = let k = g .scalar .in-range in omega arith
+
+ruleset goodness = (low-good, middle-good, high-good, surrogate-bad, block-bad, plane-bad, large-bad)
+
+pub by-checked : (P : Step → Type 0) (i c n : ℕ) → (Good c → P (Char c n)) → ((Good c → ⊥) → P (Bad3 i)) → P (checkedAt i c n)
 unfolding checkedAt
-by-checked P i c n good bad =
-    if-less P c 0xD800 (λ h. good (made-good c (omega arith) (inl h) (record { block-left = inl (omega arith); plane = omega arith })))
-    (λ a. if-less P c 0xE000 (λ h. bad)
-    (λ b. if-less P c 0xFDD0 (λ h. good (made-good c (omega arith) (inr b) (record { block-left = inl h; plane = omega arith })))
-    (λ d. if-less P c 0xFDF0 (λ h. bad)
-    (λ e. if-less P 0x10FFFF c (λ h. bad)
-    (λ f. if-less P (c % 65536) 0xFFFE (λ h. good (made-good c f (inr b) (record { block-left = inr e; plane = h }))) (λ h. bad))))))
+by-checked P i c n good bad = search (if-less P, goodness) depth 9
 
 pub good-checked : (i c n : ℕ) → Good c → checkedAt i c n ≡ Char c n
-unfolding checkedAt
-good-checked i c n g = go (g .scalar .no-surrogate)
-  where
-    high : 0xFDF0 ≤ c → c % 65536 < 0xFFFE → checkedAt i c n ≡ Char c n
-    high h l =
-        let r = g .scalar .in-range in
-        simp (le-ltb c 0xD800 (omega arith), le-ltb c 0xE000 (omega arith), le-ltb c 0xFDD0 (omega arith), le-ltb c 0xFDF0 h, le-ltb 0x10FFFF c r, lt-ltb (c % 65536) 0xFFFE l)
+good-checked i c n g = by-checked (λ s. s ≡ Char c n) i c n (λ h. refl) (λ h. absurd (h g))
 
-    go : (c < 0xD800) ⊎ (0xE000 ≤ c) → checkedAt i c n ≡ Char c n
-    go (inl h) = simp (lt-ltb c 0xD800 h)
-    go (inr h) = elim (decLt c 0xFDD0) [
-      | yes k ↦ simp (le-ltb c 0xD800 (omega arith), le-ltb c 0xE000 h, lt-ltb c 0xFDD0 k)
-      | no k ↦ elim (decLt c 0xFDF0) [
-        | yes l ↦ absurd (g .character (block (omega arith) (omega arith)))
-        | no l ↦ elim (decLt (c % 65536) 0xFFFE) [ yes m ↦ high (omega arith) m | no m ↦ absurd (g .character (last-two (omega arith))) ]
-      ]
-    ]
+pub ascii-good : (c : ℕ) → c < 128 → Good c
+ascii-good c h = low-good c (omega arith)
 
 -- ---- UTF-8 ----
 
@@ -87,25 +89,17 @@ unfolding tailOf
 tail-byte b = if-less (λ x. x < 64 → b ≡ 128 + x) b 128 (λ h k. absurd (omega arith)) (λ h. if-less (λ x. x < 64 → b ≡ 128 + x) b 192 (λ l k. omega arith) (λ l k. absurd (omega arith)))
 
 pub joined2 : (c : ℕ) → 128 ≤ c → c < 2048 → seq2 (192 + c / 64 % 32) (c % 64) ≡ c
-unfolding seq2
-joined2 c lo hi =
-    let code : ℕ = (192 + c / 64 % 32) % 32 * 64 + c % 64 in
-    let e : code ≡ c = omega arith in
-    simp (le-ltb 63 (c % 64) (omega arith), e, le-ltb c 128 lo)
+joined2 c lo hi = by-seq2 (λ s. s ≡ c) (192 + c / 64 % 32) (c % 64) (λ h. absurd (omega arith)) (λ h. absurd (omega arith)) (λ h k. omega arith)
 
 pub joined3 : (c : ℕ) → 2048 ≤ c → c < 65536 → seq3 (224 + c / 4096 % 16) (c / 64 % 64) (c % 64) ≡ c
-unfolding seq3
 joined3 c lo hi =
-    let code : ℕ = (224 + c / 4096 % 16) % 16 * 4096 + c / 64 % 64 * 64 + c % 64 in
-    let e : code ≡ c = omega arith in
-    simp (le-ltb 63 (c / 64 % 64) (omega arith), le-ltb 63 (c % 64) (omega arith), e, le-ltb c 2048 lo)
+    by-seq3 (λ s. s ≡ c) (224 + c / 4096 % 16) (c / 64 % 64) (c % 64) (λ h. absurd (omega arith)) (λ h. absurd (omega arith)) (λ h. absurd (omega arith)) (λ h k l. omega arith)
 
 pub joined4 : (c : ℕ) → 65536 ≤ c → c ≤ 0x10FFFF → seq4 (240 + c / 262144 % 8) (c / 4096 % 64) (c / 64 % 64) (c % 64) ≡ c
-unfolding seq4
 joined4 c lo hi =
-    let code : ℕ = (240 + c / 262144 % 8) % 8 * 262144 + c / 4096 % 64 * 4096 + c / 64 % 64 * 64 + c % 64 in
-    let e : code ≡ c = omega arith in
-    simp (le-ltb 63 (c / 4096 % 64) (omega arith), le-ltb 63 (c / 64 % 64) (omega arith), le-ltb 63 (c % 64) (omega arith), e, le-ltb c 65536 lo)
+    let sum : (240 + c / 262144 % 8) % 8 * 262144 + c / 4096 % 64 * 4096 + c / 64 % 64 * 64 + c % 64 ≡ c = omega arith in
+    by-seq4 (λ s. s ≡ c) (240 + c / 262144 % 8) (c / 4096 % 64) (c / 64 % 64) (c % 64) (λ h. absurd (omega arith)) (λ h. absurd (omega arith)) (λ h. absurd (omega arith))
+    (λ h. absurd (not-le-of-lt (rw sum at h) lo)) (λ h k l m. sum)
 
 -- ---- what was put together ----
 
@@ -124,10 +118,7 @@ record Whole2 (b x s : ℕ) : Type 0 where
   large : 128 ≤ s
 
 whole2 : (b x : ℕ) → Good (seq2 b x) → Whole2 b x (seq2 b x)
-unfolding seq2
-whole2 b x =
-    if-less (λ s. Good s → Whole2 b x s) 63 x (λ h g. too-large g)
-    (λ h. if-less (λ s. Good s → Whole2 b x s) (b % 32 * 64 + x) 128 (λ l g. too-large g) (λ l g. omega arith))
+whole2 b x = by-seq2 (λ s. Good s → Whole2 b x s) b x (λ h g. too-large g) (λ h g. too-large g) (λ h k g. omega arith)
 
 pub shown2 : (b b1 : ℕ) → 192 ≤ b → b < 224 → Good (seq2 b (tailOf b1)) → Shown (seq2 b (tailOf b1)) (b ∷ b1 ∷ [])
 shown2 b b1 lo hi g =
@@ -142,11 +133,7 @@ record Whole3 (b x y s : ℕ) : Type 0 where
   large : 128 ≤ s
 
 whole3 : (b x y : ℕ) → Good (seq3 b x y) → Whole3 b x y (seq3 b x y)
-unfolding seq3
-whole3 b x y =
-    if-less (λ s. Good s → Whole3 b x y s) 63 x (λ h g. too-large g)
-    (λ h. if-less (λ s. Good s → Whole3 b x y s) 63 y (λ k g. too-large g)
-    (λ k. if-less (λ s. Good s → Whole3 b x y s) (b % 16 * 4096 + x * 64 + y) 2048 (λ l g. too-large g) (λ l g. omega arith)))
+whole3 b x y = by-seq3 (λ s. Good s → Whole3 b x y s) b x y (λ h g. too-large g) (λ h g. too-large g) (λ h g. too-large g) (λ h k l g. omega arith)
 
 record Whole4 (b x y z s : ℕ) : Type 0 where
   first : x < 64
@@ -156,12 +143,8 @@ record Whole4 (b x y z s : ℕ) : Type 0 where
   large : 128 ≤ s
 
 whole4 : (b x y z : ℕ) → Good (seq4 b x y z) → Whole4 b x y z (seq4 b x y z)
-unfolding seq4
 whole4 b x y z =
-    if-less (λ s. Good s → Whole4 b x y z s) 63 x (λ h g. too-large g)
-    (λ h. if-less (λ s. Good s → Whole4 b x y z s) 63 y (λ k g. too-large g)
-    (λ k. if-less (λ s. Good s → Whole4 b x y z s) 63 z (λ l g. too-large g)
-    (λ l. if-less (λ s. Good s → Whole4 b x y z s) (b % 8 * 262144 + x * 4096 + y * 64 + z) 65536 (λ m g. too-large g) (λ m g. omega arith))))
+    by-seq4 (λ s. Good s → Whole4 b x y z s) b x y z (λ h g. too-large g) (λ h g. too-large g) (λ h g. too-large g) (λ h g. too-large g) (λ h k l m g. omega arith)
 
 pub shown3 : (b b1 b2 : ℕ) → 224 ≤ b → b < 240 → Good (seq3 b (tailOf b1) (tailOf b2)) → Shown (seq3 b (tailOf b1) (tailOf b2)) (b ∷ b1 ∷ b2 ∷ [])
 shown3 b b1 b2 lo hi g =

@@ -95,7 +95,7 @@ Aimed i (Bad3 p) = p ≡ i
 
 module _ (t : List ℕ) (i : ℕ) where
   checked-aimed : (c n : ℕ) → Aimed i (checkedAt i c n)
-  checked-aimed c n = by-checked (Aimed i) i c n (λ g. tt) refl
+  checked-aimed c n = by-checked (Aimed i) i c n (λ g. tt) (λ n. refl)
 
   raw-aimed : (b : ℕ) → Aimed i (rawAt t i b)
   unfolding rawAt

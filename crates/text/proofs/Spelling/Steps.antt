@@ -74,20 +74,20 @@ module _ (t : List ℕ) (i : ℕ) where
       (λ k. by-checked (StandsAt t i) i (seq2 b (tailOf b1)) 2
       (λ g. let s = shown2 b b1 h k g in
       let e1 = next-byte t (i + 1) (i + 2) b1 (drop (i + 2) t) refl (s .bytes .1 .0) (omega arith) refl in
-      raw-char (seq2 b (tailOf b1)) (b ∷ b1 ∷ []) (drop (i + 2) t) g s (cc)) bad)
+      raw-char (seq2 b (tailOf b1)) (b ∷ b1 ∷ []) (drop (i + 2) t) g s (cc)) (λ n. bad))
       (λ k. if-less (StandsAt t i) b 240
       (λ l. by-checked (StandsAt t i) i (seq3 b (tailOf b1) (tailOf b2)) 3
       (λ g. let s = shown3 b b1 b2 k l g in
       let e1 = next-byte t (i + 1) (i + 2) b1 (drop (i + 2) t) refl (s .bytes .1 .0) (omega arith) refl in
       let e2 = next-byte t (i + 2) (i + 3) b2 (drop (i + 3) t) refl (s .bytes .1 .1 .0) (omega arith) refl in
-      raw-char (seq3 b (tailOf b1) (tailOf b2)) (b ∷ b1 ∷ b2 ∷ []) (drop (i + 3) t) g s (cc)) bad)
+      raw-char (seq3 b (tailOf b1) (tailOf b2)) (b ∷ b1 ∷ b2 ∷ []) (drop (i + 3) t) g s (cc)) (λ n. bad))
       (λ l. if-less (StandsAt t i) b 248
       (λ m. by-checked (StandsAt t i) i (seq4 b (tailOf b1) (tailOf b2) (tailOf b3)) 4
       (λ g. let s = shown4 b b1 b2 b3 l m g in
       let e1 = next-byte t (i + 1) (i + 2) b1 (drop (i + 2) t) refl (s .bytes .1 .0) (omega arith) refl in
       let e2 = next-byte t (i + 2) (i + 3) b2 (drop (i + 3) t) refl (s .bytes .1 .1 .0) (omega arith) refl in
       let e3 = next-byte t (i + 3) (i + 4) b3 (drop (i + 4) t) refl (s .bytes .1 .1 .1 .0) (omega arith) refl in
-      raw-char (seq4 b (tailOf b1) (tailOf b2) (tailOf b3)) (b ∷ b1 ∷ b2 ∷ b3 ∷ []) (drop (i + 4) t) g s (cc)) bad)
+      raw-char (seq4 b (tailOf b1) (tailOf b2) (tailOf b3)) (b ∷ b1 ∷ b2 ∷ b3 ∷ []) (drop (i + 4) t) g s (cc)) (λ n. bad))
       (λ m. bad))))
 
 -- ---- escapes ----
@@ -148,12 +148,12 @@ module _ (t : List ℕ) (i : ℕ) (e : drop i t ≡ 92 ∷ 117 ∷ drop (i + 2) 
     low-at lo hi p6 p7 (Bad p) d = aim
     low-at lo hi p6 p7 (Unit low) d =
         if-less (StandsAt t i) low 0xDC00 (λ h. aim)
-        (λ h. if-less (StandsAt t i) low 0xE000 (λ k. by-checked (StandsAt t i) i (65536 + u % 1024 * 1024 + low % 1024) 12 (pair-char low lo hi h k p6 p7 d) aim) (λ k. aim))
+        (λ h. if-less (StandsAt t i) low 0xE000 (λ k. by-checked (StandsAt t i) i (65536 + u % 1024 * 1024 + low % 1024) 12 (pair-char low lo hi h k p6 p7 d) (λ n. aim)) (λ k. aim))
 
     unit-at : StandsAt t i (unitAt t i u)
     unfolding unitAt pairAt
     unit-at =
-        let checked = by-checked (StandsAt t i) i u 6 unit-char aim in
+        let checked = by-checked (StandsAt t i) i u 6 unit-char (λ n. aim) in
         if-less (StandsAt t i) u 0xD800 (λ h. checked)
         (λ h. if-less (StandsAt t i) u 0xDC00
         (λ k. if-equal (StandsAt t i) (byteAt t (i + 6)) 92

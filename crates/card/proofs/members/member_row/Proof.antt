@@ -1,0 +1,77 @@
+use mathlib.Core.Path.{sym, _∙_}
+use Prim.Native.Nat.{_-_}
+use native.Mathlib.Omega.{arith}
+use denote.Ref.{now}
+use borrow.Author.Needs.{needs}
+use Rattle.text.specs.Strings.{conts}
+use Rattle.card.specs.Parts.{nameLeft}
+use Rattle.card.proofs.MemberLaws.{Seeking, seeks, seek-hit, seek-room, seek-next, seek-none}
+use Rattle.card.proofs.members.member_row.Statement.{statement}
+use Rattle.card.proofs.members.member_row.Tie as tie
+
+abbrev Inv-loop : tie.InvT-loop
+Inv-loop text table from end is-part key c at₀ at = Seeking text table from end (nameLeft is-part key c) at
+
+abbrev μ-loop : tie.MeasureT-loop
+μ-loop text table from end is-part key c at₀ at = end - at
+
+loop-holds : tie.Need-loop-holds Inv-loop μ-loop
+loop-holds c = seeks _ _ _ _ _
+
+name-start-requires : tie.Need-name-start-requires Inv-loop μ-loop
+name-start-requires c κs = search needs
+
+name-end-requires : tie.Need-name-end-requires Inv-loop μ-loop
+name-end-requires c κs = search needs
+
+part-requires : tie.Need-part-requires Inv-loop μ-loop
+part-requires c κs = search needs
+
+start-requires : tie.Need-start-requires Inv-loop μ-loop
+start-requires c κs = search needs
+
+names-same-requires : tie.Need-names-same-requires Inv-loop μ-loop
+names-same-requires c κs = search needs
+
+returns : tie.Need-returns Inv-loop μ-loop
+unfolding conts
+returns c = λ f h. seek-hit (now (c .before .before .before .before .before .before .before .before .before .before .before .args .text)) (now (c .before .before .before .before .before .before .before .before .before .before .before .args .table)) (c .before .before .before .before .before .before .before .before .before .before .before .args .from) (c .before .before .before .before .before .before .before .before .before .before .before .args .end) (nameLeft (c .before .before .before .before .before .before .before .before .before .before .before .args .is-part) (now (c .before .before .before .before .before .before .before .before .before .before .before .args .key)) (c .before .before .before .before .before .before .before .before .before .before .before .args .c)) (c .before .before .before .before .before .before .before .loop .at) (c .before .before .before .before .before .before .before .loop .inv) f h (c .before .before .before .before .before .before .loop-test .taken) (sym (rw (c .before .before .before .part .ensures, c .before .before .start .ensures, c .before .before .before .before .before .name-start .ensures, c .before .before .before .before .name-end .ensures) at (c .before .names-same .ensures)) ∙ c .if1 .taken)
+
+below-requires : tie.Need-below-requires Inv-loop μ-loop
+below-requires c κs = search needs
+
+add-at : tie.Need-add-at Inv-loop μ-loop
+add-at c = omega (arith, seek-room (now (c .before .before .before .before .before .before .before .before .before .before .before .before .args .text)) (now (c .before .before .before .before .before .before .before .before .before .before .before .before .args .table)) (c .before .before .before .before .before .before .before .before .before .before .before .before .args .from) (c .before .before .before .before .before .before .before .before .before .before .before .before .args .end) (nameLeft (c .before .before .before .before .before .before .before .before .before .before .before .before .args .is-part) (now (c .before .before .before .before .before .before .before .before .before .before .before .before .args .key)) (c .before .before .before .before .before .before .before .before .before .before .before .before .args .c)) (c .before .before .before .before .before .before .before .before .loop .at) (c .before .before .before .before .before .before .before .before .loop .inv) (c .before .before .before .before .before .before .before .before .before .before .before .before .pre .0) (c .before .before .before .before .before .before .before .before .before .before .before .before .pre .1) (c .before .before .before .before .before .before .before .loop-test .taken))
+
+add-at-2 : tie.Need-add-at-2 Inv-loop μ-loop
+add-at-2 c = omega (arith, c .below .ensures, seek-room (now (c .before .before .before .before .before .before .before .before .before .before .before .before .args .text)) (now (c .before .before .before .before .before .before .before .before .before .before .before .before .args .table)) (c .before .before .before .before .before .before .before .before .before .before .before .before .args .from) (c .before .before .before .before .before .before .before .before .before .before .before .before .args .end) (nameLeft (c .before .before .before .before .before .before .before .before .before .before .before .before .args .is-part) (now (c .before .before .before .before .before .before .before .before .before .before .before .before .args .key)) (c .before .before .before .before .before .before .before .before .before .before .before .before .args .c)) (c .before .before .before .before .before .before .before .before .loop .at) (c .before .before .before .before .before .before .before .before .loop .inv) (c .before .before .before .before .before .before .before .before .before .before .before .before .pre .0) (c .before .before .before .before .before .before .before .before .before .before .before .before .pre .1) (c .before .before .before .before .before .before .before .loop-test .taken))
+
+loop-less : tie.Need-loop-less Inv-loop μ-loop
+loop-less c = omega arith
+
+loop-again : tie.Need-loop-again Inv-loop μ-loop
+unfolding conts
+loop-again c = λ f h. rw (c .below .ensures) (seek-next (now (c .before .before .before .before .before .before .before .before .before .before .before .before .args .text)) (now (c .before .before .before .before .before .before .before .before .before .before .before .before .args .table)) (c .before .before .before .before .before .before .before .before .before .before .before .before .args .from) (c .before .before .before .before .before .before .before .before .before .before .before .before .args .end) (nameLeft (c .before .before .before .before .before .before .before .before .before .before .before .before .args .is-part) (now (c .before .before .before .before .before .before .before .before .before .before .before .before .args .key)) (c .before .before .before .before .before .before .before .before .before .before .before .before .args .c)) (c .before .before .before .before .before .before .before .before .loop .at) (c .before .before .before .before .before .before .before .before .loop .inv) f h (c .before .before .before .before .before .before .before .loop-test .taken) (sym (rw (c .before .before .before .before .part .ensures, c .before .before .before .start .ensures, c .before .before .before .before .before .before .name-start .ensures, c .before .before .before .before .before .name-end .ensures) at (c .before .before .names-same .ensures)) ∙ c .before .if1 .left))
+
+returns-2 : tie.Need-returns-2 Inv-loop μ-loop
+returns-2 c = λ f h. seek-none (now (c .before .before .before .before .before .args .text)) (now (c .before .before .before .before .before .args .table)) (c .before .before .before .before .before .args .from) (c .before .before .before .before .before .args .end) (nameLeft (c .before .before .before .before .before .args .is-part) (now (c .before .before .before .before .before .args .key)) (c .before .before .before .before .before .args .c)) (c .before .loop .at) (c .before .loop .inv) f h (omega arith)
+
+pub member-row-spec : {M : Type 1} → statement M
+member-row-spec =
+    tie.close
+    (tie.spec
+    Inv-loop
+    μ-loop
+    loop-holds
+    name-start-requires
+    name-end-requires
+    part-requires
+    start-requires
+    names-same-requires
+    returns
+    below-requires
+    add-at
+    add-at-2
+    loop-less
+    loop-again
+    returns-2)

@@ -1,0 +1,109 @@
+use mathlib.Core.List.{List}
+use Rattle.text.specs.Doc.{Name}
+use Rattle.text.specs.Tree.{Forest}
+use Rattle.card.specs.Members.{Standing}
+use mathlib.Core.Path.{sym, _∙_}
+use native.Mathlib.Omega.{arith}
+use lib.ListN.{length}
+use denote.Ref.{now}
+use borrow.Author.Needs.{needs}
+use Rattle.json.specs.Cursors.{rest}
+use Rattle.contact.specs.Pointer.{pointerOf, parts}
+use Rattle.text.specs.Firsts.{insideAt}
+use Rattle.text.proofs.Promise.{row-at, inside}
+use Rattle.card.proofs.PointerLaws.{fewer}
+use Rattle.card.proofs.PathLaws.{inside-kinds, walk-array, walk-scalar, walk-last, walk-lacks, walk-on}
+use Prim.Native.Nat.{ℕ, _<_}
+use borrow.Fn.Kinds.{In}
+use borrow.Fn.PlainCycle.{Measures, is, falls, and}
+use Rattle.card.proofs.paths.follow.Reads as follow
+use Rattle.card.proofs.paths.follow.Kinds as follow-kinds
+use Rattle.card.proofs.paths.+follow.Lts-follow as follow-lts
+use Rattle.card.proofs.members.member_row.Reads as member-row-reads
+use Rattle.card.proofs.parts.next_part.Reads as next-part-reads
+use Rattle.json.proofs.rows.below.Reads as below-reads
+use Rattle.json.proofs.rows.kind.Reads as kind-reads
+use Rattle.card.proofs.paths.+follow.{statement}
+use Rattle.card.proofs.paths.+follow.Tie.{close}
+
+-- what was found, by name
+standing : {t table : List ℕ} {end : ℕ} {n : Name} {f : Forest} {m : ℕ} → Standing t table end n f m → Standing t table end n f m
+standing h = h
+
+abbrev μ-follow : Measures 3 follow-kinds.ps ℕ
+μ-follow κs a = length (parts (pointerOf (rest (a .1 .1 .1 .0 .now) (a .1 .1 .1 .1 .0))))
+
+abbrev follow-at : ℕ → In 3 follow-kinds.ps
+follow-at t = and 3 follow-kinds.ps (is 3 follow-kinds.ps μ-follow t) follow.Pre
+
+abbrev follow-below : ℕ → In 3 follow-kinds.ps
+follow-below t = and 3 follow-kinds.ps (falls 3 follow-kinds.ps _<_ μ-follow t) follow.Pre
+
+follow-kind-requires : (t : ℕ) → follow-lts.Need-kind-requires (kind-reads.Asked, kind-reads.Learnt, next-part-reads.Asked, next-part-reads.Learnt, below-reads.Asked, below-reads.Learnt, member-row-reads.Asked, member-row-reads.Learnt, follow-below t, follow.Post) (follow-at t) follow.Post
+follow-kind-requires t c κs = search needs
+
+follow-returns : (t : ℕ) → follow-lts.Need-returns (kind-reads.Asked, kind-reads.Learnt, next-part-reads.Asked, next-part-reads.Learnt, below-reads.Asked, below-reads.Learnt, member-row-reads.Asked, member-row-reads.Learnt, follow-below t, follow.Post) (follow-at t) follow.Post
+follow-returns t c = λ f s h k. walk-array (now (c .before .before .before .before .before .args .text)) f s k (pointerOf (rest (now (c .before .before .before .before .before .args .key)) (c .before .before .before .before .before .args .c))) (sym (row-at f s h .kind) ∙ sym (c .before .kind .ensures) ∙ c .if1 .taken)
+
+follow-returns-2 : (t : ℕ) → follow-lts.Need-returns-2 (kind-reads.Asked, kind-reads.Learnt, next-part-reads.Asked, next-part-reads.Learnt, below-reads.Asked, below-reads.Learnt, member-row-reads.Asked, member-row-reads.Learnt, follow-below t, follow.Post) (follow-at t) follow.Post
+follow-returns-2 t c = λ f s h k. walk-scalar (now (c .before .before .before .before .before .before .args .text)) f s k (pointerOf (rest (now (c .before .before .before .before .before .before .args .key)) (c .before .before .before .before .before .before .args .c))) (λ e. c .before .if1 .left (c .before .before .kind .ensures ∙ row-at f s h .kind ∙ e)) (λ e. c .if2 .taken (c .before .before .kind .ensures ∙ row-at f s h .kind ∙ e))
+
+follow-next-part-requires : (t : ℕ) → follow-lts.Need-next-part-requires (kind-reads.Asked, kind-reads.Learnt, next-part-reads.Asked, next-part-reads.Learnt, below-reads.Asked, below-reads.Learnt, member-row-reads.Asked, member-row-reads.Learnt, follow-below t, follow.Post) (follow-at t) follow.Post
+follow-next-part-requires t c κs = search needs
+
+follow-enum-known-on : (t : ℕ) → follow-lts.Need-enum-known-on (kind-reads.Asked, kind-reads.Learnt, next-part-reads.Asked, next-part-reads.Learnt, below-reads.Asked, below-reads.Learnt, member-row-reads.Asked, member-row-reads.Learnt, follow-below t, follow.Post) (follow-at t) follow.Post
+follow-enum-known-on t c = search needs
+
+follow-enum-told : (t : ℕ) → follow-lts.Need-enum-told (kind-reads.Asked, kind-reads.Learnt, next-part-reads.Asked, next-part-reads.Learnt, below-reads.Asked, below-reads.Learnt, member-row-reads.Asked, member-row-reads.Learnt, follow-below t, follow.Post) (follow-at t) follow.Post
+follow-enum-told t c = search needs
+
+follow-returns-3 : (t : ℕ) → follow-lts.Need-returns-3 (kind-reads.Asked, kind-reads.Learnt, next-part-reads.Asked, next-part-reads.Learnt, below-reads.Asked, below-reads.Learnt, member-row-reads.Asked, member-row-reads.Learnt, follow-below t, follow.Post) (follow-at t) follow.Post
+follow-returns-3 t c = λ f s h k. walk-last (now (c .before .before .before .before .before .before .before .before .before .args .text)) f s k (sym (row-at f s h .kind) ∙ sym (c .before .before .before .before .before .kind .ensures) ∙ c .before .before .before .if2 .left) (rw (c .enum-told .given .1) at (c .before .before .next-part .ensures))
+
+follow-add-first : (t : ℕ) → follow-lts.Need-add-first (kind-reads.Asked, kind-reads.Learnt, next-part-reads.Asked, next-part-reads.Learnt, below-reads.Asked, below-reads.Learnt, member-row-reads.Asked, member-row-reads.Learnt, follow-below t, follow.Post) (follow-at t) follow.Post
+follow-add-first t c = let (f, s, h, k) = c .before .before .before .before .before .before .before .before .before .before .pre .1 in omega (arith, row-at f s h .room)
+
+follow-below-requires : (t : ℕ) → follow-lts.Need-below-requires (kind-reads.Asked, kind-reads.Learnt, next-part-reads.Asked, next-part-reads.Learnt, below-reads.Asked, below-reads.Learnt, member-row-reads.Asked, member-row-reads.Learnt, follow-below t, follow.Post) (follow-at t) follow.Post
+follow-below-requires t c κs = search needs
+
+follow-add-end : (t : ℕ) → follow-lts.Need-add-end (kind-reads.Asked, kind-reads.Learnt, next-part-reads.Asked, next-part-reads.Learnt, below-reads.Asked, below-reads.Learnt, member-row-reads.Asked, member-row-reads.Learnt, follow-below t, follow.Post) (follow-at t) follow.Post
+follow-add-end t c = let (f, s, h, k) = c .before .before .before .before .before .before .before .before .before .before .before .pre .1 in omega (arith, c .below .ensures, row-at f s h .below, row-at f s h .room-all)
+
+follow-member-row-requires : (t : ℕ) → follow-lts.Need-member-row-requires (kind-reads.Asked, kind-reads.Learnt, next-part-reads.Asked, next-part-reads.Learnt, below-reads.Asked, below-reads.Learnt, member-row-reads.Asked, member-row-reads.Learnt, follow-below t, follow.Post) (follow-at t) follow.Post
+follow-member-row-requires t c κs = let (f, s, h, k) = c .before .before .before .before .before .before .before .before .before .before .before .pre .1 in (insideAt f, (rw (c .below .ensures ∙ row-at f s h .below) (inside f s h)))
+
+follow-enum-known-m : (t : ℕ) → follow-lts.Need-enum-known-m (kind-reads.Asked, kind-reads.Learnt, next-part-reads.Asked, next-part-reads.Learnt, below-reads.Asked, below-reads.Learnt, member-row-reads.Asked, member-row-reads.Learnt, follow-below t, follow.Post) (follow-at t) follow.Post
+follow-enum-known-m t c = search needs
+
+follow-enum-told-2 : (t : ℕ) → follow-lts.Need-enum-told-2 (kind-reads.Asked, kind-reads.Learnt, next-part-reads.Asked, next-part-reads.Learnt, below-reads.Asked, below-reads.Learnt, member-row-reads.Asked, member-row-reads.Learnt, follow-below t, follow.Post) (follow-at t) follow.Post
+follow-enum-told-2 t c = search needs
+
+follow-returns-4 : (t : ℕ) → follow-lts.Need-returns-4 (kind-reads.Asked, kind-reads.Learnt, next-part-reads.Asked, next-part-reads.Learnt, below-reads.Asked, below-reads.Learnt, member-row-reads.Asked, member-row-reads.Learnt, follow-below t, follow.Post) (follow-at t) follow.Post
+follow-returns-4 t c = λ f s h k. walk-lacks (now (c .before .before .before .before .before .before .before .before .before .before .before .before .before .before .args .text)) f s k (sym (row-at f s h .kind) ∙ sym (c .before .before .before .before .before .before .before .before .before .before .kind .ensures) ∙ c .before .before .before .before .before .before .before .before .if2 .left) (rw (c .before .before .before .before .before .on .given .1) at (c .before .before .before .before .before .before .before .next-part .ensures)) (rw (c .enum-told2 .given .1) at (c .before .before .member-row .ensures (insideAt f) (rw (c .before .before .before .below .ensures ∙ row-at f s h .below) (inside f s h))))
+
+follow-follow-requires : (t : ℕ) → follow-lts.Need-follow-requires (kind-reads.Asked, kind-reads.Learnt, next-part-reads.Asked, next-part-reads.Learnt, below-reads.Asked, below-reads.Learnt, member-row-reads.Asked, member-row-reads.Learnt, follow-below t, follow.Post) (follow-at t) follow.Post
+follow-follow-requires t c κs = let (f, s, h, k) = c .before .before .before .before .before .before .before .before .before .before .before .before .before .before .before .pre .1 in let found = standing (rw (c .before .m .given .1) at (c .before .before .before .member-row .ensures (insideAt f) (rw (c .before .before .before .before .below .ensures ∙ row-at f s h .below) (inside f s h)))) in (omega (arith, c .before .before .before .before .before .before .before .before .before .before .before .before .before .before .before .pre .0, fewer (pointerOf (rest (now (c .before .before .before .before .before .before .before .before .before .before .before .before .before .before .before .args .key)) (c .before .before .before .before .before .before .before .before .before .before .before .before .before .before .before .args .c))) (rw (c .before .before .before .before .before .before .on .given .1) at (c .before .before .before .before .before .before .before .before .next-part .ensures))), (found .found, found .some-found, found .stands .stands, found .kinds (inside-kinds f k)))
+
+follow-returns-5 : (t : ℕ) → follow-lts.Need-returns-5 (kind-reads.Asked, kind-reads.Learnt, next-part-reads.Asked, next-part-reads.Learnt, below-reads.Asked, below-reads.Learnt, member-row-reads.Asked, member-row-reads.Learnt, follow-below t, follow.Post) (follow-at t) follow.Post
+follow-returns-5 t c = λ f s h k. let found = standing (rw (c .before .before .m .given .1) at (c .before .before .before .before .member-row .ensures (insideAt f) (rw (c .before .before .before .before .before .below .ensures ∙ row-at f s h .below) (inside f s h)))) in c .follow .ensures (found .found) (found .some-found) (found .stands .stands) (found .kinds (inside-kinds f k)) ∙ walk-on (now (c .before .before .before .before .before .before .before .before .before .before .before .before .before .before .before .before .args .text)) f s k (sym (row-at f s h .kind) ∙ sym (c .before .before .before .before .before .before .before .before .before .before .before .before .kind .ensures) ∙ c .before .before .before .before .before .before .before .before .before .before .if2 .left) (found .found) (rw (c .before .before .before .before .before .before .before .on .given .1) at (c .before .before .before .before .before .before .before .before .before .next-part .ensures)) (found .is)
+
+pub +follow-spec : {M : Type 1} → statement M
++follow-spec = close μ-follow λ t. follow-lts.spec (kind-reads.Asked, kind-reads.Learnt, next-part-reads.Asked, next-part-reads.Learnt, below-reads.Asked, below-reads.Learnt, member-row-reads.Asked, member-row-reads.Learnt, follow-below t, follow.Post)
+    (follow-at t)
+    follow.Post
+    (follow-kind-requires t)
+    (follow-returns t)
+    (follow-returns-2 t)
+    (follow-next-part-requires t)
+    (follow-enum-known-on t)
+    (follow-enum-told t)
+    (follow-returns-3 t)
+    (follow-add-first t)
+    (follow-below-requires t)
+    (follow-add-end t)
+    (follow-member-row-requires t)
+    (follow-enum-known-m t)
+    (follow-enum-told-2 t)
+    (follow-returns-4 t)
+    (follow-follow-requires t)
+    (follow-returns-5 t)

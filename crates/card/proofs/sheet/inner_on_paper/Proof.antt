@@ -1,0 +1,13 @@
+use mathlib.Core.Path.{refl}
+use borrow.Author.Needs.{needs}
+use Rattle.card.proofs.sheet.inner_on_paper.Statement.{statement}
+use Rattle.card.proofs.sheet.inner_on_paper.Tie as tie
+
+card-on-paper-requires : tie.Need-card-on-paper-requires
+card-on-paper-requires c κs = search needs
+
+returns : tie.Need-returns
+returns c = rw (c .card-on-paper .ensures) refl
+
+pub inner-on-paper-spec : {M : Type 1} → statement M
+inner-on-paper-spec = tie.close (tie.spec card-on-paper-requires returns)

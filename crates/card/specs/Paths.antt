@@ -1,0 +1,9 @@
+-- The answers of a walk along a pointer, as the definition has them. Assumes nothing: these are definitions.
+use Rattle.contact.specs.Patch.{Walk, arrives, inArray, noObject}
+use Rattle.card.specs.declared.paths.Path.{Path}
+use Rattle.card.specs.declared.paths.Path.the-variants.{Arrives, InArray, NoObject}
+
+abbrev pub walkOf : Path → Walk
+walkOf Arrives = arrives
+walkOf InArray = inArray
+walkOf NoObject = noObject

@@ -1,0 +1,90 @@
+// The answers of judging and localizing in the refusal sheet's numbers.
+use contact::CardRefusal;
+use contact::Fault;
+use contact::LocalRefusal;
+use contact::Localized;
+use contact::Verdict;
+use json::sheet::refusal_on_paper;
+use text::Paper;
+ghost use mathlib.Core.Path.{_≡_};
+ghost use Rattle.text.specs.Sheet.{numbers};
+ghost use Rattle.contact.specs.Verdict.{refusedFault, refusedCard, paperOfVerdict};
+ghost use Rattle.contact.specs.Localize.{refusedLocal, paperOfLocalized};
+
+fn line(number: u64, second: usize, written: usize) -> Paper
+    ensures { λ r. ⌜ r ≡ numbers number second written ⌝ }
+{
+    Paper {
+        number,
+        second: second as u64,
+        written: written as u64,
+    }
+}
+
+fn fault_on_paper(f: Fault) -> Paper
+    ensures { λ p. ⌜ p ≡ refusedFault f ⌝ }
+{
+    match f {
+        Fault::Kind(p) => line(11, p, 0),
+        Fault::Missing(p) => line(12, p, 0),
+        Fault::Value(p) => line(13, p, 0),
+        Fault::Rule(p) => line(14, p, 0),
+    }
+}
+
+fn card_on_paper(r: CardRefusal) -> Paper
+    ensures { λ p. ⌜ p ≡ refusedCard r ⌝ }
+{
+    match r {
+        CardRefusal::Text(t) => refusal_on_paper(t),
+        CardRefusal::Card(f) => fault_on_paper(f),
+    }
+}
+
+// The verdict on paper.
+pub fn verdict_on_paper(v: Verdict) -> Paper
+    ensures { λ p. ⌜ p ≡ paperOfVerdict v ⌝ }
+{
+    match v {
+        Verdict::Passed(n) => line(0, n, 0),
+        Verdict::Failed(r) => card_on_paper(r),
+    }
+}
+
+// 28 hands out the inner refusal's number alone.
+fn inner_on_paper(r: CardRefusal) -> Paper
+    ensures { λ p. ⌜ p ≡ numbers 28 (refusedCard r .number) 0 ⌝ }
+{
+    let inner = card_on_paper(r);
+    Paper {
+        number: 28,
+        second: inner.number,
+        written: 0,
+    }
+}
+
+fn local_on_paper(r: LocalRefusal) -> Paper
+    ensures { λ p. ⌜ p ≡ refusedLocal r ⌝ }
+{
+    match r {
+        LocalRefusal::Given(c) => card_on_paper(c),
+        LocalRefusal::NoLanguage => line(21, 0, 0),
+        LocalRefusal::BadKey => line(22, 0, 0),
+        LocalRefusal::OwnLocalizations => line(23, 0, 0),
+        LocalRefusal::Clash => line(24, 0, 0),
+        LocalRefusal::InArray => line(25, 0, 0),
+        LocalRefusal::NoObject => line(26, 0, 0),
+        LocalRefusal::Short(n) => line(27, n, 0),
+        LocalRefusal::Inner(c) => inner_on_paper(c),
+    }
+}
+
+// The answer of localizing on paper.
+pub fn localized_on_paper(a: Localized) -> Paper
+    ensures { λ p. ⌜ p ≡ paperOfLocalized a ⌝ }
+{
+    match a {
+        Localized::Written(rows, n) => line(0, rows, n),
+        Localized::Denied(r) => local_on_paper(r),
+    }
+}

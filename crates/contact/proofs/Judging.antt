@@ -1,0 +1,199 @@
+-- `Judging` (specs/Judging.antt) holds: the theorems of judging put together.
+--     Leaves, Times     the tests of single values
+--     Table, Between    kinds and types by the table; the rules between members
+--     Rows, Breaches    the number of one row; the first breach of a card
+-- Assumes nothing.
+pub mod Leaves
+pub mod Times
+pub mod Table
+pub mod Between
+pub mod Rows
+pub mod Breaches
+use Prim.Native.Nat.{ℕ, _≤_, _<_}
+use mathlib.Core.Path.{_≡_, refl, sym, ap, ap₂, subst, subst₂, _∙_}
+use mathlib.Core.Bool.{cond}
+use mathlib.Core.List.{List}
+use native.Mathlib.Omega.{arith}
+use lib.ListN.{getD}
+use lib.Dec.{eqb}
+use Rattle.laws.proofs.Decides.{iff}
+use Rattle.text.proofs.Promise.{promised, whole-good, count-root}
+use Rattle.text.specs.Limits.{Limits}
+use Rattle.text.specs.Tree.{Forest, size, startsOf}
+use Rattle.text.specs.Reader.{Read, good, bad}
+use Rattle.text.specs.declared.Paper.{Paper}
+use Rattle.text.specs.Sheet.{numbers, refused}
+use Rattle.text.specs.Whole.{wholeOf}
+use Rattle.text.specs.Doc.{Doc, docOf}
+use Rattle.text.specs.declared.Refusal.{Refusal}
+use Rattle.text.specs.declared.Refusal.the-variants.{TooLong, Grammar, Character, Repeated, Deep, Many, Small}
+use Rattle.contact.specs.Judge.{Breach, nothing, found, cardBreach}
+use Rattle.contact.specs.Verdict.{refusedFault, refusedCard, paperOfVerdict, Judged, passed, failed, faultOf, placed, judgedRead, judgedOf, sheetOfJudged, tableOfJudged}
+use Rattle.contact.specs.Breaks.{Breaks, RowBreaks, Keeps, First}
+use Rattle.contact.specs.Breaks as B
+use Rattle.contact.specs.Judging.{Says, unread, passes, breaks-first, Judging}
+use Rattle.contact.specs.declared.Fault.the-variants.{Kind, Missing, Value, Rule}
+use Rattle.contact.specs.declared.CardRefusal.{CardRefusal}
+use Rattle.contact.specs.declared.CardRefusal.the-variants.{Text, Card}
+use Rattle.contact.specs.declared.Verdict.{Verdict}
+use Rattle.contact.specs.declared.Verdict.the-variants.{Passed, Failed}
+use Rattle.contact.proofs.Judging.Leaves.{id-test, count-test}
+use Rattle.contact.proofs.Judging.Times.{leap-test, day-test, time-test}
+use Rattle.contact.proofs.Judging.Between.{between-test}
+use Rattle.contact.proofs.Judging.Breaches.{broken-row, Least, unbroken, at-first, first-breach}
+
+-- ---- what the search of a card finds
+
+-- what a breach says of a card
+module _ {whole : Doc} where
+  none-kept : {b : Breach} → Least (RowBreaks whole) b → b ≡ nothing → Keeps whole
+  none-kept (unbroken f) e = f
+  none-kept (at-first x h) e = let z : _≡_ {A = ℕ} 0 1 = cc in absurd (omega arith)
+
+  kept-none : {b : Breach} → Least (RowBreaks whole) b → Keeps whole → b ≡ nothing
+  kept-none (unbroken f) k = refl
+  kept-none (at-first x h) k = absurd (k _ _ x)
+
+  found-first : {b : Breach} {row n : ℕ} → Least (RowBreaks whole) b → b ≡ found row n → First whole row n
+  found-first (unbroken f) e = let z : _≡_ {A = ℕ} 0 1 = cc in absurd (omega arith)
+  found-first {row = row} {n = n} (at-first {r = r} {n = m} x h) e =
+      let same-row : r ≡ row = cc in
+      let same-number : m ≡ n = cc in
+      subst₂ (First whole) same-row same-number
+      (record { broken = x; earliest = λ q l y. h q l y .0; smallest = λ l y. h r l y .1 refl })
+
+  first-found : {b : Breach} {row n : ℕ} → Least (RowBreaks whole) b → First whole row n → b ≡ found row n
+  first-found (unbroken f) k = absurd (f _ _ (k .broken))
+  first-found {row = row} {n = n} (at-first {r = r} {n = m} x h) k =
+      let up = h row n (k .broken) in
+      let down = k .earliest r m x in
+      let same-row : r ≡ row = omega arith in
+      let most : m ≤ n = up .1 (sym same-row) in
+      let least : n ≤ m = k .smallest m (subst (λ (q : ℕ). RowBreaks whole q m) same-row x) in
+      let same-number : m ≡ n = omega arith in
+      ap₂ found same-row same-number
+
+-- ---- what judging a text answers
+
+-- the sheet's number of a line that is broken is its own
+fault-number : {n : ℕ} {ty : _} {u : _} {v : Doc} (p : ℕ) → Breaks n ty u v → refusedFault (faultOf n p) ≡ numbers n p 0
+unfolding refusedFault faultOf
+fault-number p (B.kind _) = refl
+fault-number p (B.missing _ _) = refl
+fault-number p (B.value _ _) = refl
+fault-number p (B.badly-keyed _ _) = refl
+fault-number p (B.rule _ _) = refl
+
+-- what is made of a reading
+data Judgement (t : List ℕ) : Read → Judged → Type 0 where
+  not-read : {r : Refusal} → Judgement t (bad r) (failed (Text r))
+  kept : {f : Forest} {to : ℕ} → Keeps (docOf t f) → Judgement t (good f to) (passed f)
+  broken : {f : Forest} {to row n : ℕ} → First (docOf t f) row n → Judgement t (good f to) (failed (Card (faultOf n (getD (startsOf f) row 0))))
+
+judgement : (t : List ℕ) (r : Read) → Judgement t r (judgedRead t r)
+unfolding judgedRead placed
+judgement t (bad r) = not-read
+judgement t (good f to) = go (cardBreach (docOf t f)) refl (first-breach (docOf t f))
+  where
+    go : (b : Breach) → cardBreach (docOf t f) ≡ b → Least (RowBreaks (docOf t f)) (cardBreach (docOf t f)) → Judgement t (good f to) (placed f b)
+    go nothing e l = kept (none-kept l e)
+    go (found row n) e l = broken (found-first l e)
+
+module _ (L : Limits) (words : ℕ) (t : List ℕ) where
+  judged : Judgement t (wholeOf L words t) (judgedOf L words t)
+  unfolding judgedOf
+  judged = judgement t (wholeOf L words t)
+
+  -- ---- acceptance
+
+  passed-kept : {r : Read} {j : Judged} {f : Forest} → Judgement t r j → wholeOf L words t ≡ r → j ≡ passed f
+      → (to : ℕ) × (wholeOf L words t ≡ good f to) × Keeps (docOf t f)
+  passed-kept not-read e q = let z : _≡_ {A = ℕ} 0 1 = cc in absurd (omega arith)
+  passed-kept {f = f} (kept {f = g} {to = to} k) e q =
+      let same-tree : g ≡ f = cc in
+      (to, e ∙ ap (λ (x : Forest). good x to) same-tree, subst (λ (x : Forest). Keeps (docOf t x)) same-tree k)
+  passed-kept (broken h) e q = let z : _≡_ {A = ℕ} 0 1 = cc in absurd (omega arith)
+
+  kept-passed : {f : Forest} {to : ℕ} → wholeOf L words t ≡ good f to → Keeps (docOf t f) → judgedOf L words t ≡ passed f
+  unfolding judgedOf judgedRead placed
+  kept-passed {f} e k = rw (e, kept-none (first-breach (docOf t f)) k)
+
+  -- ---- the answer and the table
+
+  sayings : {r : Read} {j : Judged} → Judgement t r j → wholeOf L words t ≡ r → Says L words t (sheetOfJudged j) (tableOfJudged words j)
+  unfolding sheetOfJudged tableOfJudged refusedCard
+  sayings not-read e = unread e
+  sayings (kept k) e = passes e k
+  sayings (broken {f = f} {row = row} h) e = rw (fault-number (getD (startsOf f) row 0) (h .broken .broken)) (breaks-first e h)
+
+  said : {p : Paper} {table : List ℕ} → Says L words t p table
+      → (p ≡ sheetOfJudged (judgedOf L words t)) × (table ≡ tableOfJudged words (judgedOf L words t))
+  unfolding judgedOf judgedRead placed sheetOfJudged tableOfJudged refusedCard
+  said (unread e) = (rw e, rw e)
+  said (passes {f = f} e k) = let n = kept-none (first-breach (docOf t f)) k in (rw (e, n), rw (e, n))
+  said (breaks-first {f = f} {row = row} e h) =
+      let n = first-found (first-breach (docOf t f)) h in
+      (rw (e, n) (sym (fault-number (getD (startsOf f) row 0) (h .broken .broken))), rw (e, n))
+
+  -- ---- the row of a refusal
+
+  its-row : {f : Forest} {to row n : ℕ} → wholeOf L words t ≡ good f to → First (docOf t f) row n → row < size f
+  its-row {f} {to} e h =
+      let p = promised L t f to (whole-good L words t f to e .read) in omega (arith, count-root t f (p .some) (p .alone), broken-row (h .broken))
+
+-- ---- an answer's numbers tell the answer
+
+-- the answer of a number and a second number
+abbrev refusalOf : (number second : ℕ) → CardRefusal
+refusalOf n s =
+    cond (eqb n 1) (Text TooLong)
+    (cond (eqb n 2) (Text (Grammar s))
+    (cond (eqb n 3) (Text (Character s))
+    (cond (eqb n 4) (Text (Repeated s))
+    (cond (eqb n 5) (Text (Deep s))
+    (cond (eqb n 6) (Text (Many s))
+    (cond (eqb n 7) (Text (Small s))
+    (cond (eqb n 11) (Card (Kind s)) (cond (eqb n 12) (Card (Missing s)) (cond (eqb n 13) (Card (Value s)) (Card (Rule s)))))))))))
+
+abbrev verdictOf : Paper → Verdict
+verdictOf p = cond (eqb (p .number) 0) (Passed (p .second)) (Failed (refusalOf (p .number) (p .second)))
+
+answer-back : (a : Verdict) → verdictOf (paperOfVerdict a) ≡ a
+unfolding paperOfVerdict refusedCard refusedFault refused
+answer-back (Passed n) = refl
+answer-back (Failed (Text TooLong)) = refl
+answer-back (Failed (Text (Grammar p))) = refl
+answer-back (Failed (Text (Character p))) = refl
+answer-back (Failed (Text (Repeated p))) = refl
+answer-back (Failed (Text (Deep p))) = refl
+answer-back (Failed (Text (Many p))) = refl
+answer-back (Failed (Text (Small n))) = refl
+answer-back (Failed (Card (Kind p))) = refl
+answer-back (Failed (Card (Missing p))) = refl
+answer-back (Failed (Card (Value p))) = refl
+answer-back (Failed (Card (Rule p))) = refl
+
+pub one-answer : (a b : Verdict) → paperOfVerdict a ≡ paperOfVerdict b → a ≡ b
+one-answer a b e = sym (answer-back a) ∙ ap verdictOf e ∙ answer-back b
+
+-- ---- all of it
+
+pub judging : Judging
+judging = record {
+  ids = λ n. iff (id-test n);
+  counts = λ low high token. iff (count-test low high token);
+  leap-years = λ y. iff (leap-test y);
+  days = λ y m d. iff (day-test y m d);
+  times = λ t. iff (time-test t);
+  rules = λ o ms. iff (between-test o ms);
+  keeps = λ d. (none-kept (first-breach d), kept-none (first-breach d));
+  first = λ d row n. (found-first (first-breach d), first-found (first-breach d));
+  accepted = λ L words t f. (passed-kept L words t (judged L words t) refl, λ h. kept-passed L words t (h .1) (h .2));
+  answer = λ L words t p table. (
+    λ h. subst₂ (Says L words t) (sym (h .0)) (sym (h .1)) (sayings L words t (judged L words t) refl),
+    said L words t,
+  );
+  place = λ L words t f to row number e h. its-row L words t e h;
+  one-answer = one-answer;
+  one-outcome = λ L t lent a b x y h k. (one-answer a b (h .answered ∙ sym (k .answered)), h .table ∙ sym (k .table));
+}

@@ -1,0 +1,239 @@
+-- The tests of the rules between members decide what specs/Between.antt says:
+--     there-test      a member of that name is there
+--     between-test    a rule between members is broken, by the type
+-- Assumes nothing.
+use Prim.Native.Nat.{ℕ}
+use Prim.Native.String.{String}
+use mathlib.Core.Path.{_≡_, refl, sym, subst}
+use mathlib.Core.Bool.{Bool, false, cond, _&&_, true≢false}
+use mathlib.Core.List.{List, [], _∷_}
+use mathlib.Core.Logic.{_⊎_, inl, inr, ⊎-elim}
+use mathlib.Core.Option.{Option, none, some}
+use Rattle.laws.specs.Each.{Each, Some, Neighbours}
+use Rattle.laws.specs.Each as E
+use Rattle.laws.proofs.Decides.{Decides, holds, fails, itself, swap, equal, bytes-same, both, either, unless, lets, not-both}
+use Rattle.text.specs.Text.{bytes}
+use Rattle.text.specs.Strings.{contentOf}
+use Rattle.text.specs.Doc.{Name, Doc, scalar, array, object, Members, empty, member, kindOf, tokenOf, below, Property, property, seek, isThere}
+use Rattle.contact.specs.Schema.{ObjectType, card, name, nameComponent, address, addressComponent, emailAddress, phone, properties, typeIn}
+use Rattle.contact.specs.Rules.{ifFits, present, isTrue, isString, isThisString, hasKind, isSeparator, marksOf, marks, anyMark, allMarks, adjacent, breaksCard, breaksSeparators, breaksName, breaks}
+use Rattle.contact.specs.Kinds.{Tabled}
+use Rattle.contact.specs.Between.{Has, here, later, Counts, IsString, string, Separator, separator, entries, BreaksCard, no-group, BreaksSeparators, in-a-row, unordered, default-unordered, default-alone, BreaksName, nameless, only-separators, separators, BreaksBetween, of-card, of-name, of-address}
+use Rattle.contact.proofs.Judging.Table.{table-test}
+
+-- ---- members
+
+-- what is found of a name
+data Sought (ms : Members) (n : Name) : Option Property → Type 0 where
+  got : (p : Property) → Has ms n (p .content) → ((e : Doc) → Has ms n e → e ≡ p .content) → Sought ms n (some p)
+  lost : ((e : Doc) → ¬ Has ms n e) → Sought ms n none
+
+first-has : {m n : Name} {label : List ℕ} {d e : Doc} {ms : Members} → Has (member m label d ms) n e → (m ≡ n × (e ≡ d)) ⊎ (¬ (m ≡ n) × Has ms n e)
+first-has here = inl (refl, refl)
+first-has (later f h) = inr (f, h)
+
+sought : (n : Name) (ms : Members) → Sought ms n (seek n ms)
+sought n empty = lost none-here
+  where
+    none-here : (e : Doc) → ¬ Has empty n e
+    none-here e h = elim h [ ]
+sought n (member m label d ms) = next (bytes-same m n) (sought n ms)
+  where
+    next : {b : Bool} {o : Option Property} → Decides (m ≡ n) b → Sought ms n o → Sought (member m label d ms) n (cond b (some (property label d)) o)
+    next (holds e) s =
+        got (property label d) (subst (λ (k : Name). Has (member m label d ms) k d) e here)
+        (λ x h. ⊎-elim (λ (q : m ≡ n × (x ≡ d)). q .1) (λ (q : ¬ (m ≡ n) × Has ms n x). absurd (q .0 e)) (first-has h))
+    next (fails f) (got p h u) =
+        got p (later f h) (λ x k. ⊎-elim (λ (q : m ≡ n × (x ≡ d)). absurd (f (q .0))) (λ (q : ¬ (m ≡ n) × Has ms n x). u x (q .1)) (first-has k))
+    next (fails f) (lost g) =
+        lost (λ x k. ⊎-elim (λ (q : m ≡ n × (x ≡ d)). f (q .0)) (λ (q : ¬ (m ≡ n) × Has ms n x). g x (q .1)) (first-has k))
+
+pub there-test : (n : Name) (ms : Members) → Decides ((d : Doc) × Has ms n d) (isThere (seek n ms))
+there-test n ms = go (sought n ms)
+  where
+    go : {o : Option Property} → Sought ms n o → Decides ((d : Doc) × Has ms n d) (isThere o)
+    go (got p h u) = holds (p .content, h)
+    go (lost f) = fails (λ h. f (h .0) (h .1))
+
+-- the one value of which something holds, or that there is none
+data Is (P : Doc → Type 0) : Option Doc → Type 0 where
+  one : (d : Doc) → P d → ((e : Doc) → P e → e ≡ d) → Is P (some d)
+  no-one : ((d : Doc) → ¬ P d) → Is P none
+
+present-is : (o : ObjectType) (n : String) (ms : Members) → Is (Counts o ms n) (present o (bytes n) ms)
+unfolding present
+present-is o n ms = go (sought (bytes n) ms)
+  where
+    pick : {b : Bool} (p : Property) → Has ms (bytes n) (p .content) → ((e : Doc) → Has ms (bytes n) e → e ≡ p .content)
+        → Decides (Tabled o (bytes n) (kindOf (p .content))) b → Is (Counts o ms n) (cond b (some (p .content)) none)
+    pick p h u (holds s) = one (p .content) (record { has = h; suits = s }) (λ e c. u e (c .has))
+    pick p h u (fails f) = no-one (λ d c. f (subst (λ (x : Doc). Tabled o (bytes n) (kindOf x)) (u d (c .has)) (c .suits)))
+
+    go : {x : Option Property} → Sought ms (bytes n) x → Is (Counts o ms n) (ifFits (typeIn (properties o) (bytes n)) x)
+    go (got p h u) = pick p h u (table-test o (bytes n) (kindOf (p .content)))
+    go (lost f) = no-one (λ d c. f d (c .has))
+
+-- a test on the value of a member that counts, which an absent one fails
+module _ {P : Doc → Type 0} {Q : Doc → Type 0} (f : Option Doc → Bool) (absent : f none ≡ false) (test : (d : Doc) → Decides (Q d) (f (some d))) where
+  such : {x : Option Doc} → Is P x → Decides ((d : Doc) × P d × Q d) (f x)
+  such (one d p u) = swap (λ q. (d, p, q)) (λ h. subst Q (u (h .0) (h .1)) (h .2)) (test d)
+  such (no-one g) = rw absent (fails (λ h. g (h .0) (h .1)))
+
+present-test : (o : ObjectType) (n : String) (ms : Members) → Decides ((d : Doc) × Counts o ms n d) (isThere (present o (bytes n) ms))
+present-test o n ms = go (present-is o n ms)
+  where
+    go : {x : Option Doc} → Is (Counts o ms n) x → Decides ((d : Doc) × Counts o ms n d) (isThere x)
+    go (one d c u) = holds (d, c)
+    go (no-one g) = fails (λ h. g (h .0) (h .1))
+
+ordered-test : (o : ObjectType) (ms : Members)
+    → Decides ((d : Doc) × Counts o ms "isOrdered" d × (kindOf d ≡ 3)) (isTrue (present o (bytes "isOrdered") ms))
+ordered-test o ms = such isTrue refl (λ d. equal (kindOf d) 3) (present-is o "isOrdered" ms)
+
+-- ---- strings and separators
+
+string-is : {s : String} {d : Doc} → IsString s d → (kindOf d ≡ 5) × (contentOf (tokenOf d) ≡ bytes s)
+string-is (string e) = (refl, e)
+
+string-test : (s : String) (d : Doc) → Decides (IsString s d) (isString (bytes s) d)
+unfolding isString
+string-test s (scalar kind token) =
+    swap (λ h. subst (λ (k : ℕ). IsString s (scalar k token)) (sym (h .0)) (string (h .1))) string-is
+    (lets (equal kind 5) (bytes-same (contentOf token) (bytes s)))
+string-test s (array ms) = fails (λ h. elim h [ ])
+string-test s (object ms) = fails (λ h. elim h [ ])
+
+separator-is : {ms : Members} → Separator (object ms) → (kind : Doc) × Has ms (bytes "kind") kind × IsString "separator" kind
+separator-is (separator h s) = (_, h, s)
+
+separator-test : (d : Doc) → Decides (Separator d) (isSeparator d)
+unfolding isSeparator
+separator-test (scalar kind token) = swap (λ h. absurd (true≢false (sym (h .1)))) (λ h. elim h [ ]) (lets (equal kind 7) (itself false))
+separator-test (array ms) = fails (λ h. elim h [ ])
+separator-test (object ms) = go (sought (bytes "kind") ms)
+  where
+    go : {x : Option Property} → Sought ms (bytes "kind") x → Decides (Separator (object ms)) (hasKind (bytes "separator") x)
+    go (got p h u) = swap (separator h) (λ s. let k = separator-is s in subst (IsString "separator") (u (k .0) (k .1)) (k .2)) (string-test "separator" (p .content))
+    go (lost f) = fails (λ s. let k = separator-is s in f (k .0) (k .1))
+
+each-separator : (ms : Members) → Decides (Each Separator (entries ms)) (allMarks (marksOf ms))
+unfolding entries marksOf allMarks
+each-separator empty = holds E.none
+each-separator (member n label d ms) = swap (λ h. E.more (h .0) (h .1)) parts (both (separator-test d) (each-separator ms))
+  where
+    parts : Each Separator (d ∷ entries ms) → Separator d × Each Separator (entries ms)
+    parts (E.more p ps) = (p, ps)
+
+some-separator : (ms : Members) → Decides (Some Separator (entries ms)) (anyMark (marksOf ms))
+unfolding entries marksOf anyMark
+some-separator empty = fails (λ h. elim h [ ])
+some-separator (member n label d ms) = swap (⊎-elim E.here E.later) parts (either (separator-test d) (some-separator ms))
+  where
+    parts : Some Separator (d ∷ entries ms) → Separator d ⊎ Some Separator (entries ms)
+    parts (E.here p) = inl p
+    parts (E.later ps) = inr ps
+
+two-separators : (ms : Members) → Decides (Neighbours Separator (entries ms)) (adjacent (marksOf ms))
+unfolding entries marksOf adjacent
+two-separators empty = fails (λ h. elim h [ ])
+two-separators (member n label d empty) = fails alone
+  where
+    alone : ¬ Neighbours Separator (d ∷ [])
+    alone (E.further h) = elim h [ ]
+two-separators (member n label d (member m tag e ms)) =
+    swap (⊎-elim (λ h. E.both (h .0) (h .1)) E.further) parts
+    (either (both (separator-test d) (separator-test e)) (two-separators (member m tag e ms)))
+  where
+    parts : Neighbours Separator (d ∷ e ∷ entries ms) → (Separator d × Separator e) ⊎ Neighbours Separator (e ∷ entries ms)
+    parts (E.both p q) = inl (p, q)
+    parts (E.further h) = inr h
+
+-- ---- the rules
+
+card-test : (ms : Members) → Decides (BreaksCard ms) (breaksCard ms)
+unfolding breaksCard
+card-test ms =
+    swap
+    (λ h. no-group (h .0 .1) (λ k c s. h .1 (k, c, s)))
+    parts
+    (both (present-test card "members" ms) (unless (such (isThisString (bytes "group")) refl (string-test "group") (present-is card "kind" ms))))
+  where
+    parts : BreaksCard ms → ((d : Doc) × Counts card ms "members" d) × (((d : Doc) × Counts card ms "kind" d × IsString "group" d) → ⊥)
+    parts (no-group c f) = ((_, c), λ h. f (h .0) (h .1) (h .2))
+
+-- a test on the marks of a list that counts
+listed-test : {Q : Members → Type 0} (o : ObjectType) (ms : Members) (f : List Bool → Bool) → f [] ≡ false
+    → ((es : Members) → Decides (Q es) (f (marksOf es)))
+    → Decides ((d : Doc) × Counts o ms "components" d × Q (below d)) (f (marks (present o (bytes "components") ms)))
+listed-test o ms f empty-fails test = such (λ x. f (marks x)) empty-fails (λ d. test (below d)) (present-is o "components" ms)
+
+module _ (o : ObjectType) (ms : Members) where
+  abbrev Listed : (Doc → Type 0) → Type 0
+  Listed Q = (d : Doc) × Counts o ms "components" d × Q d
+
+  abbrev Ordered : Type 0
+  Ordered = (d : Doc) × Counts o ms "isOrdered" d × (kindOf d ≡ 3)
+
+  -- the three ways of the test
+  abbrev Ways : Type 0
+  Ways =
+      (Listed (λ d. Neighbours Separator (entries (below d))) ⊎ (Listed (λ d. Some Separator (entries (below d))) × (Ordered → ⊥)))
+      ⊎ (((d : Doc) × Counts o ms "defaultSeparator" d) × ((Ordered × ((d : Doc) × Counts o ms "components" d)) → ⊥))
+
+  separators-by : Ways → BreaksSeparators o ms
+  separators-by (inl (inl h)) = in-a-row (h .1) (h .2)
+  separators-by (inl (inr h)) = unordered (h .0 .1) (h .0 .2) (λ d c e. h .1 (d, c, e))
+  separators-by (inr h) =
+      ⊎-elim
+      (λ (f : Ordered → ⊥). default-unordered (h .0 .1) (λ d c e. f (d, c, e)))
+      (λ (f : ((d : Doc) × Counts o ms "components" d) → ⊥). default-alone (h .0 .1) (λ d c. f (d, c)))
+      (not-both (ordered-test o ms) (h .1))
+
+  by-separators : BreaksSeparators o ms → Ways
+  by-separators (in-a-row c n) = inl (inl (_, c, n))
+  by-separators (unordered c s f) = inl (inr ((_, c, s), λ h. f (h .0) (h .1) (h .2)))
+  by-separators (default-unordered c f) = inr ((_, c), λ h. f (h .0 .0) (h .0 .1) (h .0 .2))
+  by-separators (default-alone c f) = inr ((_, c), λ h. f (h .1 .0) (h .1 .1))
+
+  separators-test : Decides (BreaksSeparators o ms) (breaksSeparators o ms)
+  unfolding breaksSeparators adjacent anyMark
+  separators-test =
+      swap separators-by by-separators
+      (either
+      (either (listed-test o ms adjacent refl two-separators) (both (listed-test o ms anyMark refl some-separator) (unless (ordered-test o ms))))
+      (both (present-test o "defaultSeparator" ms) (unless (both (ordered-test o ms) (present-test o "components" ms)))))
+
+abbrev NameWays : Members → Type 0
+NameWays ms =
+    (((((d : Doc) × Counts name ms "full" d) ⊎ ((d : Doc) × Counts name ms "components" d)) → ⊥)
+    ⊎ ((d : Doc) × Counts name ms "components" d × Each Separator (entries (below d))))
+    ⊎ BreaksSeparators name ms
+
+name-test : (ms : Members) → Decides (BreaksName ms) (breaksName ms)
+unfolding breaksName
+name-test ms =
+    swap name-by by-name
+    (either
+    (either
+    (unless (either (present-test name "full" ms) (present-test name "components" ms)))
+    (such (λ x. isThere x && allMarks (marks x)) refl (λ d. each-separator (below d)) (present-is name "components" ms)))
+    (separators-test name ms))
+  where
+    name-by : NameWays ms → BreaksName ms
+    name-by (inl (inl f)) = nameless (λ d c. f (inl (d, c))) (λ d c. f (inr (d, c)))
+    name-by (inl (inr h)) = only-separators (h .1) (h .2)
+    name-by (inr h) = separators h
+
+    by-name : BreaksName ms → NameWays ms
+    by-name (nameless f g) = inl (inl (⊎-elim (λ h. f (h .0) (h .1)) (λ h. g (h .0) (h .1))))
+    by-name (only-separators c e) = inl (inr (_, c, e))
+    by-name (separators h) = inr h
+
+pub between-test : (o : ObjectType) (ms : Members) → Decides (BreaksBetween o ms) (breaks o ms)
+between-test card ms = swap of-card (λ h. elim h [ of-card b ↦ b ]) (card-test ms)
+between-test name ms = swap of-name (λ h. elim h [ of-name b ↦ b ]) (name-test ms)
+between-test nameComponent ms = fails (λ h. elim h [ ])
+between-test address ms = swap of-address (λ h. elim h [ of-address b ↦ b ]) (separators-test address ms)
+between-test addressComponent ms = fails (λ h. elim h [ ])
+between-test emailAddress ms = fails (λ h. elim h [ ])
+between-test phone ms = fails (λ h. elim h [ ])

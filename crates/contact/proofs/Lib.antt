@@ -1,0 +1,3 @@
+-- The theorems over the definitions of specs/, by subject.
+pub mod Judging
+pub mod Patching

@@ -1,0 +1,79 @@
+-- The localized card of a text that passes asks nothing of a second reading that the text did not have: `modest` of any entries that break no condition,
+-- `accepted-modest` where the card is written, `inner-modest` where it is 28.
+-- Assumes nothing.
+use mathlib.Core.Path.{_≡_, refl, sym, _∙_}
+use mathlib.Core.Bool.{true}
+use mathlib.Core.List.{List}
+use Prim.Native.Nat.{ℕ, _≤_}
+use native.Mathlib.Nat.{mul-le-mul-left}
+use native.Mathlib.Omega.{arith}
+use Rattle.text.specs.Limits.{Limits}
+use Rattle.text.specs.Tree.{Forest, size}
+use Rattle.text.specs.Doc.{Name, Doc, object, Members, property, docOf, countOf}
+use Rattle.text.specs.Distinct.{Distinct}
+use Rattle.text.specs.Promised.{Promised}
+use Rattle.text.specs.Writing.{written}
+use Rattle.text.specs.Labels.{Labelled, Every}
+use Rattle.text.proofs.Promise.{Fits, whole-good, promised, count-root}
+use Rattle.text.proofs.Labels.{labels-said}
+use Rattle.contact.specs.Verdict.{passed, placed, judgedOf}
+use Rattle.contact.specs.Patch.{entriesOf, applied}
+use Rattle.contact.specs.Localize.{refusedLocal, done, denied, start, patchAt, localizedOf}
+use Rattle.contact.specs.Entries.{NoClash, ParentsThere}
+use Rattle.contact.specs.Conditions.{PatchOf, Broken, unfit, Smallest, Accepted}
+use Rattle.contact.specs.Again.{TokenOf, Modest, InnerOf}
+use Rattle.contact.specs.declared.CardRefusal.{CardRefusal}
+use Rattle.contact.specs.declared.LocalRefusal.the-variants.{Inner}
+use Rattle.contact.proofs.Judging.{judging}
+use Rattle.contact.proofs.Patching.Distinct.{distinct-applied, entries-values, distinct-start, find-distinct}
+use Rattle.contact.proofs.Patching.Every.{labels-stay, keys-long}
+use Rattle.contact.proofs.Patching.Room.{room-enough, values-enough}
+use Rattle.contact.proofs.Patching.Refused.{refused-iff, accepted-iff}
+use Rattle.contact.proofs.Patching.Public.{passed-so}
+use Rattle.contact.proofs.Patching.Fine.{Fine, fine}
+
+module _ (L : Limits) (words : ℕ) (t : List ℕ) (f : Forest) (unique : L .unique ≡ true) (pass : judgedOf L words t ≡ passed f) (lang : Name) where
+  abbrev card : Doc
+  card = docOf t f
+
+  pub modest : (ms : Members) → PatchOf card lang ms → NoClash (entriesOf ms) → ParentsThere (entriesOf ms) (start card)
+      → Modest L words t f (applied (start card) (entriesOf ms))
+  modest ms patch nc pt =
+      let (to, w, keeps) = judging .accepted L words t f .0 pass in
+      let r : Fits L words t f to = whole-good L words t f to w in
+      let p : Promised L t f = promised L t f to (r .read) in
+      let dc : Distinct card = p .distinct unique in
+      let labels : Every Labelled (TokenOf t) card =
+      labels-said t (TokenOf t) (λ kind from end k. record { from = from; to = end; stands = k; is = refl }) (p .placed) in
+      let count : countOf card ≡ size f = count-root t f (p .some) (p .alone) in
+      let fewer : countOf (applied (start card) (entriesOf ms)) ≤ size f = omega (arith, values-enough card lang ms patch dc nc pt) in
+      record {
+        distinct =
+            distinct-applied (start card) (entriesOf ms) nc
+            (entries-values ms (find-distinct (patchAt lang) card (property (patch .label) (object ms)) dc (patch .stands)))
+            (distinct-start card dc);
+        labels = labels-stay (TokenOf t) card lang ms patch labels;
+        values = omega (arith, p .few);
+        rows = omega (arith, mul-le-mul-left (L .words) fewer, r .room);
+        short = room-enough card lang ms patch dc nc pt (keys-long (TokenOf t) card lang ms patch labels);
+      }
+
+  -- a card that is written, and one that is 28
+  pub accepted-modest : (room : ℕ) (text : List ℕ) (g : Forest) → localizedOf L words room t lang ≡ done text g
+      → (x : Doc) × (text ≡ written x) × Modest L words t f x
+  accepted-modest room text g e =
+      let a : Accepted L words room card lang text g = accepted-iff L words room card lang text g .0 (sym (passed-so L words room t lang f pass) ∙ e) in
+      let h : Fine card (a .members) = fine L words room card lang (a .members) (a .patch) (λ m q l. a .unbroken m q) in
+      (applied (start card) (entriesOf (a .members)), a .writes, modest (a .members) (a .patch) (h .noClash) (h .parents))
+
+  pub inner-modest : (room : ℕ) (r : CardRefusal) → localizedOf L words room t lang ≡ denied (Inner r) → InnerOf L words t f lang r
+  inner-modest room r e =
+      let s : Smallest L words room card lang (refusedLocal (Inner r) .number) (Inner r) =
+      refused-iff L words room card lang (Inner r) .0 (sym (passed-so L words room t lang f pass) ∙ e) in
+      go (refusedLocal (Inner r) .number) s (s .broken)
+    where
+      go : (n : ℕ) → Smallest L words room card lang n (Inner r) → Broken L words room card lang n (Inner r) → InnerOf L words t f lang r
+      go n s (unfit {ms = ms} patch k) =
+          let h : Fine card ms =
+          fine L words room card lang ms patch (λ m q l b. let i : 28 ≤ m = s .least m q b in omega arith) in
+          record { members = ms; patch = patch; modest = modest ms patch (h .noClash) (h .parents); judged = k }

@@ -1,0 +1,46 @@
+-- Two answers, tables and outputs that localizing's contract allows are equal: `one-outcome`. The paper's numbers are those of the answer:
+-- `answer-paper`. What is written fits the output: `output-fits`.
+-- Assumes nothing.
+use mathlib.Core.Path.{_≡_, refl, sym, ap, _∙_}
+use mathlib.Core.List.{List}
+use Prim.Native.Nat.{ℕ, _≤_, _<_}
+use native.Mathlib.Decide.{decLe}
+use native.Mathlib.Omega.{arith}
+use lib.ListN.{length}
+use Rattle.text.specs.Limits.{Limits}
+use Rattle.text.specs.Tree.{Forest}
+use Rattle.text.specs.Doc.{Name, Doc}
+use Rattle.text.specs.Writing.{written}
+use Rattle.contact.specs.Patch.{entriesOf, applied}
+use Rattle.contact.specs.Localize.{start, paperOfLocalized, Outcome, done, denied, localizedDoc, sheetOfOutcome, answerOfOutcome}
+use Rattle.contact.specs.Contract.{Localizes}
+use Rattle.contact.specs.Conditions.{Accepted, short}
+use Rattle.contact.specs.declared.Localized.{Localized}
+use Rattle.contact.specs.declared.LocalRefusal.the-variants.{Short}
+use Rattle.contact.proofs.Patching.Refused.{accepted-iff}
+
+pub answer-paper : (o : Outcome) → sheetOfOutcome o ≡ paperOfLocalized (answerOfOutcome o)
+unfolding sheetOfOutcome paperOfLocalized answerOfOutcome
+answer-paper (done text f) = refl
+answer-paper (denied r) = refl
+
+-- it is enough to promise the answer: the numbers follow
+pub paper-follows : (o : Outcome) (r : Localized) → r ≡ answerOfOutcome o → paperOfLocalized r ≡ sheetOfOutcome o
+paper-follows o r e = rw e (sym (answer-paper o))
+
+module _ {L : Limits} {words room : ℕ} {text : List ℕ} {lang : Name} where
+  pub one-outcome : {r q : Localized} {table other output out : List ℕ}
+      → Localizes L words room text lang r table output → Localizes L words room text lang q other out
+      → (r ≡ q) × (table ≡ other) × (output ≡ out)
+  one-outcome a b = (a .answer ∙ sym (b .answer), a .rows ∙ sym (b .rows), a .bytes ∙ sym (b .bytes))
+
+-- what is written fits the output
+pub output-fits : (L : Limits) (words room : ℕ) (card : Doc) (lang : Name) (text : List ℕ) (f : Forest)
+    → localizedDoc L words room card lang ≡ done text f → length text ≤ room
+output-fits L words room card lang text f e = elim (decLe (length text) room) [
+  | yes k ↦ k
+  | no k ↦ let a : Accepted L words room card lang text f = accepted-iff L words room card lang text f .0 e in
+      let y : List ℕ = written (applied (start card) (entriesOf (a .members))) in
+      let h : room < length y = omega (arith, ap length (a .writes)) in
+      absurd (a .unbroken 27 (Short (length y)) (short (a .patch) h))
+]

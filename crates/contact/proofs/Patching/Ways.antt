@@ -1,0 +1,126 @@
+-- 25 and 26 in words: where the walk along a pointer ends.
+-- Assumes nothing.
+use mathlib.Core.Path.{_≡_, refl, sym, ap, _∙_}
+use mathlib.Core.Bool.{true, true≢false}
+use mathlib.Core.Logic.{_↔_}
+use mathlib.Core.List.{List, [], _∷_, _++_, head-eq-of-cons-eq, tail-eq-of-cons-eq}
+use mathlib.Core.Option.{Option, none, some}
+use Prim.Native.Nat.{ℕ}
+use native.Mathlib.Omega.{arith}
+use Rattle.text.specs.Doc.{Name, Doc, scalar, array, object, Members, Property, seek}
+use Rattle.contact.specs.Pointer.{Pointer, last, down, parts}
+use Rattle.contact.specs.Patch.{Walk, arrives, inArray, noObject, onward, walk, isInArray, isNoObject}
+use Rattle.contact.specs.Conditions.{Leads, here, into, Reaches, EntersArray, reached, LosesWay, atScalar, lacking}
+
+-- ---- a part further
+
+reaches-on : {p : Pointer} {x : Doc} {n : Name} {left : List Name} (m : Name) (ms : Members) (s : Property) → seek m ms ≡ some s
+    → Reaches p (s .content) x n left → Reaches (down m p) (object ms) x n left
+reaches-on m ms s e r = record { way = m ∷ r .way; split = ap (λ (k : List Name). m ∷ k) (r .split); leads = into {s = s} e (r .leads) }
+
+enters-on : (p : Pointer) (m : Name) (ms : Members) (s : Property) → seek m ms ≡ some s → EntersArray p (s .content) → EntersArray (down m p) (object ms)
+enters-on p m ms s e (reached r) = reached (reaches-on m ms s e r)
+
+loses-on : (p : Pointer) (m : Name) (ms : Members) (s : Property) → seek m ms ≡ some s → LosesWay p (s .content) → LosesWay (down m p) (object ms)
+loses-on p m ms s e (atScalar r) = atScalar (reaches-on m ms s e r)
+loses-on p m ms s e (lacking r k) = lacking (reaches-on m ms s e r) k
+
+-- ---- from the walk
+
+at-root : (p : Pointer) (d : Doc) (n : Name) (left : List Name) → parts p ≡ n ∷ left → Reaches p d d n left
+at-root p d n left e = record { way = []; split = e; leads = here }
+
+to-array : (p : Pointer) (d : Doc) → walk p d ≡ inArray → EntersArray p d
+to-array (last n) (scalar k t) h = absurd (true≢false (ap isNoObject h))
+to-array (last n) (array xs) h = reached (at-root (last n) (array xs) n [] refl)
+to-array (last n) (object ms) h = absurd (true≢false (sym (ap isInArray h)))
+to-array (down n p) (scalar k t) h = absurd (true≢false (ap isNoObject h))
+to-array (down n p) (array xs) h = reached (at-root (down n p) (array xs) n (parts p) refl)
+to-array (down n p) (object ms) h = go (seek n ms) refl h (λ d. to-array p d)
+  where
+    go : (o : Option Property) → seek n ms ≡ o → onward (walk p) o ≡ inArray → ((d : Doc) → walk p d ≡ inArray → EntersArray p d) → EntersArray (down n p) (object ms)
+    go none e k ih = absurd (true≢false (ap isNoObject k))
+    go (some s) e k ih = enters-on p n ms s e (ih (s .content) k)
+
+to-lost : (p : Pointer) (d : Doc) → walk p d ≡ noObject → LosesWay p d
+to-lost (last n) (scalar k t) h = atScalar (at-root (last n) (scalar k t) n [] refl)
+to-lost (last n) (array xs) h = absurd (true≢false (ap isInArray h))
+to-lost (last n) (object ms) h = absurd (true≢false (sym (ap isNoObject h)))
+to-lost (down n p) (scalar k t) h = atScalar (at-root (down n p) (scalar k t) n (parts p) refl)
+to-lost (down n p) (array xs) h = absurd (true≢false (ap isInArray h))
+to-lost (down n p) (object ms) h = go (seek n ms) refl h (λ d. to-lost p d)
+  where
+    lacks : (q : Pointer) → seek n ms ≡ none → LosesWay (down n q) (object ms)
+    lacks (last m) e = lacking (at-root (down n (last m)) (object ms) n (m ∷ []) refl) e
+    lacks (down m q) e = lacking (at-root (down n (down m q)) (object ms) n (m ∷ parts q) refl) e
+
+    go : (o : Option Property) → seek n ms ≡ o → onward (walk p) o ≡ noObject → ((d : Doc) → walk p d ≡ noObject → LosesWay p d) → LosesWay (down n p) (object ms)
+    go none e k ih = lacks p e
+    go (some s) e k ih = loses-on p n ms s e (ih (s .content) k)
+
+-- ---- to the walk: it goes the way of the parts, and what it does there it does in all
+
+-- a list that ends in something is not empty
+not-empty : (ns : List Name) (n : Name) (left : List Name) → [] ≡ ns ++ (n ∷ left) → ⊥
+not-empty [] n left e = let z : _≡_ {A = ℕ} 0 1 = cc in omega arith
+not-empty (m ∷ ns) n left e = let z : _≡_ {A = ℕ} 0 1 = cc in omega arith
+
+-- the pointer that is left at the value reached, where the walk goes on
+record Left (p : Pointer) (d x : Doc) (n : Name) (left : List Name) : Type 0 where
+  rest : Pointer
+  has : parts rest ≡ n ∷ left
+  on : walk p d ≡ walk rest x
+
+follow : {way : List Name} {d x : Doc} → Leads way d x → (p : Pointer) (n : Name) (left : List Name) → parts p ≡ way ++ (n ∷ left) → Left p d x n left
+follow here p n left e = record { rest = p; has = e; on = refl }
+follow (into {n = m} {ns = ns} k l) (last m′) n left e = absurd (not-empty ns n left (tail-eq-of-cons-eq e))
+follow (into {n = m} {ns = ns} {ms = ms} {s = s} k l) (down m′ p) n left e =
+    let r = follow l p n left (tail-eq-of-cons-eq e) in
+    record { rest = r .rest; has = r .has; on = ap (λ (j : Name). onward (walk p) (seek j ms)) (head-eq-of-cons-eq e) ∙ ap (onward (walk p)) k ∙ r .on }
+
+walk-array : (q : Pointer) (ms : Members) → walk q (array ms) ≡ inArray
+walk-array (last n) ms = refl
+walk-array (down n q) ms = refl
+
+walk-scalar : (q : Pointer) (k : ℕ) (t : List ℕ) → walk q (scalar k t) ≡ noObject
+walk-scalar (last n) k t = refl
+walk-scalar (down n q) k t = refl
+
+walk-lacking : (q : Pointer) (ms : Members) (n m : Name) (left : List Name) → parts q ≡ n ∷ m ∷ left → seek n ms ≡ none → walk q (object ms) ≡ noObject
+walk-lacking (last n′) ms n m left e k = absurd (not-empty [] m left (tail-eq-of-cons-eq e))
+walk-lacking (down n′ q) ms n m left e k = ap (λ (j : Name). onward (walk q) (seek j ms)) (head-eq-of-cons-eq e) ∙ ap (onward (walk q)) k
+
+from-array : (p : Pointer) (d : Doc) → EntersArray p d → walk p d ≡ inArray
+from-array p d (reached {ms = ms} {n = n} {left = left} r) =
+    let l = follow (r .leads) p n left (r .split) in l .on ∙ walk-array (l .rest) ms
+
+from-lost : (p : Pointer) (d : Doc) → LosesWay p d → walk p d ≡ noObject
+from-lost p d (atScalar {kind = kind} {token = token} {n = n} {left = left} r) =
+    let l = follow (r .leads) p n left (r .split) in l .on ∙ walk-scalar (l .rest) kind token
+from-lost p d (lacking {ms = ms} {n = n} {m = m} {left = left} r k) =
+    let l = follow (r .leads) p n (m ∷ left) (r .split) in l .on ∙ walk-lacking (l .rest) ms n m left (l .has) k
+
+-- ---- the theorems
+
+pub array-iff : (p : Pointer) (d : Doc) → (walk p d ≡ inArray) ↔ EntersArray p d
+array-iff p d = (to-array p d, from-array p d)
+
+pub lost-iff : (p : Pointer) (d : Doc) → (walk p d ≡ noObject) ↔ LosesWay p d
+lost-iff p d = (to-lost p d, from-lost p d)
+
+-- the same, by the tests
+in-array : (w : Walk) → isInArray w ≡ true → w ≡ inArray
+in-array arrives e = absurd (true≢false (sym e))
+in-array inArray e = refl
+in-array noObject e = absurd (true≢false (sym e))
+
+no-object : (w : Walk) → isNoObject w ≡ true → w ≡ noObject
+no-object arrives e = absurd (true≢false (sym e))
+no-object inArray e = absurd (true≢false (sym e))
+no-object noObject e = refl
+
+pub array-test : (p : Pointer) (d : Doc) → (isInArray (walk p d) ≡ true) ↔ EntersArray p d
+array-test p d = (λ e. to-array p d (in-array (walk p d) e), λ h. ap isInArray (from-array p d h))
+
+pub lost-test : (p : Pointer) (d : Doc) → (isNoObject (walk p d) ≡ true) ↔ LosesWay p d
+lost-test p d = (λ e. to-lost p d (no-object (walk p d) e), λ h. ap isNoObject (from-lost p d h))

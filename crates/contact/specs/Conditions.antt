@@ -1,0 +1,102 @@
+-- The conditions 21 to 28 of the refusal sheet, each by itself and in words: no search, no order and no walk is named here. The answer is the
+-- broken condition of smallest number (proofs/Patching/Refused.antt).
+-- Assumes nothing: these are definitions.
+use Prim.Native.Nat.{ℕ, _≤_, _<_}
+use mathlib.Core.Path.{_≡_}
+use mathlib.Core.Logic.{_⊎_, _≢_}
+use mathlib.Core.List.{List, [], _∷_, _++_}
+use mathlib.Core.Option.{none, some}
+use lib.ListN.{length}
+use Rattle.text.specs.Limits.{Limits}
+use Rattle.text.specs.Text.{bytes}
+use Rattle.text.specs.Tree.{Forest}
+use Rattle.text.specs.Doc.{Name, Doc, scalar, array, object, Members, member, Property, property, seek}
+use Rattle.text.specs.Writing.{written}
+use Rattle.contact.specs.Verdict.{passed, failed, judgedOf}
+use Rattle.contact.specs.Pointer.{Pointer, pointerOf, firstPart, parts, find}
+use Rattle.contact.specs.Patch.{entriesOf, applied}
+use Rattle.contact.specs.Localize.{start, patchAt}
+use Rattle.contact.specs.Entries.{Prefix}
+use Rattle.contact.specs.declared.CardRefusal.{CardRefusal}
+use Rattle.contact.specs.declared.LocalRefusal.{LocalRefusal}
+use Rattle.contact.specs.declared.LocalRefusal.the-variants.{NoLanguage, BadKey, OwnLocalizations, Clash, InArray, NoObject, Short, Inner}
+
+-- ---- keys
+
+-- somewhere in the key stands a `~` (126) that neither `0` nor `1` follows
+pub record LooseTilde (key : Name) : Type 0 where
+  pub front : List ℕ
+  pub behind : List ℕ
+  pub stands : key ≡ front ++ (126 ∷ behind)
+  pub loose : (rest : List ℕ) → (behind ≢ 48 ∷ rest) × (behind ≢ 49 ∷ rest)
+
+-- one of the members has this name
+pub data HasKey (key : Name) : Members → Type 0 where
+  first : {label : List ℕ} {d : Doc} {ms : Members} → HasKey key (member key label d ms)
+  later : {n : Name} {label : List ℕ} {d : Doc} {ms : Members} → HasKey key ms → HasKey key (member n label d ms)
+
+-- two of the members, the one before the other, have these names
+pub data HasKeys (key other : Name) : Members → Type 0 where
+  firstOf : {label : List ℕ} {d : Doc} {ms : Members} → HasKey other ms → HasKeys key other (member key label d ms)
+  laterOn : {n : Name} {label : List ℕ} {d : Doc} {ms : Members} → HasKeys key other ms → HasKeys key other (member n label d ms)
+
+-- ---- the way of a pointer
+
+-- the names lead from the one value, through objects, to the other
+pub data Leads : List Name → Doc → Doc → Type 0 where
+  here : {d : Doc} → Leads [] d d
+  into : {n : Name} {ns : List Name} {ms : Members} {s : Property} {x : Doc} → seek n ms ≡ some s → Leads ns (s .content) x → Leads (n ∷ ns) (object ms) x
+
+-- the pointer, from the value d, reaches the value x while the part n and then the parts `left` are left: so n is its last part if nothing is left
+pub record Reaches (p : Pointer) (d x : Doc) (n : Name) (left : List Name) : Type 0 where
+  pub way : List Name
+  pub split : parts p ≡ way ++ (n ∷ left)
+  pub leads : Leads way d x
+
+-- it goes inside an array: it reaches one, with a part left
+pub data EntersArray (p : Pointer) (d : Doc) : Type 0 where
+  reached : {ms : Members} {n : Name} {left : List Name} → Reaches p d (array ms) n left → EntersArray p d
+
+-- a part before the last doesn't lead to an object that exists: it reaches a value that is neither array nor object, or an object that lacks a
+-- part which is not the last
+pub data LosesWay (p : Pointer) (d : Doc) : Type 0 where
+  atScalar : {kind : ℕ} {token : List ℕ} {n : Name} {left : List Name} → Reaches p d (scalar kind token) n left → LosesWay p d
+  lacking : {ms : Members} {n m : Name} {left : List Name} → Reaches p d (object ms) n (m ∷ left) → seek n ms ≡ none → LosesWay p d
+
+-- ---- the conditions
+
+-- the PatchObject of the language has the members ms
+pub record PatchOf (card : Doc) (lang : Name) (ms : Members) : Type 0 where
+  pub label : List ℕ
+  pub stands : find (patchAt lang) card ≡ some (property label (object ms))
+
+module _ (L : Limits) (words room : ℕ) (card : Doc) (lang : Name) where
+  -- the condition of this number is broken, and calls for this refusal
+  pub data Broken : ℕ → LocalRefusal → Type 0 where
+    noLanguage : ((ms : Members) → ¬ PatchOf card lang ms) → Broken 21 NoLanguage
+    badKey : {ms : Members} {key : Name} → PatchOf card lang ms → HasKey key ms → LooseTilde key → Broken 22 BadKey
+    ownLocalizations : {ms : Members} {key : Name} → PatchOf card lang ms → HasKey key ms
+        → firstPart (pointerOf key) ≡ bytes "localizations" → Broken 23 OwnLocalizations
+    clashing : {ms : Members} {key other : Name} → PatchOf card lang ms → HasKeys key other ms
+        → Prefix (pointerOf key) (pointerOf other) ⊎ Prefix (pointerOf other) (pointerOf key) → Broken 24 Clash
+    enteringArray : {ms : Members} {key : Name} → PatchOf card lang ms → HasKey key ms
+        → EntersArray (pointerOf key) (start card) → Broken 25 InArray
+    losingWay : {ms : Members} {key : Name} → PatchOf card lang ms → HasKey key ms
+        → LosesWay (pointerOf key) (start card) → Broken 26 NoObject
+    short : {ms : Members} → PatchOf card lang ms → room < length (written (applied (start card) (entriesOf ms)))
+        → Broken 27 (Short (length (written (applied (start card) (entriesOf ms)))))
+    unfit : {ms : Members} {r : CardRefusal} → PatchOf card lang ms
+        → judgedOf L words (written (applied (start card) (entriesOf ms))) ≡ failed r → Broken 28 (Inner r)
+
+  -- the refusal of the smallest number whose condition is broken
+  pub record Smallest (number : ℕ) (r : LocalRefusal) : Type 0 where
+    pub broken : Broken number r
+    pub least : (m : ℕ) (q : LocalRefusal) → Broken m q → number ≤ m
+
+  -- nothing is broken, and the text is that of the card as the entries leave it, with its tree
+  pub record Accepted (text : List ℕ) (f : Forest) : Type 0 where
+    pub members : Members
+    pub patch : PatchOf card lang members
+    pub unbroken : (m : ℕ) (q : LocalRefusal) → ¬ Broken m q
+    pub writes : text ≡ written (applied (start card) (entriesOf members))
+    pub reads : judgedOf L words text ≡ passed f

@@ -1,0 +1,99 @@
+-- Demand 3, how a localization is applied, as one statement: `Demand`. proofs/Patching/Demand.antt proves it for all limits, tables and outputs.
+-- Assumes nothing: these are definitions.
+use Prim.Native.Nat.{ℕ}
+use mathlib.Core.Path.{_≡_}
+use mathlib.Core.Logic.{_≢_, _↔_}
+use mathlib.Core.List.{List}
+use mathlib.Core.Option.{none, some}
+use Rattle.text.specs.Limits.{Limits}
+use Rattle.text.specs.Text.{bytes}
+use Rattle.text.specs.Tree.{Forest}
+use Rattle.text.specs.Doc.{Name, Doc, object, Members, member, property, docOf}
+use Rattle.text.specs.Distinct.{Distinct, DistinctMembers}
+use Rattle.text.specs.Writing.{written}
+use Rattle.contact.specs.Verdict.{passed, failed, judgedOf}
+use Rattle.contact.specs.Pointer.{Pointer, last, firstPart, lastPart, find}
+use Rattle.contact.specs.Patch.{Change, Entry, entriesOf, run}
+use Rattle.contact.specs.Localize.{refusedLocal, done, denied, start, localizedDoc, localizedOf}
+use Rattle.contact.specs.Likeness.{Same, Reordered}
+use Rattle.contact.specs.Entries.{Perm, Has, valued, Clear, Shuffled, Laid, NotOver, LaidAt}
+use Rattle.contact.specs.Conditions.{PatchOf, Smallest, Accepted}
+use Rattle.contact.specs.declared.CardRefusal.{CardRefusal}
+use Rattle.contact.specs.declared.LocalRefusal.{LocalRefusal}
+use Rattle.contact.specs.declared.LocalRefusal.the-variants.{Given}
+
+-- ---- cards that differ in the order of a PatchObject's entries
+
+-- objects with the same members in another order
+pub data Rearranged : Doc → Doc → Type 0 where
+  rearranged : {ms ns : Members} → Shuffled ms ns → Rearranged (object ms) (object ns)
+
+-- the same members, but that the values of the member n differ as R says
+pub data AtMember (n : Name) (R : Doc → Doc → Type 0) : Members → Members → Type 0 where
+  thisOne : {label : List ℕ} {d e : Doc} {ms : Members} → R d e → AtMember n R (member n label d ms) (member n label e ms)
+  laterOne : {m : Name} {label : List ℕ} {d : Doc} {ms ns : Members} → m ≢ n → AtMember n R ms ns → AtMember n R (member m label d ms) (member m label d ns)
+
+pub data InMember (n : Name) (R : Doc → Doc → Type 0) : Doc → Doc → Type 0 where
+  inMember : {ms ns : Members} → AtMember n R ms ns → InMember n R (object ms) (object ns)
+
+-- the cards differ in nothing but the order of the entries of the language's PatchObject
+abbrev pub OrderOnly : Name → Doc → Doc → Type 0
+OrderOnly lang card other = InMember (bytes "localizations") (InMember lang Rearranged) card other
+
+-- ---- what a patched card is
+
+-- the entries es, one at a time from d: each step finds its parent, and the end is e, member order not counted
+pub record Ends (es : List Entry) (d e : Doc) : Type 0 where
+  pub end : Doc
+  pub reached : run es d ≡ some end
+  pub alike : Same end e
+
+-- x is what the entries of a PatchObject with the members ms say of the card d without its localizations
+pub record Patched (d : Doc) (ms : Members) (x : Doc) : Type 0 where
+  -- set or removed one at a time, in any order; where names are distinct, the end and x differ in the order of members only
+  pub one-by-one : (fs : List Entry) → Perm (entriesOf ms) fs → Ends fs d x
+  pub reordered : Distinct d → DistinctMembers ms → (fs : List Entry) (π : Perm (entriesOf ms) fs) → Reordered (one-by-one fs π .end) x
+  -- names stay distinct
+  pub distinct : Distinct d → DistinctMembers ms → Distinct x
+  -- each entry has its way: what its pointer finds is the value that it sets, under the name as it was written, or nothing
+  pub effects : (p : Pointer) (c : Change) → Has p c (entriesOf ms) → find p x ≡ valued (lastPart p) c (find p d)
+  -- a property that no pointer names, enters or covers: its name as written and its value
+  pub keeps : (p : Pointer) → Clear p (entriesOf ms) → find p x ≡ find p d
+  -- members keep their places, and added ones follow in ascending order of name: in the card itself, and in each object that is not replaced as a whole
+  pub root : (os : Members) → d ≡ object os → (ns : Members) × (x ≡ object ns) × Laid os os ns
+  pub below : (p : Pointer) (label : List ℕ) (os : Members) → NotOver p (entriesOf ms) → find p d ≡ some (property label (object os)) → LaidAt p label os x
+
+-- what was written is the text of a card that is patched so
+pub record PatchedText (card : Doc) (lang : Name) (text : List ℕ) : Type 0 where
+  pub members : Members
+  pub patch : PatchOf card lang members
+  pub result : Doc
+  pub writes : text ≡ written result
+  pub patched : Patched (start card) members result
+  -- where the starting point is the card but for its localizations
+  pub started : (p : Pointer) → firstPart p ≢ bytes "localizations" → find p (start card) ≡ find p card
+  -- which has no localizations: the card had none at the start, and no entry sets them
+  pub unlocalized : find (last (bytes "localizations")) result ≡ none
+
+-- ---- the demand
+
+module _ (L : Limits) (words room : ℕ) where
+  pub record Demand : Type 0 where
+    -- the card's own refusal comes first; else the answer is that of its document
+    pub given : (text : List ℕ) (lang : Name) (r : CardRefusal)
+        → (localizedOf L words room text lang ≡ denied (Given r)) ↔ (judgedOf L words text ≡ failed r)
+    pub passes : (text : List ℕ) (lang : Name) (f : Forest) → judgedOf L words text ≡ passed f
+        → localizedOf L words room text lang ≡ localizedDoc L words room (docOf text f) lang
+    -- the entries of the PatchObject in another order: the outcome is the same, also a refusal
+    pub order : (card other : Doc) (lang : Name) → OrderOnly lang card other → localizedDoc L words room card lang ≡ localizedDoc L words room other lang
+    -- the same of two texts that pass, whatever their white space
+    pub order-of-texts : (t u : List ℕ) (lang : Name) (f g : Forest) → judgedOf L words t ≡ passed f → judgedOf L words u ≡ passed g
+        → OrderOnly lang (docOf t f) (docOf u g) → localizedOf L words room t lang ≡ localizedOf L words room u lang
+    -- refused by the broken condition of smallest number, and accepted if none is broken
+    pub refused : (card : Doc) (lang : Name) (r : LocalRefusal)
+        → (localizedDoc L words room card lang ≡ denied r) ↔ Smallest L words room card lang (refusedLocal r .number) r
+    pub accepted : (card : Doc) (lang : Name) (text : List ℕ) (f : Forest)
+        → (localizedDoc L words room card lang ≡ done text f) ↔ Accepted L words room card lang text f
+    -- what an accepted localization has written
+    pub written-so : (card : Doc) (lang : Name) (text : List ℕ) (f : Forest) → localizedDoc L words room card lang ≡ done text f
+        → PatchedText card lang text

@@ -1,0 +1,28 @@
+-- Which kind of JSON value each type asks (refusal 11), type by type and not by a test.
+-- Kinds: 1 null, 2 false, 3 true, 4 number, 5 string, 6 array, 7 object. Null suits no listed type.
+-- Assumes nothing: these are definitions.
+use Prim.Native.Nat.{ℕ}
+use mathlib.Core.Path.{_≡_}
+use mathlib.Core.List.{List·Memᴰ as In}
+use Rattle.text.specs.Doc.{Name}
+use Rattle.contact.specs.Schema.{ObjectType, anyString, exactly, flag, yes, count, time, Keys, Ty, any, simple, objectOf, listOf, mapOf, Known, properties}
+
+pub data Suits : Ty → (kind : ℕ) → Type 0 where
+  -- of an unknown property nothing is asked
+  unknown : {kind : ℕ} → Suits any kind
+  string : Suits (simple anyString) 5
+  fixed : {n : Name} → Suits (simple (exactly n)) 5
+  utc : Suits (simple time) 5
+  integer : {low high : ℕ} → Suits (simple (count low high)) 4
+  -- a Boolean, and a value of a set, which false only breaks as a value
+  off : Suits (simple flag) 2
+  on : Suits (simple flag) 3
+  out : Suits (simple yes) 2
+  within : Suits (simple yes) 3
+  list : {ty : Ty} → Suits (listOf ty) 6
+  typed : {o : ObjectType} → Suits (objectOf o) 7
+  map : {keys : Keys} {ty : Ty} → Suits (mapOf keys ty) 7
+
+-- a kind that the table asks of the property of that name in an object of that type; of an unknown one any kind
+abbrev pub Tabled : ObjectType → Name → (kind : ℕ) → Type 0
+Tabled o n kind = (k : Known) → In k (properties o) → k .spelling ≡ n → Suits (k .type) kind

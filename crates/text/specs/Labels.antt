@@ -1,0 +1,31 @@
+-- Something of every name and every token of a document; and what it is for a name as written to say a name. Assumes nothing: these are definitions.
+use Prim.Native.Nat.{ℕ}
+use mathlib.Core.Path.{_≡_}
+use mathlib.Core.List.{List, [], _∷_, _++_}
+use Rattle.text.specs.Doc.{Name, Doc, scalar, array, object, Members, empty, member}
+use Rattle.text.specs.Spelling.{Spells, utf8s}
+
+-- what is written says the name: between its quotes it spells code points whose UTF-8 is the name
+pub record Labelled (name : Name) (label : List ℕ) : Type 0 where
+  pub inside : List ℕ
+  pub codes : List ℕ
+  pub quoted : label ≡ 34 ∷ inside ++ (34 ∷ [])
+  pub spells : Spells inside codes
+  pub says : name ≡ utf8s codes
+
+-- N holds of every member's name and label, T of the kind and the token of every value that holds no others, at any depth
+module _ (N : Name → (label : List ℕ) → Type 0) (T : (kind : ℕ) → (token : List ℕ) → Type 0) where
+  abbrev mutual
+    pub Every : Doc → Type 0
+    Every (scalar kind token) = T kind token
+    Every (array ms) = EveryEntry ms
+    Every (object ms) = EveryMember ms
+
+    -- the entries of an array have no names
+    pub EveryEntry : Members → Type 0
+    EveryEntry empty = Prim.Unit {0}
+    EveryEntry (member n label d ms) = Every d × EveryEntry ms
+
+    pub EveryMember : Members → Type 0
+    EveryMember empty = Prim.Unit {0}
+    EveryMember (member n label d ms) = N n label × Every d × EveryMember ms
