@@ -13,3 +13,5 @@ pub mod Copies
 pub mod MemberRuns
 pub mod PatchLaws
 pub mod Additions
+pub mod Patches
+pub mod WholeCards

@@ -1,10 +1,11 @@
 -- An object written as the entries of a patch leave it, member by member: what becomes of a member, what an entry adds, and the bytes of each.
 -- Assumes nothing: these are definitions.
-use Prim.Native.Nat.{ℕ, _≤_}
+use Prim.Native.Nat.{ℕ, _≤_, _<_}
 use mathlib.Core.Path.{_≡_}
 use mathlib.Core.Bool.{Bool, true, false, cond}
-use mathlib.Core.List.{List, [], _++_}
+use mathlib.Core.List.{List, [], _∷_, _++_}
 use mathlib.Core.Option.{Option, none, some}
+use lib.Dec.{eqb}
 use lib.ListN.{length}
 use Rattle.laws.specs.Order.{same}
 use Rattle.text.specs.Text.{bytes}
@@ -12,9 +13,9 @@ use Rattle.text.specs.Tree.{Forest}
 use Rattle.text.specs.Firsts.{nameStart, nameEnd, insideAt}
 use Rattle.text.specs.Strings.{nameOf}
 use Rattle.text.specs.Doc.{Name, Doc, Members, member, Property, seek, membersOf, labelAt, docOf}
-use Rattle.text.specs.Writing.{spelled, written, writtenMembers}
-use Rattle.contact.specs.Pointer.{Pointer, last, down, pointerOf, firstPart}
-use Rattle.contact.specs.Patch.{Change, remove, set, Entry, entry, changeOf, without, mine, under, added, applied}
+use Rattle.text.specs.Writing.{written}
+use Rattle.contact.specs.Pointer.{Pointer, last, down, pointerOf}
+use Rattle.contact.specs.Patch.{Change, remove, set, Entry, entry, changeOf, entriesOf, without, mine, under, applied}
 use Rattle.contact.specs.Localize.{start}
 use Rattle.card.specs.Pointers.{strip}
 use Rattle.card.specs.Entries.{Listed, stripped}
@@ -22,6 +23,18 @@ use Rattle.card.specs.Runs.{Ascending}
 use Rattle.card.specs.Written.{Wrote}
 use Rattle.card.specs.Copied.{ValueAt, headOf}
 use Rattle.card.specs.declared.writing.Spot.{Spot}
+
+-- ---- a run of entries
+
+-- a run of the rows
+pub record InRows (rows : List ℕ) (lo hi : ℕ) : Type 0 where
+  pub ordered : lo ≤ hi
+  pub inside : hi ≤ length rows
+
+-- the members that are listed by the run; their entries, without the parts that were taken, ascend
+pub record Said (t table rows : List ℕ) (lo hi parts : ℕ) (ms : Members) : Type 0 where
+  pub listed : Listed t table rows lo hi ms
+  pub ascending : Ascending (stripped parts ms)
 
 -- ---- the card at its root is taken without its localizations
 
@@ -79,6 +92,26 @@ pointerIn t parts g = strip parts (pointerOf (nameOf t (nameStart g) (nameEnd g)
 abbrev pub entryOf : (t : List ℕ) → (parts : ℕ) → Forest → Entry
 entryOf t parts g = entry (pointerIn t parts g) (changeOf (docOf t g))
 
+-- ---- the first entry of a run
+
+-- does a pointer end with its first part?
+abbrev pub isLast : Pointer → Bool
+isLast (last n) = true
+isLast (down n p) = false
+
+abbrev pub endsFirst : List Entry → Bool
+endsFirst [] = false
+endsFirst (entry p c ∷ es) = isLast p
+
+-- the test of it: there is one if it ends
+pub record Ending (t table rows : List ℕ) (lo hi parts : ℕ) (r : Bool) : Type 0 where
+  pub some : r ≡ true → lo < hi
+  pub is : (ms : Members) → Said t table rows lo hi parts ms → r ≡ endsFirst (stripped parts ms)
+
+-- does a run leave a value as it is? At the root a member may be left out
+abbrev pub idle : (root : Bool) → (lo hi : ℕ) → Bool
+idle root lo hi = cond root false (eqb lo hi)
+
 -- ---- the bytes of one member
 
 -- a member that is written, or not, and those after it
@@ -102,12 +135,22 @@ pub record Passed (old : List ℕ) (from : Spot) (o : Option Doc) (label new : L
   pub wrote : Wrote old (from .to) (piece o (from .first) label) new (r .to)
   pub next : r .first ≡ since o (from .first)
 
--- a run of the rows
-pub record InRows (rows : List ℕ) (lo hi : ℕ) : Type 0 where
-  pub ordered : lo ≤ hi
-  pub inside : hi ≤ length rows
+-- the member at hand was written as the entries leave it
+abbrev pub PutMember : (t table : List ℕ) → (row : ℕ) → (root : Bool) → (pt ptable rows : List ℕ) → (lo hi parts : ℕ) → (old : List ℕ) → (from : Spot)
+    → (new : List ℕ) → (r : Spot) → Type 0
+PutMember t table row root pt ptable rows lo hi parts old from new r =
+    (g : Forest) (ms : Members) → ValueAt table row g → Said pt ptable rows lo hi parts ms
+    → Passed old from (stays root (nameOf t (nameStart g) (nameEnd g)) (stripped parts ms) (docOf t g)) (labelAt t (nameStart g) (nameEnd g)) new r
 
--- the members that are listed by the run; their entries, without the parts that were taken, ascend
-pub record Said (t table rows : List ℕ) (lo hi parts : ℕ) (ms : Members) : Type 0 where
-  pub listed : Listed t table rows lo hi ms
-  pub ascending : Ascending (stripped parts ms)
+-- the value at hand was written as the entries leave it
+abbrev pub PutValue : (t table : List ℕ) → (row : ℕ) → (root : Bool) → (pt ptable rows : List ℕ) → (lo hi parts : ℕ) → (old : List ℕ) → (at : ℕ)
+    → (new : List ℕ) → (r : ℕ) → Type 0
+PutValue t table row root pt ptable rows lo hi parts old at new r =
+    (g : Forest) (ms : Members) → ValueAt table row g → Said pt ptable rows lo hi parts ms
+    → Wrote old at (written (applied (based root (docOf t g)) (stripped parts ms))) new r
+
+-- the card was written: without its localizations, as the listed entries leave it
+abbrev pub PutCard : (t table pt ptable rows : List ℕ) → (n : ℕ) → (old new : List ℕ) → (r : ℕ) → Type 0
+PutCard t table pt ptable rows n old new r =
+    (g : Forest) (ms : Members) → ValueAt table 0 g → Listed pt ptable rows 0 n ms → Ascending (stripped 0 ms)
+    → Wrote old 0 (written (applied (start (docOf t g)) (entriesOf ms))) new r

@@ -5,21 +5,15 @@ use borrow.Author.Needs.{needs}
 use Rattle.card.proofs.writing.is_member.Statement.{statement}
 use Rattle.card.proofs.writing.is_member.Tie as tie
 
-name-start-requires : tie.Need-name-start-requires
-name-start-requires c κs = search needs
-
-name-end-requires : tie.Need-name-end-requires
-name-end-requires c κs = search needs
-
-part-requires : tie.Need-part-requires
-part-requires c κs = search needs
+key-at-requires : tie.Need-key-at-requires
+key-at-requires c κs = search needs
 
 is-out-requires : tie.Need-is-out-requires
 is-out-requires c κs = search needs
 
 returns : tie.Need-returns
 returns c =
-    let e = rw (c .before .before .part .ensures, c .before .before .before .before .name-start .ensures, c .before .before .before .name-end .ensures) at (c .before .is-out .ensures) in
+    let e = rw (c .before .before .key-at .ensures) at (c .before .is-out .ensures) in
     rw (sym e ∙ c .if1 .taken)
 
 start-requires : tie.Need-start-requires
@@ -31,17 +25,15 @@ names-same-requires c κs = search needs
 returns-2 : tie.Need-returns-2
 unfolding conts
 returns-2 c =
-    let e = rw (c .before .before .before .before .part .ensures, c .before .before .before .before .before .before .name-start .ensures, c .before .before .before .before .before .name-end .ensures) at (c .before .before .before .is-out .ensures) in
-    let f = rw (c .before .before .before .before .part .ensures, c .before .before .before .before .before .before .name-start .ensures, c .before .before .before .before .before .name-end .ensures, c .before .start .ensures) at (c .names-same .ensures) in
+    let e = rw (c .before .before .before .before .key-at .ensures) at (c .before .before .before .is-out .ensures) in
+    let f = rw (c .before .before .before .before .key-at .ensures, c .before .start .ensures) at (c .names-same .ensures) in
     rw (sym e ∙ c .before .before .if1 .left) f
 
 pub is-member-spec : {M : Type 1} → statement M
 is-member-spec =
     tie.close
     (tie.spec
-    name-start-requires
-    name-end-requires
-    part-requires
+    key-at-requires
     is-out-requires
     returns
     start-requires

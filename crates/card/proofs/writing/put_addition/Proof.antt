@@ -18,14 +18,8 @@ use borrow.Author.Needs.{needs}
 use Rattle.card.proofs.writing.put_addition.Statement.{statement}
 use Rattle.card.proofs.writing.put_addition.Tie as tie
 
-name-start-requires : tie.Need-name-start-requires
-name-start-requires c κs = search needs
-
-name-end-requires : tie.Need-name-end-requires
-name-end-requires c κs = search needs
-
-part-requires : tie.Need-part-requires
-part-requires c κs = search needs
+key-at-requires : tie.Need-key-at-requires
+key-at-requires c κs = search needs
 
 part-at-requires : tie.Need-part-at-requires
 part-at-requires c κs = search needs
@@ -34,20 +28,20 @@ is-added-requires : tie.Need-is-added-requires
 is-added-requires c κs = search needs
 
 -- the entry's pointer from the part for the object on
-pointer : (c : tie.After-is-added) {h : Forest} → ValueAt (now (c .before .before .before .before .before .before .before .before .before .before .args .ptable)) (c .before .before .before .before .before .before .before .before .before .before .args .e) h
-    → pointerOf (rest (now (c .before .before .part .result)) (c .before .part-at .result)) ≡ pointerIn (now (c .before .before .before .before .before .before .before .before .before .before .args .ptext)) (c .before .before .before .before .before .before .before .before .before .before .args .parts) h
+pointer : (c : tie.After-is-added) {h : Forest} → ValueAt (now (c .before .before .before .before .before .before .before .before .args .ptable)) (c .before .before .before .before .before .before .before .before .args .e) h
+    → pointerOf (rest (now (c .before .before .key-at .result)) (c .before .part-at .result)) ≡ pointerIn (now (c .before .before .before .before .before .before .before .before .args .ptext)) (c .before .before .before .before .before .before .before .before .args .parts) h
 pointer c w =
-    let a = c .before .before .before .before .before .before .before .before .before .before .args in
-    at-part (now (a .ptext)) (a .parts) (now (c .before .before .part .result)) (c .before .part-at .result) w
-    (rw (← c .before .before .before .before .name-start .ensures, ← c .before .before .before .name-end .ensures) (c .before .before .part .ensures)) (c .before .part-at .ensures)
+    let a = c .before .before .before .before .before .before .before .before .args in
+    at-part (now (a .ptext)) (a .parts) (now (c .before .before .key-at .result)) (c .before .part-at .result) w
+    (c .before .before .key-at .ensures) (c .before .part-at .ensures)
 
 returns : tie.Need-returns
 returns c =
     λ g h v w.
-    let a = c .before .before .before .before .before .before .before .before .before .before .before .args in
+    let a = c .before .before .before .before .before .before .before .before .before .args in
     let off = denied (c .before .is-added .result) (c .if1 .taken) in
     let is = adds-is (membersIn (a .root) (now (a .text)) g) (changeOf (docOf (now (a .ptext)) h)) (pointer (c .before) w) (c .before .is-added .ensures (now (a .ptext)) g h v w) in
-    passed-none (a .from) (omega (arith, c .before .before .before .before .before .before .before .before .before .before .before .good .1 .1 .1 .1 .1 .1 .1 .1 .0 .1)) (rw off at is)
+    passed-none (a .from) (omega (arith, c .before .before .before .before .before .before .before .before .before .good .1 .1 .1 .1 .1 .1 .1 .1 .0 .1)) (rw off at is)
 
 put-comma-requires : tie.Need-put-comma-requires
 put-comma-requires c κs = search needs
@@ -67,7 +61,7 @@ same-length c = search needs
 returns-2 : tie.Need-returns-2
 returns-2 c =
     λ g h v w.
-    let a = c .before .before .before .before .before .before .before .before .before .before .before .before .before .before .before .before .before .before .before .before .before .before .before .before .before .before .before .args in
+    let a = c .before .before .before .before .before .before .before .before .before .before .before .before .before .before .before .before .before .before .before .before .before .before .before .before .before .args in
     let on = granted (c .before .before .before .before .before .before .before .before .before .before .before .before .before .before .before .before .before .is-added .result) (c .before .before .before .before .before .before .before .before .before .before .before .before .before .before .before .before .if1 .left) in
     let d = docOf (now (a .ptext)) h in
     let label = spelled (firstPart (pointerIn (now (a .ptext)) (a .parts) h)) in
@@ -81,9 +75,7 @@ pub put-addition-spec : {M : Type 1} → statement M
 put-addition-spec =
     tie.close
     (tie.spec
-    name-start-requires
-    name-end-requires
-    part-requires
+    key-at-requires
     part-at-requires
     is-added-requires
     returns
