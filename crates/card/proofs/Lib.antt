@@ -12,3 +12,8 @@ pub mod ChildLaws
 pub mod ConditionLaws
 pub mod EntryOrders
 pub mod RunLaws
+pub mod MemberRuns
+pub mod PatchLaws
+pub mod Additions
+pub mod Patches
+pub mod WholeCards

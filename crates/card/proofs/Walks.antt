@@ -1,18 +1,20 @@
 -- Values that stand at rows, and a walk along the values inside a container, each written in its turn:
---     kinds-inside, kinds-rest, value-row     a value at a row: the kinds of what is in it, and the words of the row
+--     kinds-inside, kinds-rest, row-inside, value-row     a value at a row: the kinds of what is in it, that the table has it, and its words
 --     Passing                                            what a loop along rows keeps, whatever stands there
 --     Walk, walk-start, walk-here, walk-on, walk-end     `rest vs first` are the bytes from the values vs on
 -- Assumes nothing.
-use Prim.Native.Nat.{ℕ, _+_, _≤_, _<_}
+use Prim.Native.Nat.{ℕ, _+_, _*_, _≤_, _<_}
 use mathlib.Core.Path.{_≡_}
 use mathlib.Core.Bool.{Bool}
 use mathlib.Core.List.{List}
-use lib.ListN.{length}
+use native.Mathlib.Decide.{decLe}
+use native.Mathlib.Omega.{arith}
+use lib.ListN.{length, List·getD-eq-default}
 use Rattle.text.specs.Tree.{Forest, none, leaf, node}
 use Rattle.text.specs.Firsts.{insideAt, restAt, Kinds}
 use Rattle.text.specs.Standing.{StandsTo}
 use Rattle.text.proofs.Promise.{RowAt, row-at, inside, after, some-at, none-at}
-use Rattle.json.specs.Rows.{belowIn}
+use Rattle.json.specs.Rows.{kindIn, belowIn}
 use Rattle.card.specs.Copied.{ValueAt}
 use Rattle.card.proofs.Bytes.{Left}
 
@@ -25,6 +27,16 @@ pub kinds-rest : (g : Forest) → Kinds g → Kinds (restAt g)
 kinds-rest none k = tt
 kinds-rest (leaf kind ns ne from to rest) k = k .1
 kinds-rest (node b ns ne from to within rest) k = k .1
+
+-- a row that has a kind is one of the table
+pub row-inside : (table : List ℕ) (row : ℕ) → 0 < kindIn table row → row * 6 < length table
+row-inside table row h =
+    elim (decLe (length table) (row * 6)) [
+      | yes le ↦
+          let z : kindIn table row ≡ 0 = List·getD-eq-default table 0 (omega arith) in
+          absurd (omega arith)
+      | no lt ↦ omega arith
+    ]
 
 -- the words of its row
 pub value-row : {table : List ℕ} {row : ℕ} {g : Forest} → ValueAt table row g → RowAt table row g

@@ -8,3 +8,4 @@ pub mod Written
 pub mod Copied
 pub mod Patches
 pub mod Conditions
+pub mod Patched
