@@ -2,24 +2,22 @@
 --     broken-so        the outcome is its refusal
 --     kept-so          none is broken: the entries do not clash, each finds its parent, and what they make of the card is written
 -- Assumes nothing.
-use mathlib.Core.Path.{_≡_, refl, sym, ap, _∙_}
-use mathlib.Core.Bool.{Bool, true, false, cond}
+use mathlib.Core.Path.{_≡_, _∙_}
+use mathlib.Core.Bool.{false}
 use mathlib.Core.List.{List}
 use Prim.Native.Nat.{ℕ}
-use native.Mathlib.Omega.{arith}
 use Rattle.text.specs.Limits.{Limits}
 use Rattle.text.specs.Doc.{Doc, Members}
 use Rattle.text.specs.Writing.{written}
 use Rattle.laws.proofs.Bools.{byTest}
-use Rattle.contact.specs.Patch.{Entry, entriesOf, Walk, arrives, inArray, noObject, anyBadKey, anyOwn, anyClash, anyWalk, isInArray, isNoObject, applied}
+use Rattle.contact.specs.Patch.{Entry, entriesOf, anyBadKey, anyOwn, anyClash, anyWalk, isInArray, isNoObject, applied}
 use Rattle.contact.specs.Localize.{denied, start, byRoom, byEntries}
 use Rattle.contact.specs.Entries.{NoClash, ParentsThere}
 use Rattle.contact.specs.declared.LocalRefusal.{LocalRefusal}
-use Rattle.contact.specs.declared.LocalRefusal.the-variants.{BadKey, OwnLocalizations, Clash, InArray, NoObject}
 use Rattle.contact.proofs.Patching.Apart.{from-anyClash, from-anyWalk}
 use Rattle.contact.proofs.Patching.Steps.{bad-key-so, own-so, clash-so, in-array-so, no-object-so, unbroken-so, start-walks}
 use Rattle.card.specs.Entries.{worstWalk}
-use Rattle.card.specs.Conditions.{byWalk, conditionOf}
+use Rattle.card.specs.Conditions.{conditionOf}
 use Rattle.card.specs.declared.conditions.Condition.{Condition}
 use Rattle.card.specs.declared.conditions.Condition.the-variants.{Kept, Broken}
 

@@ -17,3 +17,6 @@ pub mod PatchLaws
 pub mod Additions
 pub mod Patches
 pub mod WholeCards
+pub mod CardLaws
+pub mod ComposeLaws
+pub mod OutcomeLaws

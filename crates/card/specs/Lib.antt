@@ -6,6 +6,7 @@ pub mod Paths
 pub mod Runs
 pub mod Written
 pub mod Copied
-pub mod Patches
+pub mod Language
 pub mod Conditions
 pub mod Patched
+pub mod Localizing

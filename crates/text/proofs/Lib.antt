@@ -15,4 +15,3 @@ pub mod Outcomes
 pub mod Promise
 pub mod NewNames
 pub mod Labels
-pub mod Lengths

@@ -6,7 +6,7 @@
 --     start-walk, start-walks            a pointer that does not begin with `localizations` leads where it leads in the card
 -- Assumes nothing.
 use mathlib.Core.Path.{_≡_, refl, sym, ap, _∙_}
-use mathlib.Core.Bool.{Bool, true, false, _||_, true≢false}
+use mathlib.Core.Bool.{Bool, true, false, true≢false}
 use mathlib.Core.Logic.{_≢_}
 use mathlib.Core.List.{List, [], _∷_}
 use mathlib.Core.Option.{none, some}
@@ -18,11 +18,11 @@ use Rattle.laws.proofs.Bools.{or-false}
 use Rattle.text.specs.Limits.{Limits}
 use Rattle.text.specs.Text.{bytes}
 use Rattle.text.specs.Tree.{size}
-use Rattle.text.specs.Doc.{Name, Doc, scalar, array, object, Members, Property, property, kindOf, seek}
+use Rattle.text.specs.Doc.{Name, Doc, scalar, array, object, Members, Property, kindOf}
 use Rattle.text.specs.Writing.{written}
 use Rattle.contact.specs.Verdict.{paperOfVerdict, Judged, passed, failed, judgedOf, sheetOfJudged}
 use Rattle.contact.specs.Pointer.{Pointer, last, down, firstPart, find}
-use Rattle.contact.specs.Patch.{Entry, entry, entriesOf, Walk, onward, walk, anyBadKey, anyOwn, anyClash, anyWalk, isInArray, isNoObject, without, applied}
+use Rattle.contact.specs.Patch.{Entry, entry, entriesOf, Walk, onward, walk, anyBadKey, anyOwn, anyClash, anyWalk, isInArray, isNoObject, applied}
 use Rattle.contact.specs.Localize.{denied, start, patchAt, byJudge, byRoom, byEntries, inPatch, withPatch, localizedDoc}
 use Rattle.contact.specs.declared.Verdict.{Verdict}
 use Rattle.contact.specs.declared.Verdict.the-variants.{Passed, Failed}

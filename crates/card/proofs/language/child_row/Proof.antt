@@ -4,14 +4,14 @@ use native.Mathlib.Omega.{arith}
 use Rattle.text.specs.Firsts.{insideAt}
 use Rattle.card.proofs.ChildLaws.{no-child, child-is, inside-to, near, far}
 use borrow.Author.Needs.{needs}
-use Rattle.card.proofs.patches.child_row.Statement.{statement}
-use Rattle.card.proofs.patches.child_row.Tie as tie
+use Rattle.card.proofs.language.child_row.Statement.{statement}
+use Rattle.card.proofs.language.child_row.Tie as tie
 
 kind-requires : tie.Need-kind-requires
 kind-requires c κs = search needs
 
 returns : tie.Need-returns
-returns c = λ g v. no-child v _ _ (λ e. c .if1 .taken (c .before .kind .ensures ∙ e))
+returns c = λ g limit h. no-child (h .value) _ _ (λ e. c .if1 .taken (c .before .kind .ensures ∙ e))
 
 add-first : tie.Need-add-first
 add-first c = omega (arith, near (c .before .before .before .before .before .pre .1))
@@ -26,7 +26,7 @@ named-row-requires : tie.Need-named-row-requires
 named-row-requires c κs = (insideAt (c .before .before .before .before .before .before .pre .0), rw (c .below .ensures) (inside-to (c .before .before .before .before .before .before .pre .1)))
 
 returns-2 : tie.Need-returns-2
-returns-2 c = λ g v. child-is v _ _ (sym (c .before .before .before .kind .ensures) ∙ c .before .before .if1 .left) _ (c .named-row .result) (c .named-row .ensures (insideAt g) (rw (c .before .below .ensures) (inside-to v)))
+returns-2 c = λ g limit h. child-is h _ _ (sym (c .before .before .before .kind .ensures) ∙ c .before .before .if1 .left) (c .named-row .result) (rw (c .before .below .ensures) at (c .named-row .ensures (insideAt g) (rw (c .before .below .ensures) (inside-to (h .value)))))
 
 pub child-row-spec : {M : Type 1} → statement M
 child-row-spec =

@@ -4,8 +4,8 @@ use Prim.Native.Nat.{_-_}
 use native.Mathlib.Omega.{arith}
 use borrow.Author.Needs.{needs}
 use Rattle.card.proofs.MemberLaws.{Seeking, seeks, seek-hit, seek-room, seek-next, seek-none}
-use Rattle.card.proofs.patches.named_row.Statement.{statement}
-use Rattle.card.proofs.patches.named_row.Tie as tie
+use Rattle.card.proofs.language.named_row.Statement.{statement}
+use Rattle.card.proofs.language.named_row.Tie as tie
 
 abbrev Inv-loop : tie.InvT-loop
 Inv-loop text table from end name at₀ at = Seeking text table from end name at
