@@ -11,8 +11,10 @@ LIMIT = 262144
 
 # code points on both sides of each boundary, and one inside
 BOUNDARY = [
-    0x00, 0x1F, 0x20, 0x21, 0x22, 0x23, 0x2F, 0x5B, 0x5C, 0x5D, 0x61, 0x7E, 0x7F, 0x80, 0xE9, 0x7FF, 0x800, 0x20AC, 0x2028, 0xD7FF, 0xD800, 0xDBFF, 0xDC00,
-    0xDFFF, 0xE000, 0xFDCF, 0xFDD0, 0xFDD1, 0xFDEE, 0xFDEF, 0xFDF0, 0xFEFF, 0xFFFD, 0xFFFE, 0xFFFF, 0x10000, 0x10001, 0x1F600, 0x10FFFD, 0x10FFFE, 0x10FFFF,
+    0x00, 0x1F, 0x20, 0x21, 0x22, 0x23, 0x2F, 0x5B, 0x5C, 0x5D, 0x61, 0x7E, 0x7F, 0x80, 0xE9, 0x7FF, 0x800, 0x20AC, 0x2028, 0xD7FF, 0xD800,
+    0xDBFF, 0xDC00,
+    0xDFFF, 0xE000, 0xFDCF, 0xFDD0, 0xFDD1, 0xFDEE, 0xFDEF, 0xFDF0, 0xFEFF, 0xFFFD, 0xFFFE, 0xFFFF, 0x10000, 0x10001, 0x1F600, 0x10FFFD,
+    0x10FFFE, 0x10FFFF,
     0x110000] + [plane * 0x10000 + low for plane in range(1, 17) for low in (0xFDD0, 0xFFFD, 0xFFFE, 0xFFFF)]
 
 
@@ -43,7 +45,8 @@ def ill_formed():
         yield bytes([lead])
     for stray in (b"\x80", b"\xbf", b"\x80\x80", b"a\x80", b"\xc3\xa9\x80", b"\xe2\x82\xac\x80", b"\xf0\x9f\x98\x80\x80"):
         yield stray
-    for cut in (b"\xe2\x82", b"\xe2\x82\xe2\x82\xac", b"\xf0\x9f", b"\xf0\x9f\x98", b"\xf0\x9f\x98a", b"\xe2\x82\x01", b"\xe2\x82\\n", b"\xf0\x9f\x98\xc3\xa9"):
+    for cut in (b"\xe2\x82", b"\xe2\x82\xe2\x82\xac", b"\xf0\x9f", b"\xf0\x9f\x98", b"\xf0\x9f\x98a", b"\xe2\x82\x01", b"\xe2\x82\\n",
+        b"\xf0\x9f\x98\xc3\xa9"):
         yield cut
 
 
@@ -60,9 +63,12 @@ def damaged(inner):
 def names():
     """Strings compared with the one after them."""
     spelled = [
-        b"", b"a", rb"\u0061", b"ab", rb"a\u0062", b"b", b"uid", rb"\u0075id", rb"u\u0069\u0064", b"Uid", b"ui", b"uidx", rb"\/", b"/", rb"\\", rb"\u005c", rb'\"',
-        rb"\u0022", rb"\b", rb"\u0008", rb"\f", rb"\n", rb"\u000a", rb"\r", rb"\t", rb"\u0000", rb"a\u0000", b"\x7f", rb"\u007f", rb"\u0080", b"\xc2\x80", b"\xc3\xa9",
-        rb"\u00E9", rb"\u00e9", b"\xe2\x82\xac", rb"\u20AC", b"\xef\xbf\xae", rb"\uffee", b"\xf0\x9f\x98\x80", rb"\uD83D\uDE00", rb"\ud83d\ude00", b"\xee\x80\x80"]
+        b"", b"a", rb"\u0061", b"ab", rb"a\u0062", b"b", b"uid", rb"\u0075id", rb"u\u0069\u0064", b"Uid", b"ui", b"uidx", rb"\/", b"/",
+        rb"\\", rb"\u005c", rb'\"',
+        rb"\u0022", rb"\b", rb"\u0008", rb"\f", rb"\n", rb"\u000a", rb"\r", rb"\t", rb"\u0000", rb"a\u0000", b"\x7f", rb"\u007f",
+        rb"\u0080", b"\xc2\x80", b"\xc3\xa9",
+        rb"\u00E9", rb"\u00e9", b"\xe2\x82\xac", rb"\u20AC", b"\xef\xbf\xae", rb"\uffee", b"\xf0\x9f\x98\x80", rb"\uD83D\uDE00",
+        rb"\ud83d\ude00", b"\xee\x80\x80"]
     for one in spelled:
         for other in spelled:
             yield b'"' + one + b'""' + other + b'"'

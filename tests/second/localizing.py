@@ -96,18 +96,24 @@ def localized(text, language, words, room):
     out = start.written()
     if room < len(out):
         raise Refused(27, len(out))
-    number, _, _ = judge(out, words)
+    number, place, _ = judge(out, words)
     if number:
         assert number in (5, 11, 12, 13, 14), number
-        raise Refused(28, number)
+        raise Refused(28, number, place)
+    assert len(out) <= len(text)
     return out
 
 
-def localize(text, language, words, room):
+def told(text, language, words, room):
+    """All that localizing answers: (number, second, written, the place inside 28, table, output)."""
     try:
         out = localized(text, language, words, room)
     except Refused as no:
-        return no.number, no.second, 0, [0] * words, bytes(room)
-    assert len(out) <= len(text)
+        return no.number, no.second, 0, no.inner, [0] * words, bytes(room)
     number, rows, table = judge(out, words)
-    return number, rows, len(out), table, out + bytes(room - len(out))
+    return number, rows, len(out), 0, table, out + bytes(room - len(out))
+
+
+def localize(text, language, words, room):
+    number, second, written, _, table, output = told(text, language, words, room)
+    return number, second, written, table, output

@@ -6,11 +6,11 @@ NULL, FALSE, TRUE, NUMBER, STRING, ARRAY, OBJECT = 1, 2, 3, 4, 5, 6, 7
 
 
 class Refused(Exception):
-    """A refusal: its number on the sheet and its second number."""
+    """A refusal: its number on the sheet, its second number, and for 28 the place of the refusal inside (in the localized card)."""
 
-    def __init__(self, number, second):
+    def __init__(self, number, second, inner=0):
         super().__init__(number, second)
-        self.number, self.second = number, second
+        self.number, self.second, self.inner = number, second, inner
 
 
 class Value:

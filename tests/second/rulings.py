@@ -144,7 +144,8 @@ RULINGS = [
     judge(rb'{..,"addresses":{"a1":{"isOrdered":true,"components":[{"kind":"separator","value":"-"}]}}}', OK),
     judge(rb'{..,"addresses":{"a1":{"isOrdered":true,"components":[],"defaultSeparator":","}}}', OK),
     # AMB-21 Two separators in a row with something odd between them
-    judge(rb'{..,"name":{"isOrdered":true,"components":[{"kind":"given","value":"Ann"},{"kind":"separator","value":"-"},5,{"kind":"separator","value":"-"}]}}', (11, 146)),
+    judge(rb'{..,"name":{"isOrdered":true,"components":[{"kind":"given","value":"Ann"},{"kind":"separator","value":"-"},5,{"kind":"separator","value":"-"}]}}',
+    (11, 146)),
     judge(rb'{..,"name":{"components":[{"kind":"separator"},{"kind":"given","value":"Ann"}]}}', (14, 50)),
     # AMB-22 A map key that is no Id, and the entry's own faults
     judge(rb'{..,"emails":{"":{}}}', (12, 56)),
@@ -212,7 +213,8 @@ RULINGS = [
     localize(rb'{..,"localizations":{"de":{"q":null,"q/r":null}}}', (24, 0)),
     localize(rb'{..,"localizations":{"de":{"a":1,"\u0061":2}}}', (4, 72)),
     # AMB-37 "At each part, the last too, a value reached that is an array is no. 25"
-    localize(rb'{..,"name":{"full":"Ann","components":[{"kind":"given","value":"Ann"}]},"localizations":{"de":{"name/components":null}}}', rb'{..,"name":{"full":"Ann"}}'),
+    localize(rb'{..,"name":{"full":"Ann","components":[{"kind":"given","value":"Ann"}]},"localizations":{"de":{"name/components":null}}}',
+    rb'{..,"name":{"full":"Ann"}}'),
     localize(rb'{..,"name":{"full":"Ann","components":[{"kind":"given","value":"Ann"}]},"localizations":{"de":{"name/components/0":1}}}', (25, 0)),
     localize(rb'{..,"x":[],"localizations":{"de":{"x":1}}}', rb'{..,"x":1}'),
     localize(rb'{..,"name":{"full":"Ann","components":[{"kind":"given","value":"Ann"}]},"localizations":{"de":{"name/components/-":1}}}', (25, 0)),
@@ -233,7 +235,8 @@ RULINGS = [
     localize(rb'{..,"localizations":{"de":{"created":"x","kind":5}}}', (28, 13)),
     localize(grown(rb'"kind":5,', b'[]'), (28, 5)),
     # AMB-42 The inner refusal's own second number
-    localize(rb'{..,"name":{"full":"Ann","components":[{"kind":"given","value":"Ann"}]},"localizations":{"de":{"name/full":null,"name/components":null}}}', (28, 14)),
+    localize(rb'{..,"name":{"full":"Ann","components":[{"kind":"given","value":"Ann"}]},"localizations":{"de":{"name/full":null,"name/components":null}}}',
+    (28, 14)),
     # AMB-43 The second number of 27
     localize(rb'{..,"name":{"full":"Ann"},"localizations":{"de":{}}}', (27, 65), room=64),
     localize(rb'{..,"name":{"full":"Ann"},"localizations":{"de":{}}}', rb'{..,"name":{"full":"Ann"}}', room=65),

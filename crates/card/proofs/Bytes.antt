@@ -19,7 +19,7 @@ use borrow.Author.Tests.{eq-eqb, ne-eqb}
 use Rattle.laws.specs.Lists.{partOf}
 use Rattle.laws.proofs.Places.{any-default}
 use Rattle.laws.proofs.Parts.{part-none, part-back, part-out, part-more}
-use Rattle.laws.proofs.Stores.{sets-append, sets-out}
+use Rattle.laws.proofs.Sets.{sets-append, sets-out}
 use Rattle.text.specs.Doc.{labelAt}
 use Rattle.card.specs.Written.{full, Counts, Wrote}
 

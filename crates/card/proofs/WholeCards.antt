@@ -4,14 +4,14 @@
 --     wrote-count     the count is the length of what was to be written, as long as that is countable
 --     wrote-filled    an output that was cleared before holds what was written and nothing else, if it fits
 -- Assumes nothing.
-use Prim.Native.Nat.{ℕ, zero, suc, _-_, _<_, _≤_}
+use Prim.Native.Nat.{ℕ, _<_, _≤_}
 use mathlib.Core.Path.{_≡_, refl, ap, _∙_}
-use mathlib.Core.List.{List, _∷_, _++_}
+use mathlib.Core.List.{List, _∷_}
 use native.Mathlib.Omega.{arith}
 use native.Mathlib.Nat.{zero-add}
-use lib.ListN.{length, drop, replicate, length-replicate}
-use lib.Seq.{sets-eq}
+use lib.ListN.{length, replicate}
 use Rattle.laws.specs.Lists.{filled}
+use Rattle.laws.proofs.Sets.{sets-cleared}
 use Rattle.text.specs.Limits.{Limits}
 use Rattle.text.specs.Tree.{Forest}
 use Rattle.text.specs.Promised.{Filled}
@@ -35,15 +35,5 @@ stripped-all (member key label d ms) = ap (λ (es : List Entry). entry (pointerO
 pub wrote-count : {old bytes new : List ℕ} {r : ℕ} → Wrote old 0 bytes new r → length bytes < full → r ≡ length bytes
 wrote-count {bytes = bytes} w h = w .to .exact (omega arith) ∙ zero-add (length bytes)
 
-drop-zeros : (n room : ℕ) → drop {A = ℕ} n (replicate room 0) ≡ replicate (room - n) 0
-drop-zeros zero room = let e : room - 0 ≡ room = omega arith in rw e
-drop-zeros (suc n) zero = let e : 0 - suc n ≡ 0 = omega arith in rw e
-drop-zeros (suc n) (suc room) = let e : suc room - suc n ≡ room - n = omega arith in rw e (drop-zeros n room)
-
 pub wrote-filled : (room : ℕ) {bytes new : List ℕ} {r : ℕ} → Wrote (replicate room 0) 0 bytes new r → length bytes ≤ room → new ≡ filled room bytes
-wrote-filled room {bytes} w h =
-    let z = length-replicate {A = ℕ} room 0 in
-    w .out
-    ∙ sets-eq bytes (replicate room 0) 0 (omega arith)
-    ∙ ap (λ (n : ℕ). bytes ++ drop n (replicate room 0)) (zero-add (length bytes))
-    ∙ ap (λ (l : List ℕ). bytes ++ l) (drop-zeros (length bytes) room)
+wrote-filled room {bytes} w h = w .out ∙ sets-cleared bytes room h

@@ -33,6 +33,16 @@ pub fn before(line: &[u8], byte: u8) -> usize
     at
 }
 
+// What stands after the first such byte, or nothing.
+pub fn after(line: &[u8], byte: u8) -> &[u8] {
+    let head = before(line, byte);
+    if head < line.len() {
+        &line[head + 1..]
+    } else {
+        &line[..0]
+    }
+}
+
 // The number whose decimal digits stand at a place.
 fn count_at(line: &[u8], from: usize) -> Count
     requires { ⌜ from ≤ length (now line) + 1 ⌝ }
@@ -185,6 +195,28 @@ pub fn unpack(line: &[u8], base: &[u8], out: &mut [u8]) -> usize
         }
     }
     size
+}
+
+// So many words of a table, or all.
+pub fn words_of(wanted: usize, table: &[u32]) -> usize
+    ensures { λ r. ⌜ Counts r (now (table .entry)) ⌝ }
+{
+    if wanted < table.len() {
+        wanted
+    } else {
+        table.len()
+    }
+}
+
+// So many bytes of a buffer, or all.
+pub fn bytes_of(wanted: usize, bytes: &[u8]) -> usize
+    ensures { λ r. ⌜ Counts r (now (bytes .entry)) ⌝ }
+{
+    if wanted < bytes.len() {
+        wanted
+    } else {
+        bytes.len()
+    }
 }
 
 // A sum with one word more.

@@ -1,4 +1,4 @@
--- How a localization is applied, over documents: each file says what it proves.
+-- How a localization is applied, over documents: each file says what it proves. Assumes nothing.
 pub mod Names
 pub mod Pointers
 pub mod Seek
@@ -28,3 +28,4 @@ pub mod Every
 pub mod Room
 pub mod Contract
 pub mod Again
+pub mod Readback

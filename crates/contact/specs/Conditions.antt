@@ -1,5 +1,5 @@
--- The conditions 21 to 28 of the refusal sheet, each by itself and in words: no search, no order and no walk is named here. The answer is the
--- broken condition of smallest number (proofs/Patching/Refused.antt).
+-- The conditions 21 to 28 of the refusal sheet, each by itself and in words: no search, no order and no walk is named here; 27 and 28 speak of the
+-- text that would be written. The answer is the broken condition of smallest number (proofs/Patching/Refused.antt).
 -- Assumes nothing: these are definitions.
 use Prim.Native.Nat.{ℕ, _≤_, _<_}
 use mathlib.Core.Path.{_≡_}

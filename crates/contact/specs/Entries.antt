@@ -1,12 +1,11 @@
 -- What the theorems on localizing say of entries and pointers: prefixes, what a pointer names, enters or covers, entries in another order.
 -- Assumes nothing: these are definitions.
-use Prim.Native.Nat.{ℕ, _≤_}
+use Prim.Native.Nat.{ℕ}
 use mathlib.Core.Path.{_≡_}
 use mathlib.Core.Logic.{_≢_}
 use mathlib.Core.Bool.{true}
 use mathlib.Core.List.{List, [], _∷_, _++_}
 use mathlib.Core.Option.{Option, none, some}
-use lib.ListN.{length}
 use Rattle.laws.specs.Order.{before}
 use Rattle.text.specs.Doc.{Name, Doc, object, Members, empty, member, Property, property, seek}
 use Rattle.text.specs.Distinct.{Distinct}
@@ -131,10 +130,3 @@ pub record LaidAt (p : Pointer) (label : List ℕ) (ms : Members) (x : Doc) : Ty
   pub members : Members
   pub found : find p x ≡ some (property label (object members))
   pub laid : Laid ms ms members
-
--- ---- names as written
-
--- each name is written at least as long as its shortest spelling, as every name that a text has
-abbrev pub LongEnough : Members → Type 0
-LongEnough empty = Unit {0}
-LongEnough (member n label d ms) = (length (spelled n) ≤ length label) × LongEnough ms

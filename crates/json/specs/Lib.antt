@@ -1,2 +1,4 @@
 pub mod Cursors
 pub mod Rows
+pub mod Parts
+pub mod Answers

@@ -1,6 +1,6 @@
 -- The words of a row, and what a row that is stored asks. Assumes nothing: these are definitions.
 use Prim.Native.Nat.{ℕ, _+_, _*_, _<_, _≤_}
-use mathlib.Core.List.{List, [], _∷_}
+use mathlib.Core.List.{List}
 use lib.ListN.{getD}
 use Rattle.text.specs.Limits.{rowWords}
 

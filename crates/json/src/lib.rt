@@ -8,12 +8,18 @@
 //   sheet    an answer in the refusal sheet's numbers
 //   tokens   white space, literals and numbers
 //   rows     the words of a row, stored and read
+//   members  the names of an object's members
+//   values   values, arrays and objects
+//   read     whole texts
 pub mod bytes;
 mod chars;
 pub mod decode;
 mod limits;
+mod members;
 pub mod names;
+pub mod read;
 pub mod rows;
 pub mod sheet;
 pub mod strings;
 mod tokens;
+mod values;

@@ -5,12 +5,13 @@ pub mod Splits
 pub mod Picks
 pub mod Branches
 pub mod Orders
+pub mod Outcomes
 pub mod Parts
 pub mod Cleared
 pub mod Decides
 pub mod Bools
+pub mod Sets
 pub mod Sorting
 pub mod Slices
 pub mod Merging
 pub mod Halving
-pub mod Stores

@@ -1,6 +1,7 @@
 -- Parts of a list (specs/Lists.antt), element by element:
 --     part-none, part-more     a part from a place to itself is empty; any other has the element at its start, and then the part from the next place on
 --     part-back, part-out      a part that ends before it starts, or past the list's end, is empty
+--     part-some                a part that is not empty lies inside the list
 --     part-getD                an element of a part is one of the list
 --     part-part                a part of a part is a part of the list
 -- Assumes nothing.
@@ -17,6 +18,7 @@ use borrow.Author.Tests.{le-leb, lt-leb}
 use Rattle.laws.specs.Lists.{partOf}
 use Rattle.laws.proofs.Places.{drop-byte}
 use Rattle.laws.proofs.Splits.{length-part}
+use Rattle.laws.proofs.Branches.{if-most}
 
 no-matter : (b : Bool) → _≡_ {A = List ℕ} (cond b [] []) []
 no-matter true = refl
@@ -39,6 +41,17 @@ unfolding partOf
 part-more l i e h k =
     let n : e - i ≡ suc (e - (i + 1)) = omega arith in
     rw (le-leb e (length l) k, le-leb i e (omega arith), le-leb (i + 1) e (omega arith), n, drop-byte l i (omega arith))
+
+pub part-some : (l : List ℕ) (i e x : ℕ) (w : List ℕ) → partOf l i e ≡ x ∷ w → (i ≤ e) × (e ≤ length l)
+unfolding partOf
+part-some l i e x w =
+    if-most P e (length l) (λ h. if-most P i e (λ k z. (k, h)) (λ k z. absurd (nothing z))) (λ h z. absurd (nothing z))
+  where
+    P : List ℕ → Type 0
+    P v = v ≡ x ∷ w → (i ≤ e) × (e ≤ length l)
+
+    nothing : [] ≡ x ∷ w → ⊥
+    nothing z = let n : _≡_ {A = ℕ} 0 1 = cc in omega arith
 
 pub part-getD : (l : List ℕ) (i e k d : ℕ) → e ≤ length l → i + k < e → getD (partOf l i e) k d ≡ getD l (i + k) d
 unfolding partOf

@@ -17,9 +17,9 @@ pub fn clear_words(table: &mut [u32])
 pub fn clear_bytes(out: &mut [u8])
     ensures { λ _. ⌜ now (out .exit) ≡ replicate (length (now (out .entry))) 0 ⌝ }
 {
-    let mut i = 0;
-    while i < out.len() {
-        out[i] = 0;
-        i += 1;
+    let mut at = 0;
+    while at < out.len() {
+        out[at] = 0;
+        at += 1;
     }
 }

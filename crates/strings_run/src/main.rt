@@ -2,9 +2,9 @@
 // that begins with an exclamation mark is the base text of those below. A line is written for each text: the refusal (0 for none) and its place
 // (the place after the string); of a good string the number of its decoded bytes, a sum of them, and whether it is `uid`; where a second good
 // string follows at once, how the first compares with it (0 less, 1 the same, 2 more).
-use json::decode::Cursor;
 use json::decode::Next;
 use json::decode::next_byte;
+use json::decode::start;
 use json::names::name_is;
 use json::names::name_order;
 use json::names::same_name;
@@ -19,11 +19,7 @@ struct Sum {
 }
 
 fn sum_of(name: &[u8]) -> Sum {
-    let mut c = Cursor {
-        at: 0,
-        code: 0,
-        left: 0,
-    };
+    let mut c = start();
     let mut n: u64 = 0;
     let mut s: u64 = 0;
     loop {
@@ -109,7 +105,7 @@ fn line_of(line: &[u8], base: &mut [u8]) {
     }
     let mut text = [0u8; cases::ROOM];
     if line[0] == 33 {
-        cases::unpack(&line[1..], &text, base);
+        cases::unpack(&line[1..], b"", base);
         return;
     }
     let size = cases::unpack(line, base, &mut text);

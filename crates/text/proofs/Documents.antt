@@ -154,7 +154,7 @@ module _ (t : List ℕ) where
   seek-past : (n m : Name) (label : List ℕ) (d : Doc) (ms : Members) → same m n ≡ false → seek n ms ≡ none → seek n (member m label d ms) ≡ none
   seek-past n m label d ms e h = rw (e, h)
 
-  seek-name : (n m : Name) (label : List ℕ) (d : Doc) (ms : Members) → seek n (member m label d ms) ≡ none → same m n ≡ false
+  pub seek-name : (n m : Name) (label : List ℕ) (d : Doc) (ms : Members) → seek n (member m label d ms) ≡ none → same m n ≡ false
   seek-name n m label d ms h = go (same m n) refl
     where
       go : (x : Bool) → same m n ≡ x → same m n ≡ false
@@ -164,7 +164,7 @@ module _ (t : List ℕ) where
           let z : _≡_ {A = ℕ} 0 1 = cc in
           absurd (omega arith)
 
-  seek-later : (n m : Name) (label : List ℕ) (d : Doc) (ms : Members) → seek n (member m label d ms) ≡ none → seek n ms ≡ none
+  pub seek-later : (n m : Name) (label : List ℕ) (d : Doc) (ms : Members) → seek n (member m label d ms) ≡ none → seek n ms ≡ none
   seek-later n m label d ms h = rw (seek-name n m label d ms h) at h
 
   seek-join : (n : Name) (done f : Forest) → seek n (membersOf t done) ≡ none → seek n (membersOf t f) ≡ none → seek n (membersOf t (join done f)) ≡ none

@@ -7,6 +7,7 @@
 --     Ends                  so a string's end, its 2 and its 3 are each exactly where the rules say
 --     Decoded               the list of code points is unique, and decoding hands out its UTF-8
 --     Encoding              UTF-8 is bytes, and tells good code points apart
+-- Assumes nothing.
 pub mod Codes
 pub mod Digits
 pub mod Taken

@@ -2,6 +2,7 @@
 use Prim.Native.Nat.{ℕ}
 use mathlib.Core.Path.{_≡_}
 use mathlib.Core.List.{List, [], _∷_, _++_}
+use Rattle.text.specs.Tree.{Bracket, square, curly}
 use Rattle.text.specs.Doc.{Name, Doc, scalar, array, object, Members, empty, member}
 use Rattle.text.specs.Spelling.{Spells, utf8s}
 
@@ -12,6 +13,11 @@ pub record Labelled (name : Name) (label : List ℕ) : Type 0 where
   pub quoted : label ≡ 34 ∷ inside ++ (34 ∷ [])
   pub spells : Spells inside codes
   pub says : name ≡ utf8s codes
+
+-- no name, neither decoded nor as written
+pub record Unlabelled (name : Name) (label : List ℕ) : Type 0 where
+  pub nameless : name ≡ []
+  pub unwritten : label ≡ []
 
 -- N holds of every member's name and label, T of the kind and the token of every value that holds no others, at any depth
 module _ (N : Name → (label : List ℕ) → Type 0) (T : (kind : ℕ) → (token : List ℕ) → Type 0) where
@@ -24,8 +30,18 @@ module _ (N : Name → (label : List ℕ) → Type 0) (T : (kind : ℕ) → (tok
     -- the entries of an array have no names
     pub EveryEntry : Members → Type 0
     EveryEntry empty = Prim.Unit {0}
-    EveryEntry (member n label d ms) = Every d × EveryEntry ms
+    EveryEntry (member n label d ms) = Unlabelled n label × Every d × EveryEntry ms
 
     pub EveryMember : Members → Type 0
     EveryMember empty = Prim.Unit {0}
     EveryMember (member n label d ms) = N n label × Every d × EveryMember ms
+
+  -- what stands inside a container
+  abbrev pub EveryIn : Bracket → Members → Type 0
+  EveryIn square ms = EveryEntry ms
+  EveryIn curly ms = EveryMember ms
+
+-- the name of a value inside a container: in an array it has none
+abbrev pub LabelIn : (N : Name → (label : List ℕ) → Type 0) → Bracket → Name → (label : List ℕ) → Type 0
+LabelIn N square n label = Unlabelled n label
+LabelIn N curly n label = N n label

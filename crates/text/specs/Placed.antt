@@ -43,10 +43,11 @@ NameIn t curly from ns ne at = Member t from ns ne at
 
 -- ---- values that hold no others
 
--- a digit or a minus, and then digits, signs, points and letters of an exponent
+-- a byte that a number may have: a digit, a sign, a point, a letter of an exponent
 abbrev pub isNumeric : ℕ → Bool
 isNumeric b = cond (isDigit b) true (cond (eqb b 43) true (cond (eqb b 45) true (cond (eqb b 46) true (cond (eqb b 69) true (eqb b 101)))))
 
+-- bytes of a number, the first a digit or a minus; that they keep the grammar is said in Meaning.antt
 pub record Numeral (t : List ℕ) (from to : ℕ) : Type 0 where
   pub first : cond (isDigit (byteAt t from)) true (eqb (byteAt t from) 45) ≡ true
   pub each : (i : ℕ) → from ≤ i → i < to → isNumeric (byteAt t i) ≡ true

@@ -132,7 +132,7 @@ valueAt L t (suc depth) =
     (container L square (insideOf t (λ done. valueAt L t depth 0 0) (closing square)))
     (container L curly (insideOf t (memberOf L t (valueAt L t depth)) (closing curly)))
 
--- the parts that the functions of the cycle read
+-- the same by its parts, as the functions that call each other read them
 unfoldable pub elementsAt : Limits → List ℕ → (depth at n : ℕ) → Read
 elementsAt L t depth = insideOf t (λ done. valueAt L t depth 0 0) (closing square)
 

@@ -1,17 +1,11 @@
 -- `cases::before` meets its contract: the place stays inside the line. Assumes nothing.
-use mathlib.Core.List.{List}
-use mathlib.Core.Path.{sym}
-use Prim.Native.Nat.{ℕ, _≤_, _-_}
+use Prim.Native.Nat.{_≤_, _-_}
 use lib.ListN.{length}
-use lib.Seq.{length-take-le}
 use denote.Ref.{now}
-use Rattle.io.specs.Counts.{Counts}
+use Rattle.cases.proofs.Counted.{counted}
 use borrow.Author.Needs.{needs}
 use Rattle.cases.proofs.before.Statement.{statement}
 use Rattle.cases.proofs.before.Tie as tie
-
-counted : (line : List ℕ) (at : ℕ) → at ≤ length line → Counts at line
-counted line at h = (h, sym (length-take-le at line h))
 
 abbrev Inv-loop : tie.InvT-loop
 Inv-loop line byte at₀ at = at ≤ length line

@@ -1,8 +1,8 @@
 -- `cases::unpack` meets its contract: the length stays inside the text, and each turn goes on in the line. Assumes nothing.
-use mathlib.Core.Path.{_≡_, sym}
+use mathlib.Core.Path.{_≡_}
 use Prim.Native.Nat.{_≤_, _-_}
 use lib.ListN.{length}
-use lib.Seq.{length-take-le}
+use Rattle.cases.proofs.Counted.{counted}
 use borrow.Author.Needs.{needs}
 use Rattle.cases.proofs.unpack.Statement.{statement}
 use Rattle.cases.proofs.unpack.Tie as tie
@@ -47,7 +47,7 @@ same-length : tie.Need-same-length Inv-loop μ-loop
 same-length c = search needs
 
 returns : tie.Need-returns Inv-loop μ-loop
-returns c = let h = c .before .loop .inv .1 in (h, sym (length-take-le (c .before .loop .size) (c .before .loop .out) h))
+returns c = counted (c .before .loop .out) (c .before .loop .size) (c .before .loop .inv .1)
 
 pub unpack-spec : {M : Type 1} → statement M
 unpack-spec =

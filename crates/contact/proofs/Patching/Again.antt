@@ -4,24 +4,28 @@
 use mathlib.Core.Path.{_≡_, refl, sym, _∙_}
 use mathlib.Core.Bool.{true}
 use mathlib.Core.List.{List}
-use Prim.Native.Nat.{ℕ, _≤_}
+use Prim.Native.Nat.{ℕ, _*_, _≤_}
+use lib.ListN.{length}
 use native.Mathlib.Nat.{mul-le-mul-left}
 use native.Mathlib.Omega.{arith}
+use Rattle.laws.specs.Lists.{partOf}
 use Rattle.text.specs.Limits.{Limits}
 use Rattle.text.specs.Tree.{Forest, size}
 use Rattle.text.specs.Doc.{Name, Doc, object, Members, property, docOf, countOf}
 use Rattle.text.specs.Distinct.{Distinct}
+use Rattle.text.specs.Placed.{TokenIn}
 use Rattle.text.specs.Promised.{Promised}
 use Rattle.text.specs.Writing.{written}
 use Rattle.text.specs.Labels.{Labelled, Every}
+use Rattle.text.specs.Writable.{Lexeme}
 use Rattle.text.proofs.Promise.{Fits, whole-good, promised, count-root}
 use Rattle.text.proofs.Labels.{labels-said}
-use Rattle.contact.specs.Verdict.{passed, placed, judgedOf}
+use Rattle.text.proofs.Readback.Documents.{text-writable}
+use Rattle.contact.specs.Verdict.{passed, failed, placed, judgedOf}
 use Rattle.contact.specs.Patch.{entriesOf, applied}
 use Rattle.contact.specs.Localize.{refusedLocal, done, denied, start, patchAt, localizedOf}
 use Rattle.contact.specs.Entries.{NoClash, ParentsThere}
 use Rattle.contact.specs.Conditions.{PatchOf, Broken, unfit, Smallest, Accepted}
-use Rattle.contact.specs.Again.{TokenOf, Modest, InnerOf}
 use Rattle.contact.specs.declared.CardRefusal.{CardRefusal}
 use Rattle.contact.specs.declared.LocalRefusal.the-variants.{Inner}
 use Rattle.contact.proofs.Judging.{judging}
@@ -31,6 +35,37 @@ use Rattle.contact.proofs.Patching.Room.{room-enough, values-enough}
 use Rattle.contact.proofs.Patching.Refused.{refused-iff, accepted-iff}
 use Rattle.contact.proofs.Patching.Public.{passed-so}
 use Rattle.contact.proofs.Patching.Fine.{Fine, fine}
+
+-- ---- what is relied on
+
+-- a token of the text
+pub record TokenOf (t : List ℕ) (kind : ℕ) (token : List ℕ) : Type 0 where
+  pub from : ℕ
+  pub to : ℕ
+  pub stands : TokenIn t kind from to
+  pub is : token ≡ partOf t from to
+
+-- the document x beside a text t that was read for a table of so many words, with the tree f
+pub record Modest (L : Limits) (words : ℕ) (t : List ℕ) (f : Forest) (x : Doc) : Type 0 where
+  -- no name twice in one object (4); each label says its name, each token is one of the text and a token of its kind (2 and 3)
+  pub distinct : Distinct x
+  pub labels : Every Labelled (TokenOf t) x
+  pub lexemes : Every Labelled Lexeme x
+  -- no more values than the text has, so no more than are allowed (6) and have rows (7)
+  pub fewer : countOf x ≤ size f
+  pub values : countOf x ≤ L .values
+  pub rows : L .words * countOf x ≤ words
+  -- no longer than the text would be without white space (1)
+  pub short : length (written x) ≤ length (written (docOf t f))
+
+-- 28 with the refusal r: the localized card of the text t, which is refused so
+pub record InnerOf (L : Limits) (words : ℕ) (t : List ℕ) (f : Forest) (lang : Name) (r : CardRefusal) : Type 0 where
+  pub members : Members
+  pub patch : PatchOf (docOf t f) lang members
+  pub modest : Modest L words t f (applied (start (docOf t f)) (entriesOf members))
+  pub judged : judgedOf L words (written (applied (start (docOf t f)) (entriesOf members))) ≡ failed r
+
+-- ---- that it holds
 
 module _ (L : Limits) (words : ℕ) (t : List ℕ) (f : Forest) (unique : L .unique ≡ true) (pass : judgedOf L words t ≡ passed f) (lang : Name) where
   abbrev card : Doc
@@ -53,6 +88,8 @@ module _ (L : Limits) (words : ℕ) (t : List ℕ) (f : Forest) (unique : L .uni
             (entries-values ms (find-distinct (patchAt lang) card (property (patch .label) (object ms)) dc (patch .stands)))
             (distinct-start card dc);
         labels = labels-stay (TokenOf t) card lang ms patch labels;
+        lexemes = labels-stay Lexeme card lang ms patch (text-writable L t f to (r .read) unique .labels);
+        fewer = fewer;
         values = omega (arith, p .few);
         rows = omega (arith, mul-le-mul-left (L .words) fewer, r .room);
         short = room-enough card lang ms patch dc nc pt (keys-long (TokenOf t) card lang ms patch labels);

@@ -16,11 +16,11 @@ use Rattle.text.proofs.NewNames.{label-shortest}
 use Rattle.contact.specs.Pointer.{Pointer, last, down, lastPart, pointerOf, find}
 use Rattle.contact.specs.Patch.{Change, remove, set, Entry, entry, changeOf, entriesOf, without, mine, under, insert, fresh, added, keep, applied, kept}
 use Rattle.contact.specs.Localize.{start, patchAt}
-use Rattle.contact.specs.Entries.{LongEnough}
 use Rattle.contact.specs.Conditions.{PatchOf}
 use Rattle.contact.proofs.Patching.Names.{byName, same-yes, same-no}
 use Rattle.contact.proofs.Patching.Seek.{find-has}
 use Rattle.contact.proofs.Patching.Parts.{part-said}
+use Rattle.contact.proofs.Patching.Room.{LongEnough}
 
 module _ (N : Name → List ℕ → Type 0) (T : ℕ → List ℕ → Type 0) where
   -- ---- entries

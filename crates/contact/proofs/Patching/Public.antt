@@ -19,7 +19,7 @@ module _ (L : Limits) (words room : ℕ) (text : List ℕ) (lang : Name) where
   unfolding localizedOf localizedJudged
   passed-so f e = rw e
 
-  failed-so : (r : CardRefusal) → judgedOf L words text ≡ failed r → localizedOf L words room text lang ≡ denied (Given r)
+  pub failed-so : (r : CardRefusal) → judgedOf L words text ≡ failed r → localizedOf L words room text lang ≡ denied (Given r)
   unfolding localizedOf localizedJudged
   failed-so r e = rw e
 

@@ -15,7 +15,7 @@ use Rattle.text.specs.Writing.{written, writtenMembers, shortOf, spelledByte, s
 use Rattle.contact.specs.Pointer.{Pointer, last, down, lastPart, push, split, plain, plainParts, pointerOf}
 use Rattle.contact.specs.Patch.{entriesOf, applied}
 use Rattle.contact.specs.Localize.{start}
-use Rattle.contact.specs.Entries.{NoClash, ParentsThere, LongEnough}
+use Rattle.contact.specs.Entries.{NoClash, ParentsThere}
 use Rattle.contact.specs.Conditions.{PatchOf}
 use Rattle.contact.proofs.Patching.Pointers.{plain-byte, plain-loose}
 use Rattle.contact.proofs.Patching.Weigh.{Scale, weight, sum, KeysCover, weighs-less}
@@ -129,6 +129,11 @@ key-length key =
       length-append (34 ∷ spelledBytes key) (34 ∷ []),
       length-append (34 ∷ spelledBytes (lastPart (pointerOf key))) (34 ∷ []),
     )
+
+-- each name is written at least as long as its shortest spelling, as every name that a text has
+abbrev pub LongEnough : Members → Type 0
+LongEnough empty = Prim.Unit {0}
+LongEnough (member n label d ms) = (length (spelled n) ≤ length label) × LongEnough ms
 
 keys-cover : (ms : Members) → LongEnough ms → KeysCover inBytes ms
 keys-cover empty h = tt

@@ -1,20 +1,24 @@
--- `strings_run::sum_of` meets its contract: the measure is the number of bytes that the cursor has left: an answer `Byte` takes one
--- (`handed`). Assumes nothing.
+-- `strings_run::sum_of` meets its contract: the measure is the number of bytes that the cursor has left: an answer `Byte` takes one (`handed`). Assumes nothing.
 use mathlib.Core.Path.{ap}
 use native.Mathlib.Omega.{arith}
 use lib.ListN.{length}
 use denote.Ref.{now}
-use borrow.Author.Needs.{needs}
 use Rattle.json.specs.Cursors.{rest}
 use Rattle.json.proofs.Handed.{handed}
+use borrow.Author.Needs.{needs}
 use Rattle.strings_run.proofs.sum_of.Statement.{statement}
 use Rattle.strings_run.proofs.sum_of.Tie as tie
+use Rattle.json.proofs.decode.next_byte.Reads as next-byte-reads
+use Rattle.json.proofs.decode.start.Reads as start-reads
 
 abbrev Inv-loop : tie.InvT-loop
 Inv-loop name c₀ n₀ s₀ c n s = Unit {0}
 
 abbrev μ-loop : tie.MeasureT-loop
 μ-loop name c₀ n₀ s₀ c n s = length (rest name c)
+
+start-requires : tie.Need-start-requires Inv-loop μ-loop
+start-requires c κs = search needs
 
 loop-holds : tie.Need-loop-holds Inv-loop μ-loop
 loop-holds c = search needs
@@ -44,7 +48,7 @@ add-s : tie.Need-add-s Inv-loop μ-loop
 add-s c = search needs
 
 loop-less : tie.Need-loop-less Inv-loop μ-loop
-loop-less c = omega (arith, ap length (handed (now (c .before .before .before .before .before .before .args .name)) (c .before .before .before .before .loop .c) (c .before .before .before .next-byte .ensures .0) (c .before .b .given .1)))
+loop-less c = omega (arith, ap length (handed (now (c .before .before .before .before .before .before .before .args .name)) (c .before .before .before .before .loop .c) (c .before .before .before .next-byte .ensures .0) (c .before .b .given .1)))
 
 loop-again : tie.Need-loop-again Inv-loop μ-loop
 loop-again c = search needs
@@ -55,6 +59,7 @@ sum-of-spec =
     (tie.spec
     Inv-loop
     μ-loop
+    start-requires
     loop-holds
     next-byte-requires
     enum-told

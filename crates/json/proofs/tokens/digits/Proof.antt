@@ -12,7 +12,8 @@ digit-at-requires c κs = search needs
 
 add-digits-end : tie.Need-add-digits-end
 add-digits-end c =
-    omega (arith, run-byte isDigit (c .before .before .before .args .text .now) refl (c .before .before .before .args .at) (sym (c .before .digit-at .ensures) ∙ c .if1 .taken))
+    omega
+    (arith, run-byte isDigit (c .before .before .before .args .text .now) refl (c .before .before .before .args .at) (sym (c .before .digit-at .ensures) ∙ c .if1 .taken))
 
 digits-end-requires : tie.Need-digits-end-requires
 digits-end-requires c κs = search needs

@@ -40,7 +40,8 @@ returns : tie.Need-returns
 unfolding numberAt
 returns c =
     let s = first-stopped c (fracAt (c .before .before .before .before .args .text .now)) in
-    rw (← c .before .before .minus-end .ensures, ← c .before .int .ensures, ← s) (first-stopped c (expAt (c .before .before .before .before .args .text .now)))
+    rw (← c .before .before .minus-end .ensures, ← c .before .int .ensures, ← s)
+    (first-stopped c (expAt (c .before .before .before .before .args .text .now)))
 
 frac-requires : tie.Need-frac-requires
 frac-requires c κs = search needs
@@ -51,7 +52,9 @@ enum-known-part c = search needs
 returns-2 : tie.Need-returns-2
 unfolding numberAt
 returns-2 c =
-    rw (← c .before .before .before .before .before .before .minus-end .ensures, ← c .before .before .before .before .before .int .ensures, c .before .before .before .whole .given .1, ← c .before .frac .ensures) (then-stopped c (expAt (c .before .before .before .before .before .before .before .before .args .text .now)))
+    rw
+    (← c .before .before .before .before .before .before .minus-end .ensures, ← c .before .before .before .before .before .int .ensures, c .before .before .before .whole .given .1, ← c .before .frac .ensures)
+    (then-stopped c (expAt (c .before .before .before .before .before .before .before .before .args .text .now)))
 
 exp-requires : tie.Need-exp-requires
 exp-requires c κs = search needs
@@ -59,7 +62,9 @@ exp-requires c κs = search needs
 returns-3 : tie.Need-returns-3
 unfolding numberAt
 returns-3 c =
-    rw (← c .before .before .before .before .before .before .before .before .before .minus-end .ensures, ← c .before .before .before .before .before .before .before .before .int .ensures, c .before .before .before .before .before .before .whole .given .1, ← c .before .before .before .before .frac .ensures, c .before .before .part .given .1) (c .exp .ensures)
+    rw
+    (← c .before .before .before .before .before .before .before .before .before .minus-end .ensures, ← c .before .before .before .before .before .before .before .before .int .ensures, c .before .before .before .before .before .before .whole .given .1, ← c .before .before .before .before .frac .ensures, c .before .before .part .given .1)
+    (c .exp .ensures)
 
 pub number-spec : {M : Type 1} → statement M
 number-spec =

@@ -39,19 +39,23 @@ returns-2 c =
     let a = c .before .before .before .before .before .before .before .args in
     let l = c .before .before .before .before .loop in
     let i = inside (a .lit .now) (l .i) (omega arith) in
-    rw (← l .inv, drop-byte (a .lit .now) (l .i) i, ← c .before .before .before .peek .ensures .0, ← c .before .peek2 .ensures .0, ne-eqb _ _ (c .if2 .taken))
+    rw
+    (← l .inv, drop-byte (a .lit .now) (l .i) i, ← c .before .before .before .peek .ensures .0, ← c .before .peek2 .ensures .0, ne-eqb _ _ (c .if2 .taken))
 
 add-at : tie.Need-add-at Inv-loop μ-loop
 add-at c =
-    let i = inside (c .before .before .before .before .before .before .before .args .text .now) (c .before .before .before .before .loop .at) (omega arith) in omega arith
+    let i = inside (c .before .before .before .before .before .before .before .args .text .now) (c .before .before .before .before .loop .at)
+    (omega arith) in omega arith
 
 add-i : tie.Need-add-i Inv-loop μ-loop
 add-i c =
-    let i = inside (c .before .before .before .before .before .before .before .args .lit .now) (c .before .before .before .before .loop .i) (omega arith) in omega arith
+    let i = inside (c .before .before .before .before .before .before .before .args .lit .now) (c .before .before .before .before .loop .i)
+    (omega arith) in omega arith
 
 loop-less : tie.Need-loop-less Inv-loop μ-loop
 loop-less c =
-    let i = inside (c .before .before .before .before .before .before .before .args .lit .now) (c .before .before .before .before .loop .i) (omega arith) in omega arith
+    let i = inside (c .before .before .before .before .before .before .before .args .lit .now) (c .before .before .before .before .loop .i)
+    (omega arith) in omega arith
 
 loop-again : tie.Need-loop-again Inv-loop μ-loop
 unfolding wordAt
@@ -59,7 +63,8 @@ loop-again c =
     let a = c .before .before .before .before .before .before .before .args in
     let l = c .before .before .before .before .loop in
     let i = inside (a .lit .now) (l .i) (omega arith) in
-    rw (← l .inv, drop-byte (a .lit .now) (l .i) i, ← c .before .before .before .peek .ensures .0, ← c .before .peek2 .ensures .0, eq-eqb _ _ (c .if2 .left))
+    rw
+    (← l .inv, drop-byte (a .lit .now) (l .i) i, ← c .before .before .before .peek .ensures .0, ← c .before .peek2 .ensures .0, eq-eqb _ _ (c .if2 .left))
 
 pub word-spec : {M : Type 1} → statement M
 word-spec =

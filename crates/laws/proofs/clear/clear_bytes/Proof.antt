@@ -1,4 +1,4 @@
--- `laws::clear::clear_bytes` meets its contract: the first i elements are zero and the others are as they were. Assumes nothing.
+-- `laws::clear::clear_bytes` meets its contract: the first elements are zero and the others are as they were. Assumes nothing.
 use Prim.Native.Nat.{_-_}
 use native.Mathlib.Omega.{arith}
 use lib.ListN.{length}
@@ -7,10 +7,10 @@ use Rattle.laws.proofs.clear.clear_bytes.Statement.{statement}
 use Rattle.laws.proofs.clear.clear_bytes.Tie as tie
 
 abbrev Inv-loop : tie.InvT-loop
-Inv-loop out₀ i₀ out i = Cleared out₀ i out
+Inv-loop out₀ at₀ out at = Cleared out₀ at out
 
 abbrev μ-loop : tie.MeasureT-loop
-μ-loop out₀ i₀ out i = length out₀ - i
+μ-loop out₀ at₀ out at = length out₀ - at
 
 loop-holds : tie.Need-loop-holds Inv-loop μ-loop
 loop-holds c = cleared-none (c .args .out .now)
@@ -18,8 +18,8 @@ loop-holds c = cleared-none (c .args .out .now)
 slice-write-out : tie.Need-slice-write-out Inv-loop μ-loop
 slice-write-out c = omega arith
 
-add-i : tie.Need-add-i Inv-loop μ-loop
-add-i c = omega arith
+add-at : tie.Need-add-at Inv-loop μ-loop
+add-at c = omega arith
 
 loop-less : tie.Need-loop-less Inv-loop μ-loop
 loop-less c = omega arith
@@ -41,7 +41,7 @@ clear-bytes-spec =
     μ-loop
     loop-holds
     slice-write-out
-    add-i
+    add-at
     loop-less
     loop-again
     same-length

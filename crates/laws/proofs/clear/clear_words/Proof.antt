@@ -1,4 +1,4 @@
--- `laws::clear::clear_words` meets its contract: the first i elements are zero and the others are as they were. Assumes nothing.
+-- `laws::clear::clear_words` meets its contract: the first elements are zero and the others are as they were. Assumes nothing.
 use Prim.Native.Nat.{_-_}
 use native.Mathlib.Omega.{arith}
 use lib.ListN.{length}

@@ -1,0 +1,2 @@
+-- The lemmas of the notation of cases. Assumes nothing.
+pub mod Counted

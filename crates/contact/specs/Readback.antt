@@ -1,0 +1,73 @@
+-- What is written of a localized card is a text of the grammar that says the patched card, no longer and with no more values than the card's own
+-- text: so 28 can only be 5 or one of 11 to 14 (`Readback`). proofs/Patching/Readback.antt proves it for all limits that refuse repeated names.
+-- Assumes nothing: these are definitions.
+use Prim.Native.Nat.{ℕ, _≤_, _<_}
+use mathlib.Core.Path.{_≡_}
+use mathlib.Core.Logic.{_⊎_}
+use mathlib.Core.List.{List}
+use lib.ListN.{length}
+use Rattle.text.specs.Limits.{Limits}
+use Rattle.text.specs.Tree.{Forest, size}
+use Rattle.text.specs.Reader.{good}
+use Rattle.text.specs.Whole.{readOf}
+use Rattle.text.specs.Grammar.{JsonText, rootOf}
+use Rattle.text.specs.Doc.{Name, Doc, Members, docOf, countOf}
+use Rattle.text.specs.Writing.{written}
+use Rattle.text.specs.Writable.{depthIn, ReadsBack}
+use Rattle.text.specs.declared.Refusal.the-variants.{Deep}
+use Rattle.contact.specs.Judge.{cardBreach}
+use Rattle.contact.specs.Verdict.{refusedCard, passed, failed, placed, judgedOf}
+use Rattle.contact.specs.Patch.{entriesOf, applied}
+use Rattle.contact.specs.Localize.{done, denied, start, localizedOf}
+use Rattle.contact.specs.Conditions.{PatchOf, Broken}
+use Rattle.contact.specs.declared.Fault.{Fault}
+use Rattle.contact.specs.declared.CardRefusal.{CardRefusal}
+use Rattle.contact.specs.declared.CardRefusal.the-variants.{Text, Card}
+use Rattle.contact.specs.declared.LocalRefusal.{LocalRefusal}
+use Rattle.contact.specs.declared.LocalRefusal.the-variants.{Short, Inner}
+
+-- the card as the language's PatchObject, with these members, leaves it
+abbrev pub patchedDoc : Doc → Members → Doc
+patchedDoc card ms = applied (start card) (entriesOf ms)
+
+-- the document x as it is written, beside a text t of which f is the tree: it is read back, and judged as x is
+pub record WrittenCard (L : Limits) (words : ℕ) (t : List ℕ) (f : Forest) (x : Doc) : Type 0 where
+  pub back : ReadsBack L x
+  pub shorter : length (written x) ≤ length t
+  pub fewer : countOf x ≤ size f
+  -- within the depth only the rules of cards are left to break; deeper, it is refused for that
+  pub judged : depthIn x ≤ L .depth → judgedOf L words (written x) ≡ placed (rootOf (back .derives)) (cardBreach x)
+  pub deeper : L .depth < depthIn x → (p : ℕ) × (judgedOf L words (written x) ≡ failed (Text (Deep p)))
+
+-- what an accepted localization of the card text t, of which f is the tree, has written, and the tree of its rows
+pub record PatchedRows (L : Limits) (t : List ℕ) (f : Forest) (lang : Name) (text : List ℕ) (g : Forest) : Type 0 where
+  pub members : Members
+  pub patch : PatchOf (docOf t f) lang members
+  pub writes : text ≡ written (patchedDoc (docOf t f) members)
+  -- it derives the tree, which says the patched card, and is read so
+  pub derives : JsonText text
+  pub tree : g ≡ rootOf derives
+  pub says : docOf text g ≡ patchedDoc (docOf t f) members
+  pub reads : readOf L text ≡ good g (length text)
+  pub count : size g ≡ countOf (patchedDoc (docOf t f) members)
+  pub shorter : length text ≤ length t
+  pub fewer : size g ≤ size f
+
+-- 5, or one of 11 to 14
+pub data OnlyInner : CardRefusal → Type 0 where
+  deep : {p : ℕ} → OnlyInner (Text (Deep p))
+  fault : {f : Fault} → OnlyInner (Card f)
+
+module _ (L : Limits) (words room : ℕ) where
+  pub record Readback : Type 0 where
+    -- of a text that passes, if none of 21 to 26 is broken
+    pub written-card : (t : List ℕ) (f : Forest) (lang : Name) (ms : Members) → judgedOf L words t ≡ passed f → PatchOf (docOf t f) lang ms
+        → ((m : ℕ) (q : LocalRefusal) → m < 27 → ¬ Broken L words room (docOf t f) lang m q) → WrittenCard L words t f (patchedDoc (docOf t f) ms)
+    pub accepted : (t : List ℕ) (lang : Name) (text : List ℕ) (g : Forest) → localizedOf L words room t lang ≡ done text g
+        → (f : Forest) × (judgedOf L words t ≡ passed f) × PatchedRows L t f lang text g
+    -- 27 never asks for more bytes than the card's text has
+    pub enough : (t : List ℕ) (lang : Name) (n : ℕ) → localizedOf L words room t lang ≡ denied (Short n) → (room < n) × (n ≤ length t)
+    -- 28 is 5 or one of 11 to 14, also by its number
+    pub inner : (t : List ℕ) (lang : Name) (r : CardRefusal) → localizedOf L words room t lang ≡ denied (Inner r) → OnlyInner r
+    pub number : (t : List ℕ) (lang : Name) (r : CardRefusal) → localizedOf L words room t lang ≡ denied (Inner r)
+        → (refusedCard r .number ≡ 5) ⊎ ((11 ≤ refusedCard r .number) × (refusedCard r .number ≤ 14))

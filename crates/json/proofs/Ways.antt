@@ -1,0 +1,168 @@
+-- Laws of the definitions of a value and of a member, one for each way that the code goes. Assumes nothing.
+use mathlib.Core.Path.{_≡_, refl, ap, _∙_}
+use mathlib.Core.List.{List}
+use mathlib.Core.Bool.{Bool, true, false, cond}
+use Prim.Native.Nat.{ℕ, zero, suc, _+_, _-_, _≤_, _<_}
+use native.Mathlib.Omega.{arith}
+use native.Mathlib.Numerals.{sub-one}
+use native.Mathlib.Decide.{decLe}
+use lib.ListN.{length, List·getD-eq-default}
+use lib.Dec.{eqb}
+use borrow.Author.Tests.{le-leb, lt-leb, eq-eqb, ne-eqb}
+use Rattle.text.specs.Limits.{Limits}
+use Rattle.text.specs.Text.{byteAt}
+use Rattle.text.specs.Strings.{nameOf, stringEnd}
+use Rattle.text.specs.Tokens.{skip, isDigit, kindBy, tokenAt}
+use Rattle.text.specs.Tree.{Bracket, square, curly, Forest, none, leaf}
+use Rattle.text.specs.Reader.{Read, good, bad, Reader, scalarWith, scalarAt, closeOf, container, deep, valueWith, named, colonAt, memberWith, memberOf, valueAt, elementsAt, membersAt, arrayAt, objectAt}
+use Rattle.text.specs.declared.Token.the-variants.{End, No2, No3}
+use Rattle.text.specs.declared.Refusal.the-variants.{Grammar, Character, Repeated, Deep, Many}
+
+-- ---- values that hold no others ----
+
+module _ (L : Limits) (t : List ℕ) (kind ns ne at n : ℕ) where
+  pub scalar-many : L .values ≤ n → scalarAt L t kind ns ne at n ≡ bad (Many at)
+  unfolding scalarAt
+  scalar-many h = rw (le-leb _ _ h)
+
+  module _ (h : n < L .values) where
+    pub scalar-end : (to : ℕ) → tokenAt t kind at ≡ End to → scalarAt L t kind ns ne at n ≡ good (leaf kind ns ne at to none) to
+    unfolding scalarAt scalarWith
+    scalar-end to e = rw (lt-leb _ _ h, e)
+
+    pub scalar-no2 : (p : ℕ) → tokenAt t kind at ≡ No2 p → scalarAt L t kind ns ne at n ≡ bad (Grammar p)
+    unfolding scalarAt scalarWith
+    scalar-no2 p e = rw (lt-leb _ _ h, e)
+
+    pub scalar-no3 : (p : ℕ) → tokenAt t kind at ≡ No3 p → scalarAt L t kind ns ne at n ≡ bad (Character p)
+    unfolding scalarAt scalarWith
+    scalar-no3 p e = rw (lt-leb _ _ h, e)
+
+-- ---- a value by the kind of its first byte ----
+
+module _ (L : Limits) (t : List ℕ) (ns ne at n depth : ℕ) where
+  with-depth : valueAt L t depth ns ne at n ≡ valueWith L t (arrayAt L t depth) (objectAt L t depth) ns ne at n
+  unfolding valueAt arrayAt objectAt elementsAt membersAt
+  with-depth = go depth
+    where
+      go : (d : ℕ) → valueAt L t d ns ne at n ≡ valueWith L t (arrayAt L t d) (objectAt L t d) ns ne at n
+      go zero = refl
+      go (suc d) = refl
+
+  module _ (kind : ℕ) (k : kind ≡ kindBy (byteAt t at)) where
+    pub value-none : kind ≡ 0 → valueAt L t depth ns ne at n ≡ bad (Grammar at)
+    unfolding valueWith
+    value-none h = with-depth ∙ rw (← k, h)
+
+    pub value-array : kind ≡ 6 → valueAt L t depth ns ne at n ≡ arrayAt L t depth ns ne at n
+    unfolding valueWith
+    value-array h = with-depth ∙ rw (← k, h)
+
+    pub value-object : kind ≡ 7 → valueAt L t depth ns ne at n ≡ objectAt L t depth ns ne at n
+    unfolding valueWith
+    value-object h = with-depth ∙ rw (← k, h)
+
+    pub value-scalar : (kind ≡ 0 → ⊥) → (kind ≡ 6 → ⊥) → (kind ≡ 7 → ⊥) → valueAt L t depth ns ne at n ≡ scalarAt L t kind ns ne at n
+    unfolding valueWith
+    value-scalar h₁ h₂ h₃ = with-depth ∙ rw (← k, ne-eqb _ _ h₁, ne-eqb _ _ h₂, ne-eqb _ _ h₃)
+
+-- ---- containers ----
+
+module _ (L : Limits) (b : Bracket) (inside : ℕ → ℕ → Read) (ns ne at n : ℕ) where
+  container-many : L .values ≤ n → container L b inside ns ne at n ≡ bad (Many at)
+  unfolding container
+  container-many h = rw (le-leb _ _ h)
+
+  container-open : n < L .values → container L b inside ns ne at n ≡ closeOf b ns ne at (inside (at + 1) (n + 1))
+  unfolding container
+  container-open h = rw (lt-leb _ _ h)
+
+module _ (L : Limits) (t : List ℕ) (ns ne at n : ℕ) where
+  pub array-deep : (depth : ℕ) → depth ≡ 0 → arrayAt L t depth ns ne at n ≡ bad (Deep at)
+  unfolding arrayAt deep
+  array-deep depth h = rw h
+
+  pub object-deep : (depth : ℕ) → depth ≡ 0 → objectAt L t depth ns ne at n ≡ bad (Deep at)
+  unfolding objectAt deep
+  object-deep depth h = rw h
+
+  pub array-many : (depth : ℕ) → (depth ≡ 0 → ⊥) → L .values ≤ n → arrayAt L t depth ns ne at n ≡ bad (Many at)
+  unfolding arrayAt
+  array-many zero h m = absurd (h refl)
+  array-many (suc depth) h m = container-many L square (elementsAt L t depth) ns ne at n m
+
+  pub object-many : (depth : ℕ) → (depth ≡ 0 → ⊥) → L .values ≤ n → objectAt L t depth ns ne at n ≡ bad (Many at)
+  unfolding objectAt
+  object-many zero h m = absurd (h refl)
+  object-many (suc depth) h m = container-many L curly (membersAt L t depth) ns ne at n m
+
+  pub array-open : (depth : ℕ) → (depth ≡ 0 → ⊥) → n < L .values
+      → arrayAt L t depth ns ne at n ≡ closeOf square ns ne at (elementsAt L t (depth - 1) (at + 1) (n + 1))
+  unfolding arrayAt
+  array-open zero h m = absurd (h refl)
+  array-open (suc depth) h m = rw sub-one (container-open L square (elementsAt L t depth) ns ne at n m)
+
+  pub object-open : (depth : ℕ) → (depth ≡ 0 → ⊥) → n < L .values
+      → objectAt L t depth ns ne at n ≡ closeOf curly ns ne at (membersAt L t (depth - 1) (at + 1) (n + 1))
+  unfolding objectAt
+  object-open zero h m = absurd (h refl)
+  object-open (suc depth) h m = rw sub-one (container-open L curly (membersAt L t depth) ns ne at n m)
+
+-- ---- a member's name and colon ----
+
+module _ (t : List ℕ) (value : Reader) (at end n x : ℕ) (e : x ≡ skip t end) where
+  pub colon-none : (byteAt t x ≡ 58 → ⊥) → colonAt t value at end n ≡ bad (Grammar x)
+  unfolding colonAt
+  colon-none h = rw (← e, ne-eqb _ _ h)
+
+  pub colon-there : byteAt t x ≡ 58 → colonAt t value at end n ≡ value (at + 1) (end - 1) (skip t (x + 1)) n
+  unfolding colonAt
+  colon-there h = rw (← e, eq-eqb _ _ h)
+
+module _ (L : Limits) (t : List ℕ) (value : Reader) (done : Forest) (at n : ℕ) where
+  pub member-none : (byteAt t at ≡ 34 → ⊥) → memberOf L t value done at n ≡ bad (Grammar at)
+  unfolding memberOf
+  member-none h = rw (ne-eqb _ _ h)
+
+  module _ (h : byteAt t at ≡ 34) where
+    pub member-no2 : (p : ℕ) → stringEnd t (at + 1) ≡ No2 p → memberOf L t value done at n ≡ bad (Grammar p)
+    unfolding memberOf memberWith
+    member-no2 p e = rw (eq-eqb _ _ h, e)
+
+    pub member-no3 : (p : ℕ) → stringEnd t (at + 1) ≡ No3 p → memberOf L t value done at n ≡ bad (Character p)
+    unfolding memberOf memberWith
+    member-no3 p e = rw (eq-eqb _ _ h, e)
+
+    module _ (u : L .unique ≡ true) (end : ℕ) (e : stringEnd t (at + 1) ≡ End end) where
+      pub member-known : named t (nameOf t (at + 1) (end - 1)) done ≡ true → memberOf L t value done at n ≡ bad (Repeated at)
+      unfolding memberOf memberWith
+      member-known k = rw (eq-eqb _ _ h, e, u, k)
+
+      pub member-new : named t (nameOf t (at + 1) (end - 1)) done ≡ false → memberOf L t value done at n ≡ colonAt t value at end n
+      unfolding memberOf memberWith
+      member-new k = rw (eq-eqb _ _ h, e, u, k)
+
+-- ---- kinds ----
+
+-- where a byte begins a value, the text has not ended; and no kind is above 7
+pub kind-inside : (t : List ℕ) (at kind : ℕ) → kind ≡ kindBy (byteAt t at) → (kind ≡ 0 → ⊥) → at < length t
+unfolding kindBy
+kind-inside t at kind k h = elim (decLe (length t) at) [
+  | yes l ↦ absurd (h (k ∙ ap kindBy (List·getD-eq-default t 256 l)))
+  | no l ↦ omega arith
+]
+
+small-cond : (b : Bool) (x y : ℕ) → x < 8 → y < 8 → cond b x y < 8
+small-cond true x y p q = p
+small-cond false x y p q = q
+
+pub kind-small : (b : ℕ) → kindBy b < 8
+unfolding kindBy
+kind-small b =
+    small-cond (eqb b 110) 1 _ (omega arith)
+    (small-cond (eqb b 102) 2 _ (omega arith)
+    (small-cond (eqb b 116) 3 _ (omega arith)
+    (small-cond (eqb b 45) 4 _ (omega arith)
+    (small-cond (eqb b 34) 5 _ (omega arith)
+    (small-cond (eqb b 91) 6 _ (omega arith)
+    (small-cond (eqb b 123) 7 _ (omega arith) (small-cond (isDigit b) 4 0 (omega arith) (omega arith))))))))

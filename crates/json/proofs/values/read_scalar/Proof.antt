@@ -1,0 +1,95 @@
+-- `json::values::read_scalar` meets its contract: one law of `scalarAt` for each return. Assumes nothing.
+use Prim.Native.Nat.{_+_}
+use mathlib.Core.Path.{sym, _∙_}
+use native.Mathlib.Omega.{arith}
+use borrow.Author.Needs.{needs}
+use Rattle.text.specs.Tree.{none, leaf, size, rowsOf}
+use Rattle.text.proofs.TokenEnds.{Span, token-span}
+use Rattle.json.specs.Parts.{upTo}
+use Rattle.json.proofs.Ways.{scalar-many, scalar-end, scalar-no2, scalar-no3}
+use Rattle.json.proofs.values.read_scalar.Statement.{statement}
+use Rattle.json.proofs.values.read_scalar.Tie as tie
+
+-- the place where a token has ended
+ended : (c : tie.After-to)
+    → Span (c .before .before .before .before .before .before .args .text .now) (c .before .before .before .before .before .before .args .at + 1) (c .to .given .0 .0)
+ended c =
+    token-span (c .before .before .before .before .before .before .args .text .now) (c .before .before .before .before .before .before .args .kind)
+    (c .before .before .before .before .before .before .args .at) (c .to .given .0 .0)
+    (c .before .before .before .before .before .before .pre .0 .inside) (sym (c .before .before .token-end .ensures) ∙ c .to .given .1)
+
+returns : tie.Need-returns
+returns c =
+    let a = c .before .before .before .args in
+    scalar-many (upTo (a .limit)) (a .text .now) (a .kind) (a .ns) (a .ne) (a .at) (a .count) (c .if1 .taken)
+
+token-end-requires : tie.Need-token-end-requires
+token-end-requires c κs = search needs
+
+enum-known-to : tie.Need-enum-known-to
+enum-known-to c = search needs
+
+put-row-requires : tie.Need-put-row-requires
+put-row-requires c κs =
+    let s = ended (c .before .before) in
+    let p = c .before .before .before .before .before .before .before .before .pre in
+    omega arith
+
+add-after : tie.Need-add-after
+add-after c = search needs
+
+enum-known-p : tie.Need-enum-known-p
+enum-known-p c = search needs
+
+enum-known-p-2 : tie.Need-enum-known-p-2
+enum-known-p-2 c = search needs
+
+same-length : tie.Need-same-length
+same-length c = search needs
+
+returns-2 : tie.Need-returns-2
+unfolding size rowsOf
+returns-2 c =
+    let a = c .before .before .before .before .before .before .before .before .before .before .before .args in
+    let e = c .before .before .before .before .before in
+    let to = e .to .given .0 .0 in
+    let s = ended e in
+    let less = c .before .before .before .before .before .before .before .before .if1 .left in
+    let token = sym (e .before .before .token-end .ensures) ∙ e .to .given .1 in
+    record {
+      trees = leaf (a .kind) (a .ns) (a .ne) (a .at) to none;
+      is = scalar-end (upTo (a .limit)) (a .text .now) (a .kind) (a .ns) (a .ne) (a .at) (a .count) less to token;
+      count = omega arith;
+      table = c .before .before .put-row .ensures;
+      later = omega arith;
+      inside = s .inside;
+      few = omega arith;
+    }
+
+returns-3 : tie.Need-returns-3
+returns-3 c =
+    let a = c .before .before .before .before .before .before .before .args in
+    scalar-no2 (upTo (a .limit)) (a .text .now) (a .kind) (a .ns) (a .ne) (a .at) (a .count) (c .before .before .before .before .if1 .left)
+    (c .before .p .given .0 .0) (sym (c .before .before .before .token-end .ensures) ∙ c .before .p .given .1)
+
+returns-4 : tie.Need-returns-4
+returns-4 c =
+    let a = c .before .before .before .before .before .before .before .args in
+    scalar-no3 (upTo (a .limit)) (a .text .now) (a .kind) (a .ns) (a .ne) (a .at) (a .count) (c .before .before .before .before .if1 .left)
+    (c .before .p2 .given .0 .0) (sym (c .before .before .before .token-end .ensures) ∙ c .before .p2 .given .1)
+
+pub read-scalar-spec : {M : Type 1} → statement M
+read-scalar-spec =
+    tie.close
+    (tie.spec
+    returns
+    token-end-requires
+    enum-known-to
+    put-row-requires
+    add-after
+    enum-known-p
+    enum-known-p-2
+    same-length
+    returns-2
+    returns-3
+    returns-4)

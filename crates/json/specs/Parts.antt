@@ -1,0 +1,90 @@
+-- What the readers of a text's parts ask, and what they answer. Assumes nothing: these are definitions.
+use Prim.Native.Nat.{ℕ, _+_, _-_, _*_, _≤_, _<_}
+use mathlib.Core.Path.{_≡_}
+use mathlib.Core.List.{List, [], _∷_}
+use lib.ListN.{length}
+use lib.Seq.{sets}
+use Rattle.text.specs.Limits.{Limits, rowWords, base}
+use Rattle.text.specs.Fewer.{withValues}
+use Rattle.text.specs.Tree.{Forest, size, rowsOf}
+use Rattle.text.specs.Standing.{StandsTo}
+use Rattle.text.specs.Reader.{Read, good, bad, Reader, colonAt, memberOf}
+use Rattle.json.specs.Rows.{Word}
+use Rattle.json.specs.declared.members.Key.{Key}
+use Rattle.json.specs.declared.members.Key.the-variants.{Value, Broken}
+use Rattle.json.specs.declared.values.Part.{Part}
+use Rattle.json.specs.declared.values.Part.the-variants.{Next, Stop}
+
+-- 01's limits, with so many values: a table that has fewer rows is filled by a reading that stops earlier
+abbrev pub upTo : ℕ → Limits
+upTo limit = withValues base limit
+
+-- What is asked of a reader at a place, with n values before it: the place is inside the text, the values so far are within the limit, the table has
+-- a row for each value that the limit allows, and places and numbers of values fit a word.
+pub record Asks (t table : List ℕ) (limit at n : ℕ) : Type 0 where
+  pub short : Word (length t)
+  pub wide : Word limit
+  pub room : limit * rowWords ≤ length table
+  pub inside : at ≤ length t
+  pub few : n ≤ limit
+
+-- a name's places are inside the text
+pub record Spot (t : List ℕ) (ns ne : ℕ) : Type 0 where
+  pub starts : ns ≤ length t
+  pub ends : ne ≤ length t
+
+-- ---- values ----
+
+-- R says that values stand from `at` up to `to`, and they are rows n up to `after` of the table
+pub record Gone (R : Read) (t : List ℕ) (limit at n : ℕ) (old new : List ℕ) (to after : ℕ) : Type 0 where
+  pub trees : Forest
+  pub is : R ≡ good trees to
+  pub count : after ≡ n + size trees
+  pub table : new ≡ sets old (n * rowWords) (rowsOf trees)
+  pub later : at < to
+  pub inside : to ≤ length t
+  pub few : after ≤ limit
+
+-- a reader's answer says what R is; on a refusal the table may hold anything
+abbrev pub Took : Read → (t : List ℕ) (limit at n : ℕ) (old new : List ℕ) → Part → Type 0
+Took R t limit at n old new (Next to after) = Gone R t limit at n old new to after
+Took R t limit at n old new (Stop r) = R ≡ bad r
+
+-- what closing a container asks of what was read inside it, as rows after row n
+abbrev pub Closable : (n : ℕ) → Part → Type 0
+Closable n (Next to after) = (n < after) × (Word after × Word to)
+Closable n (Stop r) = Prim.Unit {0}
+
+-- and what it does: it stores the container's row
+abbrev pub Closes : (kind ns ne at n : ℕ) → Part → (old new : List ℕ) → Part → Type 0
+Closes kind ns ne at n (Next to after) old new r =
+    (r ≡ Next to after) × (new ≡ sets old (n * rowWords) (kind ∷ ns ∷ ne ∷ at ∷ to ∷ (after - n - 1) ∷ []))
+Closes kind ns ne at n (Stop x) old new r = r ≡ Stop x
+
+-- ---- members ----
+
+-- a member's name: it ends before the place ne, and the value is at `from`, inside the text; or the refusal
+abbrev pub KeyIn : List ℕ → ℕ → Key → Type 0
+KeyIn t at (Value ne from) = (at < ne) × ((ne < from) × (from ≤ length t))
+KeyIn t at (Broken r) = Prim.Unit {0}
+
+-- the colon after a name whose token ends at `end`, and the place of the value
+pub record Past (t : List ℕ) (end ne from : ℕ) : Type 0 where
+  pub ends : ne ≡ end - 1
+  pub later : end < from
+  pub inside : from ≤ length t
+  pub is : (value : Reader) (at n : ℕ) → colonAt t value at end n ≡ value (at + 1) ne from n
+
+abbrev pub Colon : List ℕ → (end : ℕ) → Key → Type 0
+Colon t end (Value ne from) = Past t end ne from
+Colon t end (Broken r) = (value : Reader) (at n : ℕ) → colonAt t value at end n ≡ bad r
+
+-- what a member's name says of the member, whatever its value is
+abbrev pub Member : List ℕ → (done : Forest) (at : ℕ) → Key → Type 0
+Member t done at (Value ne from) = (limit : ℕ) (value : Reader) (n : ℕ) → memberOf (upTo limit) t value done at n ≡ value (at + 1) ne from n
+Member t done at (Broken r) = (limit : ℕ) (value : Reader) (n : ℕ) → memberOf (upTo limit) t value done at n ≡ bad r
+
+-- The answer on a member's name at a place, where the object's earlier members are the rows from `first` up to `end`.
+pub record Named (t table : List ℕ) (first end at : ℕ) (r : Key) : Type 0 where
+  pub inside : KeyIn t at r
+  pub is : (done : Forest) → StandsTo table first end done → Member t done at r

@@ -1,0 +1,262 @@
+// Values, arrays and objects, whose readers call each other. Each call has one container less to open, or stands further on in the text.
+use crate::bytes::peek;
+use crate::members::Key;
+use crate::members::read_key;
+use crate::rows::put_row;
+use crate::tokens::kind_of;
+use crate::tokens::skip;
+use crate::tokens::token_end;
+use text::Refusal;
+use text::Token;
+ghost use mathlib.Core.Path.{_≡_};
+ghost use Prim.Native.Nat.{_+_, _<_};
+ghost use lib.ListN.{length};
+ghost use Rattle.text.specs.Text.{byteAt};
+ghost use Rattle.text.specs.Tokens as tokens;
+ghost use Rattle.text.specs.Tree.{Forest};
+ghost use Rattle.text.specs.Standing.{StandsTo};
+ghost use Rattle.text.specs.Reader.{scalarAt, arrayAt, objectAt, elementsAt, membersAt, memberOf, valueAt};
+ghost use Rattle.json.specs.Rows.{Row};
+ghost use Rattle.json.specs.Parts.{upTo, Asks, Spot, Took, Closable, Closes};
+
+// What reading a part of a text gives: the place after it and the number of values so far, or the refusal.
+pub enum Part {
+    Next(usize, usize),
+    Stop(Refusal),
+}
+
+// The kind that the byte at a place begins, or 0.
+fn kind_at(text: &[u8], at: usize) -> usize
+    ensures { λ r. ⌜ r ≡ tokens.kindBy (byteAt (now (text .entry)) at) ⌝ }
+{
+    kind_of(peek(text, at))
+}
+
+// A value that holds no others, whose first byte is at a place.
+fn read_scalar(
+    text: &[u8],
+    table: &mut [u32],
+    limit: usize,
+    kind: usize,
+    ns: usize,
+    ne: usize,
+    at: usize,
+    count: usize,
+) -> Part
+    requires { ⌜ Asks (now text) (now table) limit at count ⌝ }
+    requires { ⌜ Spot (now text) ns ne ⌝ }
+    requires { ⌜ kind < 8 ⌝ }
+    ensures { λ r. ⌜ Took (scalarAt (upTo limit) (now (text .entry)) kind ns ne at count) (now (text .entry)) limit at count (now (table .entry)) (now (table .exit)) r ⌝ }
+{
+    if limit <= count {
+        return Part::Stop(Refusal::Many(at));
+    }
+    match token_end(text, kind, at) {
+        Token::End(to) => {
+            put_row(table, count, kind, ns, ne, at, to, 0);
+            let after = count + 1;
+            Part::Next(to, after)
+        }
+        Token::No2(p) => Part::Stop(Refusal::Grammar(p)),
+        Token::No3(p) => Part::Stop(Refusal::Character(p)),
+    }
+}
+
+// Closes a container: its row, once what is inside is read.
+fn close(
+    table: &mut [u32],
+    inside: Part,
+    kind: usize,
+    ns: usize,
+    ne: usize,
+    at: usize,
+    count: usize,
+) -> Part
+    requires { ⌜ Closable count inside ⌝ }
+    requires { ⌜ Row (length (now table)) count kind ns ne at 0 0 ⌝ }
+    ensures { λ r. ⌜ Closes kind ns ne at count inside (now (table .entry)) (now (table .exit)) r ⌝ }
+{
+    match inside {
+        Part::Next(to, after) => {
+            put_row(table, count, kind, ns, ne, at, to, after - count - 1);
+            Part::Next(to, after)
+        }
+        Part::Stop(r) => Part::Stop(r),
+    }
+}
+
+// The value at a place, as row `count`, where at most `depth` containers may be opened.
+pub(crate) fn read_value(
+    text: &[u8],
+    table: &mut [u32],
+    limit: usize,
+    depth: usize,
+    ns: usize,
+    ne: usize,
+    at: usize,
+    count: usize,
+) -> Part
+    requires { ⌜ Asks (now text) (now table) limit at count ⌝ }
+    requires { ⌜ Spot (now text) ns ne ⌝ }
+    ensures { λ r. ⌜ Took (valueAt (upTo limit) (now (text .entry)) depth ns ne at count) (now (text .entry)) limit at count (now (table .entry)) (now (table .exit)) r ⌝ }
+{
+    let kind = kind_at(text, at);
+    if kind == 0 {
+        return Part::Stop(Refusal::Grammar(at));
+    }
+    if kind == 6 {
+        return read_array(text, table, limit, depth, ns, ne, at, count);
+    }
+    if kind == 7 {
+        return read_object(text, table, limit, depth, ns, ne, at, count);
+    }
+    read_scalar(text, table, limit, kind, ns, ne, at, count)
+}
+
+// The array whose bracket is at a place.
+fn read_array(
+    text: &[u8],
+    table: &mut [u32],
+    limit: usize,
+    depth: usize,
+    ns: usize,
+    ne: usize,
+    at: usize,
+    count: usize,
+) -> Part
+    requires { ⌜ Asks (now text) (now table) limit (at + 1) count ⌝ }
+    requires { ⌜ Spot (now text) ns ne ⌝ }
+    ensures { λ r. ⌜ Took (arrayAt (upTo limit) (now (text .entry)) depth ns ne at count) (now (text .entry)) limit at count (now (table .entry)) (now (table .exit)) r ⌝ }
+{
+    if depth == 0 {
+        return Part::Stop(Refusal::Deep(at));
+    }
+    if limit <= count {
+        return Part::Stop(Refusal::Many(at));
+    }
+    let inside = read_elements(text, table, limit, depth - 1, at + 1, count + 1);
+    close(table, inside, 6, ns, ne, at, count)
+}
+
+// What stands in an array, from after its bracket to after its closing bracket.
+fn read_elements(
+    text: &[u8],
+    table: &mut [u32],
+    limit: usize,
+    depth: usize,
+    from: usize,
+    first: usize,
+) -> Part
+    requires { ⌜ Asks (now text) (now table) limit from first ⌝ }
+    ensures { λ r. ⌜ Took (elementsAt (upTo limit) (now (text .entry)) depth from first) (now (text .entry)) limit from first (now (table .entry)) (now (table .exit)) r ⌝ }
+{
+    let start = skip(text, from);
+    let b = peek(text, start);
+    if b == 93 {
+        let next = start + 1;
+        return Part::Next(next, first);
+    }
+    let mut at = start;
+    let mut count = first;
+    loop {
+        let v = read_value(text, table, limit, depth, 0, 0, at, count);
+        let Part::Next(to, after) = v else {
+            return v;
+        };
+        let x = skip(text, to);
+        let b = peek(text, x);
+        if b == 93 {
+            let next = x + 1;
+            return Part::Next(next, after);
+        }
+        if b != 44 {
+            return Part::Stop(Refusal::Grammar(x));
+        }
+        at = skip(text, x + 1);
+        count = after;
+    }
+}
+
+// The object whose bracket is at a place.
+fn read_object(
+    text: &[u8],
+    table: &mut [u32],
+    limit: usize,
+    depth: usize,
+    ns: usize,
+    ne: usize,
+    at: usize,
+    count: usize,
+) -> Part
+    requires { ⌜ Asks (now text) (now table) limit (at + 1) count ⌝ }
+    requires { ⌜ Spot (now text) ns ne ⌝ }
+    ensures { λ r. ⌜ Took (objectAt (upTo limit) (now (text .entry)) depth ns ne at count) (now (text .entry)) limit at count (now (table .entry)) (now (table .exit)) r ⌝ }
+{
+    if depth == 0 {
+        return Part::Stop(Refusal::Deep(at));
+    }
+    if limit <= count {
+        return Part::Stop(Refusal::Many(at));
+    }
+    let inside = read_members(text, table, limit, depth - 1, at + 1, count + 1);
+    close(table, inside, 7, ns, ne, at, count)
+}
+
+// One member of the object whose members so far stand from row `first` up to row `count`.
+fn read_member(
+    text: &[u8],
+    table: &mut [u32],
+    limit: usize,
+    depth: usize,
+    first: usize,
+    at: usize,
+    count: usize,
+) -> Part
+    requires { ⌜ Asks (now text) (now table) limit at count ⌝ }
+    ensures { λ r. ⌜ ((done : Forest) → StandsTo (now (table .entry)) first count done → Took (memberOf (upTo limit) (now (text .entry)) (valueAt (upTo limit) (now (text .entry)) depth) done at count) (now (text .entry)) limit at count (now (table .entry)) (now (table .exit)) r) ⌝ }
+{
+    let k = read_key(text, table, first, count, at);
+    match k {
+        Key::Value(ne, from) => { read_value(text, table, limit, depth, at + 1, ne, from, count) }
+        Key::Broken(r) => Part::Stop(r),
+    }
+}
+
+// What stands in an object, from after its bracket to after its closing bracket.
+fn read_members(
+    text: &[u8],
+    table: &mut [u32],
+    limit: usize,
+    depth: usize,
+    from: usize,
+    first: usize,
+) -> Part
+    requires { ⌜ Asks (now text) (now table) limit from first ⌝ }
+    ensures { λ r. ⌜ Took (membersAt (upTo limit) (now (text .entry)) depth from first) (now (text .entry)) limit from first (now (table .entry)) (now (table .exit)) r ⌝ }
+{
+    let start = skip(text, from);
+    let b = peek(text, start);
+    if b == 125 {
+        let next = start + 1;
+        return Part::Next(next, first);
+    }
+    let mut at = start;
+    let mut count = first;
+    loop {
+        let v = read_member(text, table, limit, depth, first, at, count);
+        let Part::Next(to, after) = v else {
+            return v;
+        };
+        let x = skip(text, to);
+        let b = peek(text, x);
+        if b == 125 {
+            let next = x + 1;
+            return Part::Next(next, after);
+        }
+        if b != 44 {
+            return Part::Stop(Refusal::Grammar(x));
+        }
+        at = skip(text, x + 1);
+        count = after;
+    }
+}

@@ -1,0 +1,61 @@
+-- Where the values of a tree stand: inside how many containers, after how many other values, and after which ones in the same container.
+-- Assumes nothing: these are definitions.
+use Prim.Native.Nat.{ℕ, _+_}
+use mathlib.Core.Path.{_≡_}
+use mathlib.Core.List.{List}
+use mathlib.Core.Bool.{Bool, true, false}
+use Rattle.text.specs.Strings.{nameOf}
+use Rattle.text.specs.Tree.{Bracket, kindIn, Forest, none, leaf, node, size, join}
+
+-- a value without what is inside it: may it hold others (is it an array or an object)? and the first five words of its row
+pub record Head : Type 0 where
+  pub holds : Bool
+  pub kind : ℕ
+  pub ns : ℕ
+  pub ne : ℕ
+  pub from : ℕ
+  pub to : ℕ
+
+abbrev pub leafHead : (kind ns ne from to : ℕ) → Head
+leafHead kind ns ne from to = record { holds = false; kind = kind; ns = ns; ne = ne; from = from; to = to }
+
+abbrev pub nodeHead : (b : Bracket) (ns ne from to : ℕ) → Head
+nodeHead b ns ne from to = record { holds = true; kind = kindIn b; ns = ns; ne = ne; from = from; to = to }
+
+-- where a value stands
+pub record Seat : Type 0 where
+  -- the containers around it
+  pub inside : ℕ
+  -- the values before it, in the order of the rows
+  pub after : ℕ
+  -- the values before it in its own container
+  pub beside : Forest
+
+-- the root's
+abbrev pub top : Seat
+top = record { inside = 0; after = 0; beside = none }
+
+-- inside a container that stands there
+abbrev pub under : Seat → Seat
+under c = record { inside = c .inside + 1; after = c .after + 1; beside = none }
+
+-- behind these values, of which the first stands there
+abbrev pub behind : Seat → Forest → Seat
+behind c f = record { inside = c .inside; after = c .after + size f; beside = join (c .beside) f }
+
+-- `In c f d h`: if the first of the values f stands at c, then the value h, which is one of them or inside one of them, stands at d
+pub data In : Seat → Forest → Seat → Head → Type 0 where
+  leaf-here : {c : Seat} {kind ns ne from to : ℕ} {rest : Forest} → In c (leaf kind ns ne from to rest) c (leafHead kind ns ne from to)
+  node-here : {c : Seat} {b : Bracket} {ns ne from to : ℕ} {inner rest : Forest} → In c (node b ns ne from to inner rest) c (nodeHead b ns ne from to)
+  into : {c d : Seat} {h : Head} {b : Bracket} {ns ne from to : ℕ} {inner rest : Forest} → In (under c) inner d h → In c (node b ns ne from to inner rest) d h
+  leaf-on : {c d : Seat} {h : Head} {kind ns ne from to : ℕ} {rest : Forest}
+      → In (behind c (leaf kind ns ne from to none)) rest d h → In c (leaf kind ns ne from to rest) d h
+  node-on : {c d : Seat} {h : Head} {b : Bracket} {ns ne from to : ℕ} {inner rest : Forest}
+      → In (behind c (node b ns ne from to inner none)) rest d h → In c (node b ns ne from to inner rest) d h
+
+-- one of these values, not looking inside them, has that decoded name
+pub data Named (t name : List ℕ) : Forest → Type 0 where
+  leaf-here : {kind ns ne from to : ℕ} {rest : Forest} → nameOf t ns ne ≡ name → Named t name (leaf kind ns ne from to rest)
+  node-here : {b : Bracket} {ns ne from to : ℕ} {inner rest : Forest} → nameOf t ns ne ≡ name → Named t name (node b ns ne from to inner rest)
+  leaf-on : {kind ns ne from to : ℕ} {rest : Forest} → Named t name rest → Named t name (leaf kind ns ne from to rest)
+  node-on : {b : Bracket} {ns ne from to : ℕ} {inner rest : Forest} → Named t name rest → Named t name (node b ns ne from to inner rest)

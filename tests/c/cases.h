@@ -1,0 +1,84 @@
+/* Stored cases for C: the notation of crates/cases, and the sums that the stored answers have. */
+#include <stdint.h>
+#include <stdio.h>
+#include <stdlib.h>
+#include <string.h>
+
+#define ROOM 70000
+#define WORDS 12300
+#define LINE 200000
+
+static uint8_t base[ROOM];
+
+/* The decimal number at *at; *at goes on behind the byte that ends it. */
+static inline size_t number(const char **at) {
+    size_t n = 0;
+    while (**at >= '0' && **at <= '9') n = n * 10 + (size_t)(*(*at)++ - '0');
+    if (**at) ++*at;
+    return n;
+}
+
+static inline int hex(char c) { return c >= '0' && c <= '9' ? c - '0' : c >= 'a' && c <= 'f' ? c - 'a' + 10 : 0; }
+
+/* The text that a line stands for, up to a byte that ends it; *line goes on behind that byte. Returns the text's length. */
+static inline size_t unpack(const char **line, char end, uint8_t *out) {
+    const char *at = *line;
+    size_t size = 0;
+    while (*at && *at != end) {
+        if (*at != '%') {
+            out[size++] = (uint8_t)*at++;
+        } else if (at[1] == '*' || at[1] == '=') {
+            char kind = at[1];
+            at += 2;
+            size_t one = number(&at), two = number(&at);
+            if (kind == '*') {
+                for (size_t i = 0; i < one; i++, size++) out[size] = out[size - two];
+            } else {
+                for (size_t i = one; i < two; i++) out[size++] = base[i];
+            }
+        } else {
+            out[size++] = (uint8_t)(hex(at[1]) * 16 + hex(at[2]));
+            at += 3;
+        }
+    }
+    *line = *at ? at + 1 : at;
+    return size;
+}
+
+/* A copy of bytes or words that ends where what is lent ends, so that a checker of memory sees a step beyond. */
+static inline void *lent(const void *from, size_t bytes) {
+    void *room = malloc(bytes ? bytes : 1);
+    if (!room) abort();
+    if (bytes) {
+        if (from) memcpy(room, from, bytes);
+        else memset(room, 255, bytes);
+    }
+    return room;
+}
+
+static inline uint64_t sum_of_words(const uint32_t *table, size_t words) {
+    uint64_t sum = 0;
+    for (size_t i = 0; i < words; i++) sum = (sum * 65599 + table[i]) % 4294967291u;
+    return sum;
+}
+
+static inline uint64_t sum_of_bytes(const uint8_t *bytes, size_t size) {
+    uint64_t sum = 0;
+    for (size_t i = 0; i < size; i++) sum = (sum * 65599 + bytes[i]) % 4294967291u;
+    return sum;
+}
+
+/* The next case of standard input, or NULL; a base text on the way is kept. */
+static inline const char *next_case(void) {
+    static char line[LINE];
+    while (fgets(line, sizeof line, stdin)) {
+        line[strcspn(line, "\n")] = 0;
+        if (*line == '!') {
+            const char *at = line + 1;
+            unpack(&at, 0, base);
+        } else if (*line) {
+            return line;
+        }
+    }
+    return NULL;
+}

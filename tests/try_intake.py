@@ -1,0 +1,48 @@
+"""Runs the program ./intake on the figures, on the judging inputs of the rulings and on inputs at its limit, and compares what it prints.
+
+    python3 tests/try_intake.py
+"""
+import glob
+import os
+import subprocess
+import sys
+
+from store import ROOT
+
+import intake
+from rulings import RULINGS, SPECIMENS, whole
+
+ROWS = 12288  # words of the program's table
+
+
+def inputs():
+    for path in sorted(glob.glob(os.path.join(ROOT, "tests", "cards", "figure-*.json"))):
+        with open(path, "rb") as figure:
+            yield figure.read()
+    for case in RULINGS + SPECIMENS:
+        if case["service"] == "judge" and case["words"] == ROWS:
+            yield case["text"]
+    good = whole(b"{..}")
+    yield good + b" " * (65536 - len(good))
+    yield good + b" " * (65537 - len(good))
+    yield b" " * 65537
+    yield b"x" * 200000
+    yield b"[" + b"0," * 2048 + b"0]"
+    yield b"\x00"
+
+
+def main():
+    faults = count = 0
+    for text in inputs():
+        number, second, _ = intake.judge(text, ROWS)
+        run = subprocess.run([os.path.join(ROOT, "intake")], input=text, capture_output=True, check=False)
+        count += 1
+        if run.stdout != b"%d %d\n" % (number, second) or run.returncode != 0:
+            faults += 1
+            print(f"{text[:120]!r}: printed {run.stdout!r} with status {run.returncode}, wanted {number} {second}")
+    print(f"intake: {count} inputs, {faults} faults")
+    return 1 if faults else 0
+
+
+if __name__ == "__main__":
+    sys.exit(main())
