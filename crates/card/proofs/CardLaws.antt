@@ -15,9 +15,11 @@ use Rattle.text.specs.Tree.{Forest}
 use Rattle.text.specs.Standing.{Stands}
 use Rattle.text.specs.Firsts.{insideAt}
 use Rattle.text.specs.Doc.{Name, Doc, object, Members, property, membersOf, docOf}
+use Rattle.text.specs.Reader.{good}
+use Rattle.text.specs.Whole.{readOf}
 use Rattle.text.specs.Promised.{Promised}
 use Rattle.text.proofs.Promise.{promised, whole-good, filled-stands, placed-kinds, doc-object}
-use Rattle.text.proofs.Lengths.{written-bound}
+use Rattle.text.proofs.Readback.Documents.{text-shorter}
 use Rattle.contact.specs.Verdict.{Judged, passed, failed, judgedOf, tableOfJudged}
 use Rattle.contact.specs.Pointer.{find}
 use Rattle.contact.specs.Localize.{denied, patchAt, localizedDoc}
@@ -41,10 +43,14 @@ use Rattle.card.proofs.Walks.{value-row}
 use Rattle.card.proofs.ChildLaws.{value-kind}
 
 module _ {t table : List ℕ} {f : Forest} (c : CardIn t table f) where
-  card-promised : Promised base t f
-  card-promised =
+  -- it was read
+  card-read : (to : ℕ) × (readOf base t ≡ good f to)
+  card-read =
       let (to, w, keeps) = judging .accepted base (length table) t f .0 (c .passes) in
-      promised base t f to (whole-good base (length table) t f to w .read)
+      (to, whole-good base (length table) t f to w .read)
+
+  card-promised : Promised base t f
+  card-promised = promised base t f (card-read .0) (card-read .1)
 
   pub card-held : Held table mostEntries 0 f
   card-held =
@@ -63,7 +69,7 @@ module _ {t table : List ℕ} {f : Forest} (c : CardIn t table f) where
   card-countable lang ms patch nc pt =
       let p = card-promised in
       let m = modest base (length table) t f refl (c .passes) lang ms patch nc pt in
-      omega (arith, m .short, written-bound (p .placed) (p .some), p .short, p .few)
+      omega (arith, m .short, text-shorter base t f (card-read .0) (card-read .1), p .short)
 
 -- ---- what the card has for a language
 
