@@ -27,31 +27,30 @@ use Rattle.contact.specs.declared.Localized.the-variants.{Written, Denied}
 use Rattle.contact.proofs.Patching.Public.{given-iff, passed-so}
 use Rattle.contact.proofs.Patching.Contract.{paper-follows}
 use Rattle.contact.proofs.Patching.Steps.{verdictOf, judged-answer}
-use Rattle.card.specs.Localizing.{CardIn, judgedOutcome, Composed, MakesFor, Left, Answers}
+use Rattle.card.specs.Localizing.{CardIn, judgedOutcome, Composed, MakesFor, Rejudged, Left, Answers, usedBy}
 use Rattle.card.specs.declared.compose.Attempt.the-variants.{Bytes, Refused}
-use Rattle.card.specs.Localizing as L
 use Rattle.card.proofs.CardLaws.{card-there}
 
 -- ---- 28
 
 module _ {t lent table : List ℕ} (room : ℕ) where
-  pub judged-passed : {rows n : ℕ} → Judges base t lent (Passed rows) table → length t ≡ n → L.Judged (length lent) (judgedOutcome (length lent) room t) (Written rows n) table
+  pub judged-passed : {rows n : ℕ} → Judges base t lent (Passed rows) table → length t ≡ n → Rejudged (length lent) (judgedOutcome (length lent) room t) (Written rows n) table
   unfolding byJudge answerOfOutcome tableOfOutcome tableOfJudged
   judged-passed {rows} {n} j long =
       go (judgedOf base (length lent) t) (judged-answer (Passed rows) (judgedOf base (length lent) t) (j .answered)) (j .table)
     where
       go : (o : Judged) → Passed rows ≡ verdictOf o → table ≡ tableOfJudged (length lent) o
-          → L.Judged (length lent) (byJudge base (length lent) room t o) (Written rows n) table
+          → Rejudged (length lent) (byJudge base (length lent) room t o) (Written rows n) table
       go (passed f) e k = record { answer = cc; rows = k }
       go (failed r) e k = let z : _≡_ {A = ℕ} 0 1 = cc in absurd (omega arith)
 
-  pub judged-failed : {r : CardRefusal} → Judges base t lent (Failed r) table → L.Judged (length lent) (judgedOutcome (length lent) room t) (Denied (Inner r)) table
+  pub judged-failed : {r : CardRefusal} → Judges base t lent (Failed r) table → Rejudged (length lent) (judgedOutcome (length lent) room t) (Denied (Inner r)) table
   unfolding byJudge answerOfOutcome tableOfOutcome tableOfJudged
   judged-failed {r} j =
       go (judgedOf base (length lent) t) (judged-answer (Failed r) (judgedOf base (length lent) t) (j .answered)) (j .table)
     where
       go : (o : Judged) → Failed r ≡ verdictOf o → table ≡ tableOfJudged (length lent) o
-          → L.Judged (length lent) (byJudge base (length lent) room t o) (Denied (Inner r)) table
+          → Rejudged (length lent) (byJudge base (length lent) room t o) (Denied (Inner r)) table
       go (passed f) e k = let z : _≡_ {A = ℕ} 0 1 = cc in absurd (omega arith)
       go (failed q) e k = record { answer = cc; rows = k }
 
@@ -70,7 +69,7 @@ given-so {t} {lent} {table} lang out {r} j = denied-so table out (given-iff base
     go (failed q) e = cc
 
 judged-so : {words room n : ℕ} {o : Outcome} {r : Localized} {table out : List ℕ} → Composed words room o out n
-    → L.Judged words (judgedOutcome words room (take n out)) r table → Answers words o r table out
+    → Rejudged words (judgedOutcome words room (take n out)) r table → Answers words o r table out
 unfolding byJudge tableOfOutcome
 judged-so {words} {room} {n} {o} {r} {table} {out} c j =
     record { answer = j .answer ∙ ap answerOfOutcome (sym (c .is)); left = rw (c .is) (go (judgedOf base words (take n out)) (j .rows)) }
@@ -100,59 +99,67 @@ module _ {t lent table : List ℕ} {count : ℕ} (j : Judges base t lent (Passed
     pub fits-so : n ≤ length out
     fits-so = let (f, k) = card-there j long in h f k .fits
 
-    pub written-so : {r : Localized} {rows : List ℕ} → L.Judged (length table) (judgedOutcome (length table) room (take n out)) r rows
+    pub written-so : {r : Localized} {rows : List ℕ} → Rejudged (length table) (judgedOutcome (length table) room (take n out)) r rows
         → Answers (length lent) (localizedOf base (length lent) room t lang) r rows out
     written-so d = let (f, k) = card-there j long in answers-as f k (judged-so (h f k) d)
 
 -- ---- clearing
 
--- behind the card's text the output is cleared
+-- behind what is used the output is cleared
 rest-cleared : (out : List ℕ) (n : ℕ) → n ≤ length out → {rest : List ℕ} → rest ≡ replicate (length (midOf n (length out - n) out)) 0
     → putMid n (length out - n) out rest ≡ take n out ++ replicate (length out - n) 0
 rest-cleared out n h e = rw (e, mid-len n (length out) out (omega arith), post-is n (length out) out h, drop-length, append-nil)
 
--- the card is in the output, and its rows are in the table
-record Finished (words : ℕ) (o : Outcome) (n : ℕ) (table out : List ℕ) : Type 0 where
-  fits : n ≤ length out
-  rows : table ≡ tableOfOutcome words o
-  bytes : take n out ++ replicate (length out - n) 0 ≡ outputOfOutcome (length out) o
+-- what clearing finds, by the outcome: the used bytes of the output, and the table if there is a card; none of both is to be left if there is not
+record Ready (words : ℕ) (o : Outcome) (r : Localized) (table out : List ℕ) : Type 0 where
+  fits : usedBy r ≤ length out
+  bytes : take (usedBy r) out ++ replicate (length out - usedBy r) 0 ≡ outputOfOutcome (length out) o
+  rows : {count n : ℕ} → r ≡ Written count n → table ≡ tableOfOutcome words o
+  no-rows : {q : LocalRefusal} → r ≡ Denied q → replicate words 0 ≡ tableOfOutcome words o
 
-finished : {words : ℕ} (o : Outcome) {rows n : ℕ} {table out : List ℕ} → Answers words o (Written rows n) table out → Finished words o n table out
+ready : {words : ℕ} (o : Outcome) {r : Localized} {table out : List ℕ} → Answers words o r table out → Ready words o r table out
 unfolding answerOfOutcome tableOfOutcome outputOfOutcome
-finished (done text f) {rows} {n} a =
-    let e : n ≡ length text = cc in
-    rw e (record { fits = a .left .1; rows = a .left .0; bytes = rw (a .left .2) })
-finished (denied r) a = let z : _≡_ {A = ℕ} 0 1 = cc in absurd (omega arith)
+ready {words} (done text f) {table = table} {out = out} a =
+    rw (a .answer)
+    (record {
+      fits = a .left .1;
+      bytes = rw (a .left .2);
+      rows = λ e. a .left .0;
+      no-rows = λ e. let z : _≡_ {A = ℕ} 0 1 = cc in absurd (omega arith);
+    })
+ready {words} (denied q) {table = table} {out = out} a =
+    rw (a .answer)
+    (record {
+      fits = omega arith;
+      bytes = refl;
+      rows = λ e. let z : _≡_ {A = ℕ} 0 1 = cc in absurd (omega arith);
+      no-rows = λ e. rw sub-zero;
+    })
 
-pub written-fits : {words : ℕ} {o : Outcome} {rows n : ℕ} {table out : List ℕ} → Answers words o (Written rows n) table out → n ≤ length out
-written-fits {o = o} a = finished o a .fits
+pub used-fits : {words : ℕ} {o : Outcome} {r : Localized} {table out : List ℕ} → Answers words o r table out → {used : ℕ} → used ≡ usedBy r → used ≤ length out
+used-fits {o = o} a e = rw e (ready o a .fits)
 
--- nothing is to be left
-record Blank (words room : ℕ) (o : Outcome) : Type 0 where
-  rows : replicate words 0 ≡ tableOfOutcome words o
-  bytes : replicate room 0 ≡ outputOfOutcome room o
+module _ {words room : ℕ} {text : List ℕ} {lang : Name} {r : Localized} {table out : List ℕ}
+    (a : Answers words (localizedOf base words room text lang) r table out) (long : length out ≡ room) {used : ℕ} (is : used ≡ usedBy r)
+    {rest : List ℕ} (clear : rest ≡ replicate (length (midOf used (length out - used) out)) 0) where
+  localizes : {rows : List ℕ} → rows ≡ tableOfOutcome words (localizedOf base words room text lang)
+      → Localizes base words room text lang r rows (putMid used (length out - used) out rest)
+  localizes e =
+      let o = localizedOf base words room text lang in
+      record {
+        paper = paper-follows o r (a .answer);
+        answer = a .answer;
+        rows = e;
+        bytes =
+            rest-cleared out used (used-fits a is) clear
+            ∙ ap (λ (k : ℕ). take k out ++ replicate (length out - k) 0) is
+            ∙ ready o a .bytes
+            ∙ ap (λ (k : ℕ). outputOfOutcome k o) long;
+      }
 
-blank : {words : ℕ} (room : ℕ) (o : Outcome) {r : LocalRefusal} {table out : List ℕ} → Answers words o (Denied r) table out → Blank words room o
-unfolding answerOfOutcome tableOfOutcome outputOfOutcome
-blank room (done text f) a = let z : _≡_ {A = ℕ} 0 1 = cc in absurd (omega arith)
-blank room (denied r) a = record { rows = rw sub-zero; bytes = rw sub-zero }
+  pub written-left : {count n : ℕ} → r ≡ Written count n → Localizes base words room text lang r table (putMid used (length out - used) out rest)
+  written-left e = localizes (ready (localizedOf base words room text lang) a .rows e)
 
-module _ {words room : ℕ} {text : List ℕ} {lang : Name} where
-  localizes : {r : Localized} {table out : List ℕ} → r ≡ answerOfOutcome (localizedOf base words room text lang) → table ≡ tableOfOutcome words (localizedOf base words room text lang) → out ≡ outputOfOutcome room (localizedOf base words room text lang)
-      → Localizes base words room text lang r table out
-  localizes {r} a t o = record { paper = paper-follows (localizedOf base words room text lang) r a; answer = a; rows = t; bytes = o }
-
-  module _ {table out : List ℕ} (long : length out ≡ room) where
-    pub written-left : {rows n : ℕ} → Answers words (localizedOf base words room text lang) (Written rows n) table out
-        → {rest : List ℕ} → rest ≡ replicate (length (midOf n (length out - n) out)) 0
-        → Localizes base words room text lang (Written rows n) table (putMid n (length out - n) out rest)
-    written-left {rows} {n} a e =
-        let d = finished (localizedOf base words room text lang) a in
-        localizes (a .answer) (d .rows) (rest-cleared out n (d .fits) e ∙ d .bytes ∙ ap (λ (k : ℕ). outputOfOutcome k (localizedOf base words room text lang)) long)
-
-    pub denied-left : length table ≡ words → {r : LocalRefusal} → Answers words (localizedOf base words room text lang) (Denied r) table out
-        → {no-rows no-bytes : List ℕ} → no-rows ≡ replicate (length table) 0 → no-bytes ≡ replicate (length out) 0
-        → Localizes base words room text lang (Denied r) no-rows no-bytes
-    denied-left same a e f =
-        let d = blank room (localizedOf base words room text lang) a in
-        localizes (a .answer) (e ∙ ap (λ (k : ℕ). replicate k 0) same ∙ d .rows) (f ∙ ap (λ (k : ℕ). replicate k 0) long ∙ d .bytes)
+  pub denied-left : length table ≡ words → {q : LocalRefusal} → r ≡ Denied q → {blank : List ℕ} → blank ≡ replicate (length table) 0
+      → Localizes base words room text lang r blank (putMid used (length out - used) out rest)
+  denied-left same e b = localizes (b ∙ ap (λ (k : ℕ). replicate k 0) same ∙ ready (localizedOf base words room text lang) a .no-rows e)

@@ -14,6 +14,7 @@ use Rattle.contact.specs.Patch.{entriesOf, applied}
 use Rattle.contact.specs.Entries.{NoClash, ParentsThere}
 use Rattle.contact.specs.Localize.{Outcome, done, denied, start, byJudge, byEntries, localizedDoc, answerOfOutcome, tableOfOutcome}
 use Rattle.contact.specs.declared.Localized.{Localized}
+use Rattle.contact.specs.declared.Localized.the-variants.{Written, Denied}
 use Rattle.card.specs.Written.{full}
 use Rattle.card.specs.Copied.{ValueAt}
 use Rattle.card.specs.Language.{Held}
@@ -64,7 +65,7 @@ MakesFor text table lang room out r =
     (f : Forest) → CardIn text table f → Made (length table) room (localizedDoc base (length table) room (docOf text f) lang) out r
 
 -- the answer, and the table, where the outcome is left to judging
-pub record Judged (words : ℕ) (o : Outcome) (r : Localized) (table : List ℕ) : Type 0 where
+pub record Rejudged (words : ℕ) (o : Outcome) (r : Localized) (table : List ℕ) : Type 0 where
   pub answer : r ≡ answerOfOutcome o
   pub rows : table ≡ tableOfOutcome words o
 
@@ -76,3 +77,8 @@ Left words (denied r) table out = Prim.Unit {0}
 pub record Answers (words : ℕ) (o : Outcome) (r : Localized) (table out : List ℕ) : Type 0 where
   pub answer : r ≡ answerOfOutcome o
   pub left : Left words o table out
+
+-- how many bytes of the output an answer says are used
+abbrev pub usedBy : Localized → ℕ
+usedBy (Written rows n) = n
+usedBy (Denied r) = 0
