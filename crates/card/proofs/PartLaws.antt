@@ -14,7 +14,7 @@ use borrow.Author.Tests.{ne-eqb}
 use Rattle.text.specs.Doc.{Name}
 use Rattle.contact.specs.Pointer.{Pointer, last, down, push, split, plain, plainParts, pointerOf, firstPart}
 use Rattle.card.specs.Parts.{partLeft, partUnread, tildeLeft, nameLeft, nameUnread}
-use Rattle.json.specs.Cursors.{unread}
+use Rattle.json.specs.Cursors.{rest, unread}
 use Rattle.json.specs.declared.decode.Cursor.{Cursor}
 use Rattle.json.specs.declared.decode.Next.{Next}
 use Rattle.json.specs.declared.decode.Next.the-variants.{Byte, Over}
@@ -105,3 +105,7 @@ by-name key Over = refl
 -- a byte that is handed out is the first of those that were left
 pub named : (part : Bool) (key : List ℕ) (c : Cursor) {r : Next} {b : ℕ} {d : Cursor} → nameUnread part key r ≡ nameLeft part key c → r ≡ Byte b d → nameLeft part key c ≡ b ∷ nameLeft part key d
 named part key c e g = sym e ∙ ap (nameUnread part key) g
+
+-- where none is handed out, none is left
+pub over : (key : List ℕ) (c : Cursor) {r : Next} → nameUnread true key r ≡ nameLeft true key c → r ≡ Over → partLeft (rest key c) ≡ []
+over key c e g = sym e ∙ ap (nameUnread true key) g

@@ -10,3 +10,9 @@ pub mod Paths
 pub mod Runs
 pub mod Walk
 pub mod Judged
+pub mod Written
+pub mod Copied
+pub mod Language
+pub mod Conditions
+pub mod Patched
+pub mod Localizing

@@ -19,6 +19,7 @@ pub mod Ways
 pub mod Found
 pub mod Refused
 pub mod Public
+pub mod Steps
 pub mod Fine
 pub mod Demand
 pub mod Weigh

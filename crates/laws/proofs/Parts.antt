@@ -1,25 +1,40 @@
 -- Parts of a list (specs/Lists.antt), element by element:
 --     part-none, part-more     a part from a place to itself is empty; any other has the element at its start, and then the part from the next place on
+--     part-back, part-out      a part that ends before it starts, or past the list's end, is empty
 --     part-some                a part that is not empty lies inside the list
 --     part-getD                an element of a part is one of the list
 --     part-part                a part of a part is a part of the list
 -- Assumes nothing.
 use Prim.Native.Nat.{ℕ, suc, _+_, _-_, _≤_, _<_}
-use mathlib.Core.Path.{_≡_, sym, _∙_}
+use mathlib.Core.Path.{_≡_, refl, sym, _∙_}
+use mathlib.Core.Bool.{Bool, true, false, cond}
 use mathlib.Core.List.{List, [], _∷_}
 use native.Mathlib.Nat.{add-assoc}
 use native.Mathlib.Omega.{arith}
+use lib.Dec.{leb}
 use lib.ListN.{length, getD}
 use lib.Seq.{getD-take, getD-drop, ext-getD}
-use borrow.Author.Tests.{le-leb}
+use borrow.Author.Tests.{le-leb, lt-leb}
 use Rattle.laws.specs.Lists.{partOf}
 use Rattle.laws.proofs.Places.{drop-byte}
 use Rattle.laws.proofs.Splits.{length-part}
 use Rattle.laws.proofs.Branches.{if-most}
 
+no-matter : (b : Bool) → _≡_ {A = List ℕ} (cond b [] []) []
+no-matter true = refl
+no-matter false = refl
+
 pub part-none : (l : List ℕ) (i : ℕ) → i ≤ length l → partOf l i i ≡ []
 unfolding partOf
 part-none l i h = let n : i - i ≡ 0 = omega arith in rw (le-leb i (length l) h, le-leb i i (omega arith), n)
+
+pub part-back : (l : List ℕ) (i e : ℕ) → e < i → partOf l i e ≡ []
+unfolding partOf
+part-back l i e h = rw (lt-leb i e h) (no-matter (leb e (length l)))
+
+pub part-out : (l : List ℕ) (i e : ℕ) → length l < e → partOf l i e ≡ []
+unfolding partOf
+part-out l i e h = rw (lt-leb e (length l) h)
 
 pub part-more : (l : List ℕ) (i e : ℕ) → i < e → e ≤ length l → partOf l i e ≡ getD l i 256 ∷ partOf l (i + 1) e
 unfolding partOf

@@ -1,16 +1,21 @@
--- Runs of stores, `sets l i vs`: one run after another, a run before another, and a run from the start of a cleared list. Assumes nothing.
+-- Runs of stores, `sets l i vs`: one run after another, a run before another, a run past the end, and a run from the start of a cleared list. Assumes nothing.
 use mathlib.Core.Path.{_≡_, refl, ap, _∙_}
 use mathlib.Core.List.{List, [], _∷_, _++_, append-assoc}
 use Prim.Native.Nat.{ℕ, zero, suc, _+_, _-_, _≤_, _<_}
 use native.Mathlib.Omega.{arith}
 use native.Mathlib.Nat.{add-zero, add-suc, suc-add, sub-zero, zero-sub, suc-sub-suc}
 use lib.ListN.{length, set, take, drop, replicate, length-replicate}
-use lib.Seq.{sets, set-comm, sets-eq, drop-at, length-take-le}
+use lib.Seq.{sets, set-out, set-comm, sets-eq, drop-at, length-take-le}
 
 -- a run of stores in two parts
 pub sets-append : (xs ys l : List ℕ) (i : ℕ) → sets l i (xs ++ ys) ≡ sets (sets l i xs) (i + length xs) ys
 sets-append [] ys l i = rw add-zero
 sets-append (x ∷ xs) ys l i = rw (add-suc, ← suc-add) (sets-append xs ys (set l i x) (suc i))
+
+-- past the end nothing is stored
+pub sets-out : (xs l : List ℕ) (i : ℕ) → length l ≤ i → sets l i xs ≡ l
+sets-out [] l i h = refl
+sets-out (x ∷ xs) l i h = rw (set-out l i x h) (sets-out xs l (suc i) (omega arith))
 
 -- a store before a run of stores may come after it
 set-sets : (ys l : List ℕ) (i v j : ℕ) → i < j → set (sets l j ys) i v ≡ sets (set l i v) j ys

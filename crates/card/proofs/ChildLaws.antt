@@ -1,0 +1,99 @@
+-- A member of the value at a row, and the PatchObject of a language:
+--     no-child, child-is           a value that is no object has no member; the search inside an object finds its member
+--     collects                     the members of a value can be listed
+--     inside-to, near, far         where what is inside the value stands; its rows are inside the table
+--     patch-in, no-patch-in        the PatchObject is a member of a member of the card
+-- Assumes nothing.
+use Prim.Native.Nat.{ℕ, _+_, _≤_, _<_}
+use mathlib.Core.Path.{_≡_, refl, sym, ap, _∙_}
+use mathlib.Core.List.{List}
+use mathlib.Core.Option.{Option, none, some}
+use native.Mathlib.Omega.{arith}
+use lib.ListN.{length}
+use Rattle.text.specs.Text.{bytes}
+use Rattle.text.specs.Tree.{Forest, size}
+use Rattle.text.specs.Tree as T
+use Rattle.text.specs.Firsts.{Some, insideAt}
+use Rattle.text.specs.Standing.{StandsTo}
+use Rattle.text.specs.Doc.{Name, Doc, scalar, array, object, kindOf, Property, docOf}
+use Rattle.text.proofs.Promise.{inside, doc-kind, doc-object}
+use Rattle.json.specs.Rows.{kindIn, belowIn}
+use Rattle.contact.specs.Pointer.{child, within, find, last}
+use Rattle.contact.specs.Localize.{patchAt}
+use Rattle.card.specs.Members.{Finds}
+use Rattle.card.specs.Copied.{ValueAt}
+use Rattle.card.specs.Entries.{Collects}
+use Rattle.card.specs.Language.{Held, At, Leads}
+use Rattle.card.specs.Localizing.{mostEntries}
+use Rattle.card.specs.declared.members.Found.{Found}
+use Rattle.card.specs.declared.members.Found.the-variants.{Row, Nothing}
+use Rattle.card.proofs.Walks.{kinds-inside, value-row}
+
+child-none : (n : Name) (d : Doc) → (kindOf d ≡ 7 → ⊥) → child n d ≡ none
+child-none n (scalar kind token) h = refl
+child-none n (array ms) h = refl
+child-none n (object ms) h = absurd (h refl)
+
+module _ {table : List ℕ} {row : ℕ} {g : Forest} (v : ValueAt table row g) where
+  pub inside-to : StandsTo table (row + 1) (row + 1 + belowIn table row) (insideAt g)
+  inside-to = rw (value-row v .below) (inside g (v .some) (v .stands))
+
+  pub near : row < length table
+  near = omega (arith, value-row v .room)
+
+  pub far : row + 1 + belowIn table row ≤ length table
+  far = omega (arith, value-row v .room-all, value-row v .below)
+
+  pub value-kind : (t : List ℕ) → kindOf (docOf t g) ≡ kindIn table row
+  value-kind t = doc-kind t g (v .some) ∙ sym (value-row v .kind)
+
+  module _ (t : List ℕ) (n : Name) where
+    pub no-child : (kindIn table row ≡ 7 → ⊥) → child n (docOf t g) ≡ none
+    no-child h = child-none n (docOf t g) (λ e. h (sym (value-kind t) ∙ e))
+
+-- what is inside a value ends before the values that follow it
+inside-size : (g : Forest) → Some g → 1 + size (insideAt g) ≤ size g
+unfolding size
+inside-size T.none s = absurd s
+inside-size (T.leaf kind ns ne from to rest) s = omega arith
+inside-size (T.node b ns ne from to inside rest) s = omega arith
+
+module _ {table : List ℕ} {limit row : ℕ} {g : Forest} (h : Held table limit row g) (t : List ℕ) (n : Name) where
+  pub child-is : kindIn table row ≡ 7 → (r : Found) → Finds t table (row + 1 + belowIn table row) n (insideAt g) r → Leads t table limit (child n (docOf t g)) r
+  child-is e Nothing f = rw (doc-object t g (h .value .some) (h .value .kinds) (sym (value-row (h .value) .kind) ∙ e)) f
+  child-is e (Row m) f =
+      let v = h .value in
+      record {
+        found = f .found;
+        held =
+            record {
+              value = record { some = f .some-found; kinds = f .kinds (kinds-inside g (v .kinds)); stands = f .stands .stands };
+              within = omega (arith, f .stands .ends, h .within, inside-size g (v .some), value-row v .below);
+            };
+        is = rw (doc-object t g (v .some) (v .kinds) (sym (value-row v .kind) ∙ e)) (f .is);
+      }
+
+-- the members of the value can be listed
+pub collects : {table : List ℕ} {row : ℕ} {g : Forest} → Held table mostEntries row g → {below : ℕ} → below ≡ belowIn table row
+    → Collects table (row + 1) (row + 1 + below) mostEntries
+collects {g = g} h e =
+    let v = h .value in
+    record {
+      values = insideAt g;
+      stand = rw e (inside-to v);
+      room-for = omega (arith, h .within, inside-size g (v .some));
+      few = omega (arith, h .within, inside-size g (v .some), value-row v .below);
+    }
+
+-- ---- the PatchObject
+
+pub no-patch-in : (lang : Name) (card : Doc) → child (bytes "localizations") card ≡ none → find (patchAt lang) card ≡ none
+no-patch-in lang card e = ap (within (find (last lang))) e
+
+pub patch-in : {t table : List ℕ} {limit : ℕ} (lang : Name) (card : Doc) {m : ℕ} (a : At t table limit (child (bytes "localizations") card) m) (r : Found)
+    → Leads t table limit (child lang (docOf t (a .found))) r → Leads t table limit (find (patchAt lang) card) r
+patch-in lang card a r h = rw (ap (within (find (last lang))) (a .is)) h
+
+-- what an answer that found it says
+pub at-row : {t table : List ℕ} {limit : ℕ} {o : Option Property} {m : ℕ} → At t table limit o m → At t table limit o m
+at-row a = a

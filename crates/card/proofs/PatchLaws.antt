@@ -1,0 +1,223 @@
+-- Laws of an object as the entries of a patch leave it, member by member:
+--     linked              the bytes of a member that is written, or not, and of those after it
+--     based-object, based-other     a value as the entries leave it, by its kind
+--     kept-linked         the members of the object, one after the other
+--     added-linked        the members that ascending entries add, one entry after the other: they stand in the order of the entries
+--     adds-null, adds-down, adds-none, adds-it     what an entry adds
+--     passed-none, passed-some     a member that is not written, and one that is
+--     there-hit, there-pass, there-none     whether there is a member of a name, by the rows
+-- Assumes nothing.
+use Prim.Native.Nat.{ℕ, _<_}
+use mathlib.Core.Path.{_≡_, refl, sym, ap, _∙_}
+use mathlib.Core.Bool.{Bool, true, false, cond}
+use mathlib.Core.List.{List, [], _∷_, _++_, append-assoc}
+use mathlib.Core.Option.{Option, none, some}
+use native.Mathlib.Omega.{arith}
+use lib.ListN.{length}
+use borrow.Author.Tests.{eq-eqb, ne-eqb}
+use Rattle.laws.specs.Lists.{partOf}
+use Rattle.laws.specs.Order.{same, before}
+use Rattle.laws.specs.declared.Order.the-variants.{Less}
+use Rattle.text.specs.Text.{bytes}
+use Rattle.text.specs.Tree.{Forest}
+use Rattle.text.specs.Tree as T
+use Rattle.text.specs.Firsts.{Some, nameStart, nameEnd, restAt}
+use Rattle.text.specs.Strings.{decode, nameOf}
+use Rattle.text.specs.Standing.{Stands}
+use Rattle.text.specs.Doc.{Name, Doc, scalar, array, object, Members, empty, member, Property, property, seek, isThere, kindOf, membersOf, labelAt, docOf}
+use Rattle.text.specs.Writing.{spelled, written, writtenMembers}
+use Rattle.text.proofs.Promise.{row-at, members-first, members-none}
+use Rattle.json.specs.Rows.{nameStartIn, nameEndIn}
+use Rattle.json.specs.Cursors.{rest}
+use Rattle.json.specs.declared.decode.Cursor.{Cursor}
+use Rattle.contact.specs.Pointer.{Pointer, last, down, pointerOf, firstPart}
+use Rattle.contact.specs.Patch.{Change, remove, set, Entry, entry, mine, under, insert, fresh, added, keep, applied, kept, without, changeOf}
+use Rattle.card.specs.Pointers.{pointerOrder, strip}
+use Rattle.card.specs.Entries.{keyAt}
+use Rattle.card.specs.Runs.{Leads, leads-more, Ascending, asc-more}
+use Rattle.card.specs.Patched.{based, basedAll, memberIs, keptBy, stays, freshly, adds, pointerIn, link, piece, since, Passed}
+use Rattle.card.specs.Written.{full, Wrote}
+use Rattle.card.specs.Copied.{ValueAt, headOf}
+use Rattle.card.specs.declared.writing.Spot.{Spot}
+use Rattle.card.proofs.Walks.{value-row}
+use Rattle.card.proofs.Bytes.{wrote-none, wrote-then}
+
+-- ---- one member ----
+
+pub linked : (o : Option Doc) (n label : List ℕ) (ms : Members) (first : Bool)
+    → writtenMembers (link o n label ms) first ≡ piece o first label ++ writtenMembers ms (since o first)
+linked none n label ms first = refl
+linked (some d) n label ms first = simp append-assoc
+
+-- ---- a value ----
+
+pub based-object : (root : Bool) (ms : Members) (es : List Entry)
+    → written (applied (based root (object ms)) es) ≡ 123 ∷ writtenMembers (kept (basedAll root ms) es (added (basedAll root ms) es)) true
+based-object true ms es = refl
+based-object false ms es = refl
+
+pub based-other : (root : Bool) (d : Doc) (es : List Entry) → (kindOf d ≡ 7 → ⊥) → applied (based root d) es ≡ d
+based-other true (scalar kind token) es ne = refl
+based-other true (array ms) es ne = refl
+based-other true (object ms) es ne = absurd (ne refl)
+based-other false (scalar kind token) es ne = refl
+based-other false (array ms) es ne = refl
+based-other false (object ms) es ne = absurd (ne refl)
+
+-- ---- the members of the object ----
+
+keep-link : (o : Option Change) (n label : List ℕ) (d : Doc) (ms : Members) → keep o n label d ms ≡ link (keptBy o d) n label ms
+keep-link none n label d ms = refl
+keep-link (some remove) n label d ms = refl
+keep-link (some (set v)) n label d ms = refl
+
+pub kept-linked : (root : Bool) (n label : List ℕ) (d : Doc) (ms : Members) (es : List Entry) (more : Members)
+    → kept (basedAll root (member n label d ms)) es more ≡ link (stays root n es d) n label (kept (basedAll root ms) es more)
+unfolding stays
+kept-linked false n label d ms es more = keep-link (mine n es) n label (applied d (under n es)) (kept ms es more)
+kept-linked true n label d ms es more = go (same n (bytes "localizations"))
+  where
+    go : (b : Bool) → let rest = basedAll true ms in
+        kept (cond b rest (member n label d rest)) es more ≡ link (cond b none (keptBy (mine n es) (applied d (under n es)))) n label (kept rest es more)
+    go true = refl
+    go false = keep-link (mine n es) n label (applied d (under n es)) (kept (basedAll true ms) es more)
+
+-- ---- the members that are added ----
+
+-- the name stands before that of the first member
+abbrev Heads : Name → Members → Type 0
+Heads n empty = Prim.Unit {0}
+Heads n (member m label d ms) = before n m ≡ true
+
+first-in : (n : Name) (v : Doc) (ms : Members) → Heads n ms → insert n v ms ≡ member n (spelled n) v ms
+first-in n v empty h = refl
+first-in n v (member m label d ms) h = rw h
+
+heads-insert : (n m : Name) (v : Doc) (ms : Members) → before n m ≡ true → Heads n ms → Heads n (insert m v ms)
+heads-insert n m v empty e h = e
+heads-insert n m v (member k label d ms) e h = go (before m k)
+  where
+    go : (b : Bool) → Heads n (cond b (member m (spelled m) v (member k label d ms)) (member k label d (insert m v ms)))
+    go true = e
+    go false = h
+
+heads-fresh : (n m : Name) (v : Doc) (o : Option Property) (ms : Members) → before n m ≡ true → Heads n ms → Heads n (fresh o m v ms)
+heads-fresh n m v none ms e h = heads-insert n m v ms e h
+heads-fresh n m v (some p) ms e h = h
+
+less-before : (n m : Name) → pointerOrder (last n) (last m) ≡ Less → before n m ≡ true
+unfolding pointerOrder
+less-before n m e = rw e
+
+-- it stands before the names of all members that later entries add
+heads-added : (n : Name) (ms : Members) (es : List Entry) → Leads (last n) es → Heads n (added ms es)
+heads-added n ms [] l = tt
+heads-added n ms (entry (last m) remove ∷ es) (leads-more e l) = heads-added n ms es l
+heads-added n ms (entry (last m) (set v) ∷ es) (leads-more e l) = heads-fresh n m v (seek m ms) (added ms es) (less-before n m e) (heads-added n ms es l)
+heads-added n ms (entry (down m p) c ∷ es) (leads-more e l) = heads-added n ms es l
+
+pub added-linked : (ms : Members) (p : Pointer) (c : Change) (es : List Entry) → Ascending (entry p c ∷ es)
+    → added ms (entry p c ∷ es) ≡ link (adds ms (entry p c)) (firstPart p) (spelled (firstPart p)) (added ms es)
+added-linked ms (last n) remove es a = refl
+added-linked ms (down n p) c es a = refl
+added-linked ms (last n) (set v) es (asc-more l a) = go (seek n ms)
+  where
+    go : (o : Option Property) → fresh o n v (added ms es) ≡ link (freshly o v) n (spelled n) (added ms es)
+    go none = first-in n v (added ms es) (heads-added n ms es l)
+    go (some p) = refl
+
+-- ---- the member of a name ----
+
+there-by : (b : Bool) (p : Property) (o : Option Property) → isThere (cond b (some p) o) ≡ cond b true (isThere o)
+there-by true p o = refl
+there-by false p o = refl
+
+there-first : (root : Bool) (sought n label : List ℕ) (d : Doc) (ms : Members)
+    → isThere (seek sought (basedAll root (member n label d ms))) ≡ cond (memberIs root n sought) true (isThere (seek sought (basedAll root ms)))
+there-first false sought n label d ms = there-by (same n sought) (property label d) (seek sought ms)
+there-first true sought n label d ms = go (same n (bytes "localizations"))
+  where
+    rest : Members
+    rest = without (bytes "localizations") ms
+
+    go : (out : Bool) → isThere (seek sought (cond out rest (member n label d rest))) ≡ cond (cond out false (same n sought)) true (isThere (seek sought rest))
+    go true = refl
+    go false = there-by (same n sought) (property label d) (seek sought rest)
+
+-- of the values that stand from a row on
+abbrev pub thereIn : (root : Bool) → (t sought : List ℕ) → Forest → Bool
+thereIn root t sought vs = isThere (seek sought (basedAll root (membersOf t vs)))
+
+module _ (root : Bool) (t sought : List ℕ) {table : List ℕ} {row : ℕ} (vs : Forest) (s : Some vs) (h : Stands table row vs) where
+  there-row : thereIn root t sought vs ≡ cond (memberIs root (keyAt t table row) sought) true (thereIn root t sought (restAt vs))
+  there-row =
+      let at = row-at vs s h in
+      ap (λ (ms : Members). isThere (seek sought (basedAll root ms))) (members-first t vs s)
+      ∙ there-first root sought (nameOf t (nameStart vs) (nameEnd vs)) (labelAt t (nameStart vs) (nameEnd vs)) (docOf t vs) (membersOf t (restAt vs))
+      ∙ rw (at .name-start, at .name-end)
+
+  module _ {r : Bool} (is : r ≡ memberIs root (keyAt t table row) sought) where
+    pub there-hit : r ≡ true → true ≡ thereIn root t sought vs
+    there-hit e = sym (there-row ∙ rw (← is, e))
+
+    pub there-pass : r ≡ false → thereIn root t sought vs ≡ thereIn root t sought (restAt vs)
+    there-pass e = there-row ∙ rw (← is, e)
+
+pub there-none : (root : Bool) (t sought : List ℕ) → thereIn root t sought T.none ≡ false
+there-none true t sought = rw (members-none t)
+there-none false t sought = rw (members-none t)
+
+-- ---- what an entry adds ----
+
+-- null removes, another value is set
+pub change-null : (d : Doc) → kindOf d ≡ 1 → changeOf d ≡ remove
+change-null (scalar kind token) e = rw (eq-eqb kind 1 e)
+change-null (array ms) e = absurd (omega arith)
+change-null (object ms) e = absurd (omega arith)
+
+pub change-set : (d : Doc) → (kindOf d ≡ 1 → ⊥) → changeOf d ≡ set d
+change-set (scalar kind token) ne = rw (ne-eqb kind 1 ne)
+change-set (array ms) ne = refl
+change-set (object ms) ne = refl
+
+pub adds-null : (ms : Members) (p : Pointer) (d : Doc) → kindOf d ≡ 1 → adds ms (entry p (changeOf d)) ≡ none
+adds-null ms (last n) d e = rw (change-null d e)
+adds-null ms (down n p) d e = refl
+
+pub adds-down : (ms : Members) (p : Pointer) (c : Change) {n : Name} {q : Pointer} → p ≡ down n q → adds ms (entry p c) ≡ none
+adds-down ms p c e = rw e
+
+-- it ends there and is not null: is there a member of the name?
+module _ (ms : Members) (p : Pointer) (d : Doc) {there : Bool} (ends : p ≡ last (firstPart p)) (some-value : kindOf d ≡ 1 → ⊥)
+    (is : there ≡ isThere (seek (firstPart p) ms)) where
+  adds-last : adds ms (entry p (changeOf d)) ≡ cond there none (some d)
+  adds-last = rw (ends, change-set d some-value, is) (go (seek (firstPart p) ms))
+    where
+      go : (o : Option Property) → freshly o d ≡ cond (isThere o) none (some d)
+      go none = refl
+      go (some q) = refl
+
+  pub adds-none : there ≡ true → adds ms (entry p (changeOf d)) ≡ none
+  adds-none e = adds-last ∙ rw e
+
+  pub adds-it : there ≡ false → adds ms (entry p (changeOf d)) ≡ some d
+  adds-it e = adds-last ∙ rw e
+
+-- the part of an entry's key at which a cursor stands
+pub at-part : (t : List ℕ) (parts : ℕ) {table : List ℕ} {row : ℕ} {h : Forest} (key : List ℕ) (c : Cursor) → ValueAt table row h
+    → key ≡ partOf t (nameStartIn table row) (nameEndIn table row) → pointerOf (rest key c) ≡ strip parts (pointerOf (decode key))
+    → pointerOf (rest key c) ≡ pointerIn t parts h
+at-part t parts key c v k e = e ∙ rw (k, value-row v .name-start, value-row v .name-end)
+
+-- the same of the entry, by an answer
+pub adds-is : (ms : Members) {p q : Pointer} (c : Change) {o : Option Doc} → p ≡ q → adds ms (entry p c) ≡ o → adds ms (entry q c) ≡ o
+adds-is ms c e f = rw e at f
+
+-- ---- one member, written or not ----
+
+pub passed-none : {old : List ℕ} (s : Spot) {o : Option Doc} {label : List ℕ} → length old < full → o ≡ none → Passed old s o label old s
+passed-none s fits e = rw e (record { wrote = wrote-none (s .to) fits; next = refl })
+
+pub passed-some : {old : List ℕ} {s : Spot} {o : Option Doc} {label : List ℕ} (d : Doc) {one two : List ℕ} {p q : ℕ} → o ≡ some d
+    → Wrote old (s .to) (headOf 7 (s .first) label) one p → Wrote one p (written d) two q → Passed old s o label two (record { to = q; first = false })
+passed-some {s = s} {label = label} d e a b = rw e (record { wrote = wrote-then (headOf 7 (s .first) label) (written d) a b; next = refl })

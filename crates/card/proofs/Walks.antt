@@ -1,0 +1,83 @@
+-- Values that stand at rows, and a walk along the values inside a container, each written in its turn:
+--     kinds-inside, kinds-rest, row-inside, value-row     a value at a row: the kinds of what is in it, that the table has it, and its words
+--     Passing                                            what a loop along rows keeps, whatever stands there
+--     Walk, walk-start, walk-here, walk-on, walk-end     `rest vs first` are the bytes from the values vs on
+-- Assumes nothing.
+use Prim.Native.Nat.{ℕ, _+_, _*_, _≤_, _<_}
+use mathlib.Core.Path.{_≡_}
+use mathlib.Core.Bool.{Bool}
+use mathlib.Core.List.{List}
+use native.Mathlib.Decide.{decLe}
+use native.Mathlib.Omega.{arith}
+use lib.ListN.{length, List·getD-eq-default}
+use Rattle.text.specs.Tree.{Forest, none, leaf, node}
+use Rattle.text.specs.Firsts.{insideAt, restAt, Kinds}
+use Rattle.text.specs.Standing.{StandsTo}
+use Rattle.text.proofs.Promise.{RowAt, row-at, inside, after, some-at, none-at}
+use Rattle.json.specs.Rows.{kindIn, belowIn}
+use Rattle.card.specs.Copied.{ValueAt}
+use Rattle.card.proofs.Bytes.{Left}
+
+pub kinds-inside : (g : Forest) → Kinds g → Kinds (insideAt g)
+kinds-inside none k = tt
+kinds-inside (leaf kind ns ne from to rest) k = tt
+kinds-inside (node b ns ne from to within rest) k = k .0
+
+pub kinds-rest : (g : Forest) → Kinds g → Kinds (restAt g)
+kinds-rest none k = tt
+kinds-rest (leaf kind ns ne from to rest) k = k .1
+kinds-rest (node b ns ne from to within rest) k = k .1
+
+-- a row that has a kind is one of the table
+pub row-inside : (table : List ℕ) (row : ℕ) → 0 < kindIn table row → row * 6 < length table
+row-inside table row h =
+    elim (decLe (length table) (row * 6)) [
+      | yes le ↦
+          let z : kindIn table row ≡ 0 = List·getD-eq-default table 0 (omega arith) in
+          absurd (omega arith)
+      | no lt ↦ omega arith
+    ]
+
+-- the words of its row
+pub value-row : {table : List ℕ} {row : ℕ} {g : Forest} → ValueAt table row g → RowAt table row g
+value-row {g = g} v = row-at g (v .some) (v .stands)
+
+-- What a loop along the rows inside a value keeps, whatever the table holds: it is past the value's row, its end is not far, and the output is as long as before.
+pub record Passing (row end m : ℕ) (old new : List ℕ) : Type 0 where
+  pub later : row < m
+  pub near : end < 4611686018427387904
+  pub long : length new ≡ length old
+
+-- Of the bytes `total` that go into `old` from `at` on, those of the values from row m up to `end` are left.
+pub record Walk (table : List ℕ) (end : ℕ) (rest : Forest → Bool → List ℕ) (old : List ℕ) (at : ℕ) (total new : List ℕ) (to : ℕ) (first : Bool) (m : ℕ)
+    : Type 0 where
+  pub values : Forest
+  pub kinds : Kinds values
+  pub standing : StandsTo table m end values
+  pub left : Left old at total new to (rest values first)
+
+module _ {table : List ℕ} {end : ℕ} {rest : Forest → Bool → List ℕ} {old : List ℕ} {at : ℕ} {total : List ℕ} where
+  pub walk-start : {row : ℕ} {g : Forest} (first : Bool) → ValueAt table row g → end ≡ row + 1 + belowIn table row
+      → {new : List ℕ} {to : ℕ} → Left old at total new to (rest (insideAt g) first) → Walk table end rest old at total new to first (row + 1)
+  walk-start {row} {g} first v e l =
+      record { values = insideAt g; kinds = kinds-inside g (v .kinds); standing = rw (e, value-row v .below) (inside g (v .some) (v .stands)); left = l }
+
+  module _ {new : List ℕ} {to : ℕ} {first : Bool} {m : ℕ} (w : Walk table end rest old at total new to first m) where
+    -- the value at hand
+    pub walk-here : m < end → ValueAt table m (w .values)
+    walk-here h = record { some = some-at (w .values) (w .standing) h; kinds = w .kinds; stands = w .standing .stands }
+
+    -- it is written
+    pub walk-on : m < end → (next : ℕ) → next ≡ m + 1 + belowIn table m → {new′ : List ℕ} {to′ : ℕ} {first′ : Bool}
+        → Left old at total new′ to′ (rest (restAt (w .values)) first′) → Walk table end rest old at total new′ to′ first′ next
+    walk-on h next e l =
+        record {
+          values = restAt (w .values);
+          kinds = kinds-rest (w .values) (w .kinds);
+          standing = rw (e, value-row (walk-here h) .below) (after (w .values) (walk-here h .some) (w .standing));
+          left = l;
+        }
+
+    -- none is left
+    pub walk-end : end ≤ m → Left old at total new to (rest none first)
+    walk-end h = rw (none-at (w .values) (w .standing) h) at (w .left)

@@ -1,0 +1,34 @@
+-- What is inside an object stands in the rows below it, and there its member is sought. Assumes nothing.
+use mathlib.Core.Path.{sym, _∙_}
+use native.Mathlib.Omega.{arith}
+use Rattle.text.specs.Firsts.{insideAt}
+use Rattle.card.proofs.ChildLaws.{no-child, child-is, inside-to, near, far}
+use borrow.Author.Needs.{needs}
+use Rattle.card.proofs.language.child_row.Statement.{statement}
+use Rattle.card.proofs.language.child_row.Tie as tie
+
+kind-requires : tie.Need-kind-requires
+kind-requires c κs = search needs
+
+returns : tie.Need-returns
+returns c = λ g limit h. no-child (h .value) _ _ (λ e. c .if1 .taken (c .before .kind .ensures ∙ e))
+
+add-first : tie.Need-add-first
+add-first c = omega (arith, near (c .before .before .before .before .before .pre .1))
+
+below-requires : tie.Need-below-requires
+below-requires c κs = search needs
+
+add-end : tie.Need-add-end
+add-end c = omega (arith, c .below .ensures, far (c .before .before .before .before .before .before .pre .1))
+
+named-row-requires : tie.Need-named-row-requires
+named-row-requires c κs = (insideAt (c .before .before .before .before .before .before .pre .0), rw (c .below .ensures) (inside-to (c .before .before .before .before .before .before .pre .1)))
+
+returns-2 : tie.Need-returns-2
+returns-2 c = λ g limit h. child-is h _ _ (sym (c .before .before .before .kind .ensures) ∙ c .before .before .if1 .left) (c .named-row .result) (rw (c .before .below .ensures) at (c .named-row .ensures (insideAt g) (rw (c .before .below .ensures) (inside-to (h .value)))))
+
+pub child-row-spec : {M : Type 1} → statement M
+child-row-spec =
+    tie.close
+    (tie.spec kind-requires returns add-first below-requires add-end named-row-requires returns-2)

@@ -1,0 +1,45 @@
+-- By the verdict on what was written. Assumes nothing.
+use mathlib.Core.Path.{sym}
+use denote.Ref.{now}
+use lib.Seq.{length-take-le}
+use Rattle.card.proofs.OutcomeLaws.{judged-passed, judged-failed}
+use borrow.Author.Needs.{needs}
+use Rattle.card.proofs.localize.judge_written.Statement.{statement}
+use Rattle.card.proofs.localize.judge_written.Tie as tie
+
+slice-aggregate-judge : tie.Need-slice-aggregate-judge
+slice-aggregate-judge c = sym (length-take-le (c .before .before .before .args .n) (c .before .before .before .args .out .now) (c .before .before .before .pre))
+
+judge-requires : tie.Need-judge-requires
+judge-requires c κs = search needs
+
+enum-known-rows : tie.Need-enum-known-rows
+enum-known-rows c = search needs
+
+enum-known-r : tie.Need-enum-known-r
+enum-known-r c = search needs
+
+same-length : tie.Need-same-length
+same-length c = search needs
+
+returns : tie.Need-returns
+returns c = λ room. judged-passed room (rw (c .before .rows .given .1) at (c .before .before .before .before .before .judge .ensures)) (length-take-le (c .before .before .before .before .before .before .before .before .before .before .args .n) (now (c .before .before .before .before .before .before .before .before .before .before .args .out)) (c .before .before .before .before .before .before .before .before .before .before .pre))
+
+same-length-2 : tie.Need-same-length-2
+same-length-2 c = search needs
+
+returns-2 : tie.Need-returns-2
+returns-2 c = λ room. judged-failed room (rw (c .before .r .given .1) at (c .before .before .before .before .before .judge .ensures))
+
+pub judge-written-spec : {M : Type 1} → statement M
+judge-written-spec =
+    tie.close
+    (tie.spec
+    slice-aggregate-judge
+    judge-requires
+    enum-known-rows
+    enum-known-r
+    same-length
+    returns
+    same-length-2
+    returns-2)

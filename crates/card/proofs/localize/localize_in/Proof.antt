@@ -1,0 +1,74 @@
+-- By the verdict on the card, and then by what was made of it. Assumes nothing.
+use lib.ListN.{length}
+use Rattle.card.proofs.CardLaws.{card-there}
+use Rattle.card.proofs.OutcomeLaws.{given-so, refused-so, fits-so, written-so}
+use native.Mathlib.Omega.{arith}
+use denote.Ref.{now}
+use borrow.Author.Needs.{needs}
+use Rattle.card.proofs.localize.localize_in.Statement.{statement}
+use Rattle.card.proofs.localize.localize_in.Tie as tie
+
+judge-requires : tie.Need-judge-requires
+judge-requires c κs = search needs
+
+enum-known-r : tie.Need-enum-known-r
+enum-known-r c = search needs
+
+same-length : tie.Need-same-length
+same-length c = search needs
+
+returns : tie.Need-returns
+returns c = given-so (now (c .before .before .before .before .before .before .before .before .before .before .before .args .language)) (now (c .before .before .before .before .before .before .before .before .before .before .before .args .out)) (rw (c .before .r .given .1) at (c .before .before .before .before .before .judge .ensures))
+
+enum-told : tie.Need-enum-told
+enum-told c = search needs
+
+compose-for-requires : tie.Need-compose-for-requires
+compose-for-requires c κs = card-there (rw (c .before .before .enum-told .given .1) at (c .before .before .before .before .before .before .judge .ensures)) (omega arith)
+
+enum-known-r-2 : tie.Need-enum-known-r-2
+enum-known-r-2 c = search needs
+
+enum-known-n : tie.Need-enum-known-n
+enum-known-n c = search needs
+
+judge-written-requires : tie.Need-judge-written-requires
+judge-written-requires c κs = fits-so (rw (c .before .before .before .before .before .before .before .before .before .before .enum-told .given .1) at (c .before .before .before .before .before .before .before .before .before .before .before .before .before .before .judge .ensures)) (omega arith) (length (now (c .before .before .before .before .before .before .before .before .before .before .before .before .before .before .before .before .before .before .before .before .args .out))) (now (c .before .before .before .before .before .before .before .before .before .before .before .before .before .before .before .before .before .before .before .before .args .language)) (rw (c .before .before .before .n .given .1) at (c .before .before .before .before .before .before .before .compose-for .ensures))
+
+same-length-2 : tie.Need-same-length-2
+same-length-2 c = search needs
+
+same-length-3 : tie.Need-same-length-3
+same-length-3 c = search needs
+
+returns-2 : tie.Need-returns-2
+returns-2 c = refused-so (rw (c .before .before .before .before .before .before .before .before .enum-told .given .1) at (c .before .before .before .before .before .before .before .before .before .before .before .before .judge .ensures)) (omega arith) (length (now (c .before .before .before .before .before .before .before .before .before .before .before .before .before .before .before .before .before .before .args .out))) (now (c .before .before .before .before .before .before .before .before .before .before .before .before .before .before .before .before .before .before .args .language)) _ _ (rw (c .before .r2 .given .1) at (c .before .before .before .before .before .compose-for .ensures))
+
+same-length-4 : tie.Need-same-length-4
+same-length-4 c = search needs
+
+same-length-5 : tie.Need-same-length-5
+same-length-5 c = search needs
+
+returns-3 : tie.Need-returns-3
+returns-3 c = written-so (rw (c .before .before .before .before .before .before .before .before .before .before .before .before .before .enum-told .given .1) at (c .before .before .before .before .before .before .before .before .before .before .before .before .before .before .before .before .before .judge .ensures)) (omega arith) (length (now (c .before .before .before .before .before .before .before .before .before .before .before .before .before .before .before .before .before .before .before .before .before .before .before .args .out))) (now (c .before .before .before .before .before .before .before .before .before .before .before .before .before .before .before .before .before .before .before .before .before .before .before .args .language)) (rw (c .before .before .before .before .before .before .n .given .1) at (c .before .before .before .before .before .before .before .before .before .before .compose-for .ensures)) (c .before .before .judge-written .ensures (length (now (c .before .before .before .before .before .before .before .before .before .before .before .before .before .before .before .before .before .before .before .before .before .before .before .args .out))))
+
+pub localize-in-spec : {M : Type 1} → statement M
+localize-in-spec =
+    tie.close
+    (tie.spec
+    judge-requires
+    enum-known-r
+    same-length
+    returns
+    enum-told
+    compose-for-requires
+    enum-known-r-2
+    enum-known-n
+    judge-written-requires
+    same-length-2
+    same-length-3
+    returns-2
+    same-length-4
+    same-length-5
+    returns-3)

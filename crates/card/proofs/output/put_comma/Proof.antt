@@ -1,0 +1,21 @@
+-- `card::output::put_comma` meets its contract. Assumes nothing.
+use native.Mathlib.Omega.{arith}
+use Rattle.card.proofs.Bytes.{wrote-none}
+use borrow.Author.Needs.{needs}
+use Rattle.card.proofs.output.put_comma.Statement.{statement}
+use Rattle.card.proofs.output.put_comma.Tie as tie
+
+returns : tie.Need-returns
+returns c = rw (c .if1 .taken) (wrote-none (c .before .before .args .at) (omega arith))
+
+put-byte-requires : tie.Need-put-byte-requires
+put-byte-requires c κs = search needs
+
+same-length : tie.Need-same-length
+same-length c = search needs
+
+returns-2 : tie.Need-returns-2
+returns-2 c = rw (c .before .before .before .before .if1 .left) (c .before .before .put-byte .ensures)
+
+pub put-comma-spec : {M : Type 1} → statement M
+put-comma-spec = tie.close (tie.spec returns put-byte-requires same-length returns-2)

@@ -1,0 +1,87 @@
+-- `card::output::put_spelled` meets its contract: what is left to write are the bytes that the cursor has still to hand out, and the quote. Assumes nothing.
+use mathlib.Core.Path.{_≡_, ap, _∙_}
+use denote.Ref.{now}
+use mathlib.Core.Bool.{true}
+use mathlib.Core.List.{[], _∷_, _++_, append-assoc}
+use native.Mathlib.Omega.{arith}
+use lib.ListN.{length}
+use borrow.Author.Needs.{needs}
+use Rattle.text.specs.Writing.{spelledByte, spelledBytes}
+use Rattle.json.specs.Cursors.{rest}
+use Rattle.card.specs.Parts.{partLeft}
+use Rattle.card.proofs.PartLaws.{named, over}
+use Rattle.card.proofs.Bytes.{Left, left-all, left-on, left-as, left-last, left-length, wrote-then}
+use Rattle.card.proofs.output.put_spelled.Statement.{statement}
+use Rattle.card.proofs.output.put_spelled.Tie as tie
+
+abbrev Inv-loop : tie.InvT-loop
+Inv-loop key out₀ at p₀ c₀ out p c = Left out₀ p₀ (spelledBytes (partLeft (rest key c₀)) ++ (34 ∷ [])) out p (spelledBytes (partLeft (rest key c)) ++ (34 ∷ []))
+
+abbrev μ-loop : tie.MeasureT-loop
+μ-loop key out₀ at p₀ c₀ out p c = length (partLeft (rest key c))
+
+put-byte-requires : tie.Need-put-byte-requires Inv-loop μ-loop
+put-byte-requires c κs = tt
+
+loop-holds : tie.Need-loop-holds Inv-loop μ-loop
+loop-holds c = left-all
+
+name-byte-requires : tie.Need-name-byte-requires Inv-loop μ-loop
+name-byte-requires c κs = tt
+
+enum-known-b : tie.Need-enum-known-b Inv-loop μ-loop
+enum-known-b c = search needs
+
+enum-told : tie.Need-enum-told Inv-loop μ-loop
+enum-told c = search needs
+
+put-byte-requires-2 : tie.Need-put-byte-requires-2 Inv-loop μ-loop
+put-byte-requires-2 c κs = tt
+
+-- the byte that is handed out, and those after it
+handed : (c : tie.After-slice-known4 Inv-loop μ-loop) → let k = now (c .before .before .before .before .before .before .before .before .before .before .before .before .before .before .before .args .key) in
+    partLeft (rest k (c .before .before .before .before .before .before .before .before .loop .c)) ≡ c .before .before .before .before .before .b .given .0 .0 ∷ partLeft (rest k (c .before .before .before .before .before .b .given .0 .1 .0))
+handed c = named true (now (c .before .before .before .before .before .before .before .before .before .before .before .before .before .before .before .args .key)) (c .before .before .before .before .before .before .before .before .loop .c) (c .before .before .before .before .before .before .before .name-byte .ensures) (c .before .before .before .before .before .b .given .1)
+
+same-length : tie.Need-same-length Inv-loop μ-loop
+same-length c = c .before .before .put-byte2 .kept .0 ∙ left-length (c .before .before .before .before .before .before .before .loop .inv) ∙ c .before .before .before .before .before .before .before .before .before .before .put-byte .kept .0
+
+returns : tie.Need-returns Inv-loop μ-loop
+returns c =
+    let n = partLeft (rest (now (c .before .before .before .before .before .before .before .before .before .before .before .before .before .before .args .key)) (c .before .before .before .before .before .before .before .before .before .before .before .before .before .before .args .from)) in
+    let l = left-as (ap (λ m. spelledBytes m ++ (34 ∷ [])) (over (now (c .before .before .before .before .before .before .before .before .before .before .before .before .before .before .args .key)) (c .before .before .before .before .before .before .before .loop .c) (c .before .before .before .before .before .before .name-byte .ensures) (c .before .before .before .before .enum-told .given .1))) (c .before .before .before .before .before .before .before .loop .inv) in
+    wrote-then (34 ∷ []) (spelledBytes n ++ (34 ∷ [])) (c .before .before .before .before .before .before .before .before .before .before .put-byte .ensures)
+    (left-last (34 ∷ []) l (c .before .before .put-byte2 .ensures))
+
+put-spelled-byte-requires : tie.Need-put-spelled-byte-requires Inv-loop μ-loop
+put-spelled-byte-requires c κs = tt
+
+loop-less : tie.Need-loop-less Inv-loop μ-loop
+loop-less c = omega (arith, ap length (handed c))
+
+loop-again : tie.Need-loop-again Inv-loop μ-loop
+loop-again c =
+    let k = now (c .before .before .before .before .before .before .before .before .before .before .before .before .before .before .before .args .key) in
+    let b = c .before .before .before .before .before .b .given .0 .0 in
+    let n = partLeft (rest k (c .before .before .before .before .before .b .given .0 .1 .0)) in
+    left-on (spelledByte b) (spelledBytes n ++ (34 ∷ []))
+    (left-as (ap (λ m. spelledBytes m ++ (34 ∷ [])) (handed c) ∙ append-assoc (spelledByte b) (spelledBytes n) (34 ∷ [])) (c .before .before .before .before .before .before .before .before .loop .inv))
+    (c .before .before .put-spelled-byte .ensures)
+
+pub put-spelled-spec : {M : Type 1} → statement M
+put-spelled-spec =
+    tie.close
+    (tie.spec
+    Inv-loop
+    μ-loop
+    put-byte-requires
+    loop-holds
+    name-byte-requires
+    enum-known-b
+    enum-told
+    put-byte-requires-2
+    same-length
+    returns
+    put-spelled-byte-requires
+    loop-less
+    loop-again)

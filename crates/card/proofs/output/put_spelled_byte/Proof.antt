@@ -1,0 +1,66 @@
+-- `card::output::put_spelled_byte` meets its contract. Assumes nothing.
+use mathlib.Core.Path.{_≡_, sym, _∙_}
+use mathlib.Core.List.{[], _∷_}
+use borrow.Author.Tests.{eq-eqb, ne-eqb, lt-ltb, le-ltb}
+use Rattle.text.specs.Writing.{shortOf}
+use Rattle.card.proofs.Bytes.{wrote-then}
+use borrow.Author.Needs.{needs}
+use Rattle.card.proofs.output.put_spelled_byte.Statement.{statement}
+use Rattle.card.proofs.output.put_spelled_byte.Tie as tie
+
+short-of-requires : tie.Need-short-of-requires
+short-of-requires c κs = search needs
+
+put-byte-requires : tie.Need-put-byte-requires
+put-byte-requires c κs = search needs
+
+put-byte-requires-2 : tie.Need-put-byte-requires-2
+put-byte-requires-2 c κs = search needs
+
+same-length : tie.Need-same-length
+same-length c = search needs
+
+returns : tie.Need-returns
+returns c =
+    let b = c .before .before .before .before .before .before .before .before .before .before .before .args .b in
+    let is : c .before .before .before .before .before .before .before .before .before .short-of .result ≡ shortOf b = c .before .before .before .before .before .before .before .before .before .short-of .ensures in
+    rw (ne-eqb (shortOf b) 0 (λ e. c .before .before .before .before .before .before .before .before .if1 .taken (is ∙ e)))
+    (wrote-then (92 ∷ []) (shortOf b ∷ []) (c .before .before .before .before .before .before .put-byte .ensures) (rw is at (c .before .before .put-byte2 .ensures)))
+
+put-coded-requires : tie.Need-put-coded-requires
+put-coded-requires c κs = search needs
+
+same-length-2 : tie.Need-same-length-2
+same-length-2 c = search needs
+
+returns-2 : tie.Need-returns-2
+returns-2 c =
+    let b = c .before .before .before .before .before .before .before .before .args .b in
+    rw (eq-eqb (shortOf b) 0 (sym (c .before .before .before .before .before .before .short-of .ensures) ∙ c .before .before .before .before .before .if1 .left), lt-ltb b 32 (c .before .before .before .before .if2 .taken)) (c .before .before .put-coded .ensures)
+
+put-byte-requires-3 : tie.Need-put-byte-requires-3
+put-byte-requires-3 c κs = search needs
+
+same-length-3 : tie.Need-same-length-3
+same-length-3 c = search needs
+
+returns-3 : tie.Need-returns-3
+returns-3 c =
+    let b = c .before .before .before .before .before .before .before .before .args .b in
+    rw (eq-eqb (shortOf b) 0 (sym (c .before .before .before .before .before .before .short-of .ensures) ∙ c .before .before .before .before .before .if1 .left), le-ltb b 32 (c .before .before .before .before .if2 .left)) (c .before .before .put-byte3 .ensures)
+
+pub put-spelled-byte-spec : {M : Type 1} → statement M
+put-spelled-byte-spec =
+    tie.close
+    (tie.spec
+    short-of-requires
+    put-byte-requires
+    put-byte-requires-2
+    same-length
+    returns
+    put-coded-requires
+    same-length-2
+    returns-2
+    put-byte-requires-3
+    same-length-3
+    returns-3)

@@ -1,0 +1,197 @@
+-- `card::writing::copy_value` meets its contract: the bracket, then a walk along the values inside, each with what stands before it. It calls itself on rows
+-- further on, so the rows that are left of the table are the measure. Assumes nothing.
+use Prim.Native.Nat.{ℕ, _<_, _-_, _+_, _*_}
+use mathlib.Core.Path.{refl, ap, _∙_}
+use mathlib.Core.Bool.{true}
+use mathlib.Core.List.{[], _∷_}
+use native.Mathlib.Omega.{arith}
+use lib.ListN.{length}
+use denote.Ref.{now}
+use Rattle.text.specs.Tree.{Forest}
+use Rattle.text.specs.Firsts.{insideAt}
+use Rattle.card.specs.Copied.{ValueAt, openOf, insideOf}
+use Rattle.card.proofs.Bytes.{left-all, wrote-then}
+use Rattle.card.proofs.Walks.{row-inside, value-row, Passing, Walk, walk-start}
+use Rattle.card.proofs.Copies.{copied-scalar, copied-inside, copy-turn, copy-end}
+use borrow.Fn.Kinds.{In}
+use borrow.Fn.PlainCycle.{Measures, is, falls, and}
+use Rattle.card.proofs.writing.copy_value.Reads as copy-value
+use Rattle.card.proofs.writing.copy_value.Kinds as copy-value-kinds
+use Rattle.card.proofs.writing.+copy_value.Lts-copy_value as lts
+use Rattle.card.proofs.output.put_byte.Reads as put-byte-reads
+use Rattle.card.proofs.output.put_part.Reads as put-part-reads
+use Rattle.card.proofs.writing.close_of.Reads as close-of-reads
+use Rattle.card.proofs.writing.open_of.Reads as open-of-reads
+use Rattle.card.proofs.writing.put_head.Reads as put-head-reads
+use Rattle.json.proofs.rows.below.Reads as below-reads
+use Rattle.json.proofs.rows.kind.Reads as kind-reads
+use Rattle.json.proofs.rows.value_end.Reads as value-end-reads
+use Rattle.json.proofs.rows.value_start.Reads as value-start-reads
+use Rattle.card.proofs.writing.+copy_value.{statement}
+use Rattle.card.proofs.writing.+copy_value.Tie.{close}
+
+abbrev μ-copy-value : Measures 3 copy-value-kinds.ps ℕ
+μ-copy-value κs a = length (a .1 .0 .now) - a .1 .1 .0
+
+abbrev copy-value-at : ℕ → In 3 copy-value-kinds.ps
+copy-value-at t =
+    and 3 copy-value-kinds.ps (is 3 copy-value-kinds.ps μ-copy-value t) copy-value.Pre
+
+abbrev copy-value-below : ℕ → In 3 copy-value-kinds.ps
+copy-value-below t =
+    and 3 copy-value-kinds.ps (falls 3 copy-value-kinds.ps _<_ μ-copy-value t) copy-value.Pre
+
+abbrev Inv-loop : lts.InvT-loop
+Inv-loop text table row out₀ at k end p₀ first₀ m₀ out p first m =
+    Passing row end m out₀ out
+    × ((g : Forest) → ValueAt table row g → Walk table end (insideOf text k) out₀ p₀ (insideOf text k (insideAt g) true) out p first m)
+
+abbrev μ-loop : lts.MeasureT-loop
+μ-loop text table row out₀ at k end p₀ first₀ m₀ out p first m = end - m
+
+abbrev given : ℕ → lts.Claims
+given t = (kind-reads.Asked, kind-reads.Learnt, value-start-reads.Asked, value-start-reads.Learnt, value-end-reads.Asked, value-end-reads.Learnt, put-part-reads.Asked, put-part-reads.Learnt, below-reads.Asked, below-reads.Learnt, open-of-reads.Asked, open-of-reads.Learnt, put-byte-reads.Asked, put-byte-reads.Learnt, put-head-reads.Asked, put-head-reads.Learnt, copy-value-below t, copy-value.Post, close-of-reads.Asked, close-of-reads.Learnt)
+
+module _ (t : ℕ) where
+  kind-requires : lts.Need-kind-requires (given t) (copy-value-at t) copy-value.Post Inv-loop μ-loop
+  kind-requires c κs = tt
+
+  value-start-requires : lts.Need-value-start-requires (given t) (copy-value-at t) copy-value.Post Inv-loop μ-loop
+  value-start-requires c κs = tt
+
+  value-end-requires : lts.Need-value-end-requires (given t) (copy-value-at t) copy-value.Post Inv-loop μ-loop
+  value-end-requires c κs = tt
+
+  put-part-requires : lts.Need-put-part-requires (given t) (copy-value-at t) copy-value.Post Inv-loop μ-loop
+  put-part-requires c κs = tt
+
+  same-length : lts.Need-same-length (given t) (copy-value-at t) copy-value.Post Inv-loop μ-loop
+  same-length c = c .before .before .put-part .kept .1 .1 .1 .0
+
+  returns : lts.Need-returns (given t) (copy-value-at t) copy-value.Post Inv-loop μ-loop
+  returns c =
+      λ g v.
+      let a = c .before .before .before .before .before .before .before .before .before .before .before .args in
+      let row = value-row v in
+      let k = c .before .before .before .before .before .before .before .kind .ensures ∙ row .kind in
+      rw (copied-scalar (now (a .text)) g (v .some) (omega (arith, k)))
+      (rw (c .before .before .before .before .before .value-start .ensures ∙ row .start, c .before .before .before .before .value-end .ensures ∙ row .finish) at (c .before .before .put-part .ensures))
+
+  -- the row is one of the table
+  inside : (c : lts.Else1 (given t) (copy-value-at t) copy-value.Post Inv-loop μ-loop) → c .before .before .before .before .before .args .row * 6 < length (c .before .before .before .before .before .args .table .now)
+  inside c = row-inside (c .before .before .before .before .before .args .table .now) (c .before .before .before .before .before .args .row) (omega (arith, c .before .kind .ensures, c .if1 .left))
+
+  add-end : lts.Need-add-end (given t) (copy-value-at t) copy-value.Post Inv-loop μ-loop
+  add-end c = omega (arith, inside c, c .before .before .before .before .before .good .1 .0 .0)
+
+  below-requires : lts.Need-below-requires (given t) (copy-value-at t) copy-value.Post Inv-loop μ-loop
+  below-requires c κs = tt
+
+  -- the rows inside the value end not far
+  near : (c : lts.After-below (given t) (copy-value-at t) copy-value.Post Inv-loop μ-loop) → c .before .before .before .before .before .before .args .row + 1 + c .below .result < 4611686018427387904
+  near c =
+      let a = c .before .before .before .before .before .before .args in
+      omega (arith, c .before .before .before .before .shared-slice-known2 .given (a .row * 6 + 5), c .below .ensures, inside (c .before), c .before .before .before .before .before .before .good .1 .0 .0)
+
+  add-end-2 : lts.Need-add-end-2 (given t) (copy-value-at t) copy-value.Post Inv-loop μ-loop
+  add-end-2 c = omega (arith, near c)
+
+  open-of-requires : lts.Need-open-of-requires (given t) (copy-value-at t) copy-value.Post Inv-loop μ-loop
+  open-of-requires c κs = tt
+
+  put-byte-requires : lts.Need-put-byte-requires (given t) (copy-value-at t) copy-value.Post Inv-loop μ-loop
+  put-byte-requires c κs = tt
+
+  add-m : lts.Need-add-m (given t) (copy-value-at t) copy-value.Post Inv-loop μ-loop
+  add-m c = omega (arith, inside (c .before .before .before .before .before .before), c .before .before .before .before .before .before .before .before .before .before .before .good .1 .0 .0)
+
+  loop-holds : lts.Need-loop-holds (given t) (copy-value-at t) copy-value.Post Inv-loop μ-loop
+  loop-holds c =
+      let a = c .before .before .before .before .before .before .before .before .before .before .before .args in
+      (record { later = omega arith; near = near (c .before .before .before .before .before); long = refl }, λ g v. walk-start true v (ap (λ (n : ℕ). a .row + 1 + n) (c .before .before .before .before .before .below .ensures)) left-all)
+
+  put-head-requires : lts.Need-put-head-requires (given t) (copy-value-at t) copy-value.Post Inv-loop μ-loop
+  put-head-requires c κs = tt
+
+  copy-value-requires : lts.Need-copy-value-requires (given t) (copy-value-at t) copy-value.Post Inv-loop μ-loop
+  copy-value-requires c κs = (omega (arith, c .before .before .before .before .before .before .before .before .before .before .before .before .before .before .before .before .before .before .pre .0, c .before .before .before .before .before .before .loop .inv .0 .later, inside (c .before .before .before .before .before .before .before .before .before .before .before .before .before)), tt)
+
+  add-m-2 : lts.Need-add-m-2 (given t) (copy-value-at t) copy-value.Post Inv-loop μ-loop
+  add-m-2 c = omega (arith, c .before .before .before .before .before .before .before .before .loop-test .taken, c .before .before .before .before .before .before .before .before .before .loop .inv .0 .near)
+
+  below-requires-2 : lts.Need-below-requires-2 (given t) (copy-value-at t) copy-value.Post Inv-loop μ-loop
+  below-requires-2 c κs = tt
+
+  add-m-3 : lts.Need-add-m-3 (given t) (copy-value-at t) copy-value.Post Inv-loop μ-loop
+  add-m-3 c = omega (arith, c .before .before .before .before .before .before .before .before .before .before .before .before .before .before .before .before .before .before .before .before .shared-slice-known2 .given (c .before .before .before .before .before .before .before .before .before .before .loop .m * 6 + 5), c .below2 .ensures, c .before .before .before .before .before .before .before .before .before .loop-test .taken, c .before .before .before .before .before .before .before .before .before .before .loop .inv .0 .near)
+
+  loop-less : lts.Need-loop-less (given t) (copy-value-at t) copy-value.Post Inv-loop μ-loop
+  loop-less c = omega (arith, c .before .before .before .before .before .before .before .before .before .loop-test .taken)
+
+  loop-again : lts.Need-loop-again (given t) (copy-value-at t) copy-value.Post Inv-loop μ-loop
+  loop-again c =
+      let inv = c .before .before .before .before .before .before .before .before .before .before .loop .inv in
+      let m = c .before .before .before .before .before .before .before .before .before .before .loop .m in (
+        record {
+          later = omega (arith, inv .0 .later);
+          near = inv .0 .near;
+          long = c .before .before .before .copy-value .kept .1 .1 .1 .0 ∙ c .before .before .before .before .before .before .before .put-head .kept .1 .1 .1 .1 .1 .0 ∙ inv .0 .long;
+        },
+        λ g v.
+            copy-turn (now (c .before .before .before .before .before .before .before .before .before .before .before .before .before .before .before .before .before .before .before .before .before .before .args .text)) (c .before .before .before .before .before .before .before .before .before .before .before .before .before .before .before .before .before .before .kind .result) (inv .1 g v) (c .before .before .before .before .before .before .before .before .before .loop-test .taken) (c .before .before .before .before .before .before .before .put-head .ensures) (c .before .before .before .copy-value .ensures)
+            (m + 1 + c .below2 .result) (ap (λ (n : ℕ). m + 1 + n) (c .below2 .ensures)),
+      )
+
+  close-of-requires : lts.Need-close-of-requires (given t) (copy-value-at t) copy-value.Post Inv-loop μ-loop
+  close-of-requires c κs = tt
+
+  put-byte-requires-2 : lts.Need-put-byte-requires-2 (given t) (copy-value-at t) copy-value.Post Inv-loop μ-loop
+  put-byte-requires-2 c κs = tt
+
+  same-length-2 : lts.Need-same-length-2 (given t) (copy-value-at t) copy-value.Post Inv-loop μ-loop
+  same-length-2 c = c .before .before .put-byte2 .kept .0 ∙ c .before .before .before .before .before .before .loop .inv .0 .long ∙ c .before .before .before .before .before .before .before .before .before .put-byte .kept .0
+
+  returns-2 : lts.Need-returns-2 (given t) (copy-value-at t) copy-value.Post Inv-loop μ-loop
+  returns-2 c =
+      λ g v.
+      let k = c .before .before .before .before .before .before .before .before .before .before .before .before .before .before .kind .result in
+      let text = now (c .before .before .before .before .before .before .before .before .before .before .before .before .before .before .before .before .before .before .args .text) in
+      let opened = rw (c .before .before .before .before .before .before .before .before .before .before .open-of .ensures) at (c .before .before .before .before .before .before .before .before .before .put-byte .ensures) in
+      let closed = rw (c .before .before .before .close-of .ensures) at (c .before .before .put-byte2 .ensures) in
+      rw (copied-inside text g (v .some) (v .kinds) k (c .before .before .before .before .before .before .before .before .before .before .before .before .before .before .kind .ensures ∙ value-row v .kind) (c .before .before .before .before .before .before .before .before .before .before .before .before .before .if1 .left))
+      (wrote-then (openOf k ∷ []) (insideOf text k (insideAt g) true) opened (copy-end text k (c .before .before .before .before .before .before .loop .inv .1 g v) (c .before .before .before .before .before .loop-test .left) closed))
+
+pub +copy-value-spec : {M : Type 1} → statement M
++copy-value-spec =
+    close μ-copy-value
+    (λ t.
+    lts.spec
+    (given t)
+    (copy-value-at t)
+    copy-value.Post
+    Inv-loop
+    μ-loop
+    (kind-requires t)
+    (value-start-requires t)
+    (value-end-requires t)
+    (put-part-requires t)
+    (same-length t)
+    (returns t)
+    (add-end t)
+    (below-requires t)
+    (add-end-2 t)
+    (open-of-requires t)
+    (put-byte-requires t)
+    (add-m t)
+    (loop-holds t)
+    (put-head-requires t)
+    (copy-value-requires t)
+    (add-m-2 t)
+    (below-requires-2 t)
+    (add-m-3 t)
+    (loop-less t)
+    (loop-again t)
+    (close-of-requires t)
+    (put-byte-requires-2 t)
+    (same-length-2 t)
+    (returns-2 t))

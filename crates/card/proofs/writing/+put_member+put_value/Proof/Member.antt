@@ -1,0 +1,127 @@
+-- The needs of `put_member`. Assumes nothing.
+use Prim.Native.Nat.{ℕ, _+_}
+use mathlib.Core.Path.{_≡_, sym, _∙_}
+use native.Mathlib.Omega.{arith}
+use denote.Ref.{now}
+use Rattle.text.specs.Tree.{Forest}
+use Rattle.text.specs.Firsts.{nameStart, nameEnd}
+use Rattle.text.specs.Strings.{decode, nameOf}
+use Rattle.text.specs.Doc.{Members, docOf}
+use Rattle.contact.specs.Patch.{under, applied}
+use Rattle.card.specs.Entries.{stripped}
+use Rattle.card.specs.Copied.{ValueAt}
+use Rattle.card.specs.Patched.{InRows, Said, isOut}
+use Rattle.card.proofs.Walks.{value-row}
+use Rattle.card.proofs.Copies.{label-is}
+use Rattle.card.proofs.PatchLaws.{passed-none, passed-some}
+use Rattle.card.proofs.Additions.{first-said}
+use Rattle.card.proofs.MemberRuns.{Middle, middle}
+use Rattle.card.proofs.Patches.{stays-out, stays-ends, stays-goes, said-further}
+use Rattle.card.proofs.writing.put_member.Reads as member
+use Rattle.card.proofs.writing.put_value.Reads as value
+use Rattle.card.proofs.writing.+put_member+put_value.Lts-put_member as lts
+use Rattle.card.proofs.runs.bound.Reads as bound-reads
+use Rattle.card.proofs.writing.ends_first.Reads as ends-first-reads
+use Rattle.card.proofs.writing.is_out.Reads as is-out-reads
+use Rattle.card.proofs.entries.key_at.Reads as key-at-reads
+use Rattle.card.proofs.writing.put_head.Reads as put-head-reads
+use Rattle.card.proofs.writing.put_replaced.Reads as put-replaced-reads
+use Rattle.card.proofs.writing.+put_member+put_value.Proof.Measures.{member-at, value-below}
+
+abbrev pub given : ℕ → lts.Claims
+given t = (key-at-reads.Asked, key-at-reads.Learnt, is-out-reads.Asked, is-out-reads.Learnt, bound-reads.Asked, bound-reads.Learnt, ends-first-reads.Asked, ends-first-reads.Learnt, put-replaced-reads.Asked, put-replaced-reads.Learnt, put-head-reads.Asked, put-head-reads.Learnt, value-below t, value.Post)
+
+module _ (t : ℕ) where
+  -- the name at hand
+  name-is : (c : lts.After-key-at (given t) (member-at t) member.Post) {g : Forest} → ValueAt (now (c .before .before .before .before .before .before .before .args .table)) (c .before .before .before .before .before .before .before .args .row) g
+      → decode (now (c .key-at .result)) ≡ nameOf (now (c .before .before .before .before .before .before .before .args .text)) (nameStart g) (nameEnd g)
+  name-is c v = rw (c .key-at .ensures, value-row v .name-start, value-row v .name-end)
+
+  out-is : (c : lts.After-is-out (given t) (member-at t) member.Post) {g : Forest} → ValueAt (now (c .before .before .before .before .before .before .before .before .args .table)) (c .before .before .before .before .before .before .before .before .args .row) g
+      → c .is-out .result ≡ isOut (c .before .before .before .before .before .before .before .before .args .root) (nameOf (now (c .before .before .before .before .before .before .before .before .args .text)) (nameStart g) (nameEnd g))
+  out-is c v = rw (name-is (c .before) v) at (c .is-out .ensures)
+
+  -- the run for the member
+  its-run : (c : lts.After-bound2 (given t) (member-at t) member.Post) {g : Forest} {ms : Members} → let a = c .before .before .before .before .before .before .before .before .before .before .before .args in ValueAt (now (a .table)) (a .row) g
+      → Said (now (a .ptext)) (now (a .ptable)) (now (a .rows)) (a .run .lo) (a .run .hi) (a .run .parts) ms
+      → Middle (now (a .ptext)) (now (a .ptable)) (now (a .rows)) (c .before .bound .result) (c .bound2 .result) (a .run .parts) (nameOf (now (a .text)) (nameStart g) (nameEnd g)) ms
+  its-run c v s =
+      middle s (rw (name-is (c .before .before .before .before) v) at (c .before .bound .ensures)) (rw (name-is (c .before .before .before .before) v) at (c .bound2 .ensures))
+
+  in-rows : (c : lts.After-bound2 (given t) (member-at t) member.Post) → InRows (now (c .before .before .before .before .before .before .before .before .before .before .before .args .rows)) (c .before .bound .result) (c .bound2 .result)
+  in-rows c = record { ordered = c .bound2 .ensures .low; inside = omega (arith, c .bound2 .ensures .high, c .before .before .before .before .before .before .before .before .before .before .before .pre .1 .0 .inside) }
+
+  pub key-at-requires : lts.Need-key-at-requires (given t) (member-at t) member.Post
+  key-at-requires c κs = tt
+
+  pub is-out-requires : lts.Need-is-out-requires (given t) (member-at t) member.Post
+  is-out-requires c κs = tt
+
+  pub returns : lts.Need-returns (given t) (member-at t) member.Post
+  returns c =
+      λ g ms v s.
+      let a = c .before .before .before .before .before .before .before .before .before .args in
+      passed-none (a .from) (omega (arith, c .before .before .before .before .before .before .before .before .before .good .1 .1 .1 .1 .1 .1 .1 .1 .0 .1))
+      (stays-out (a .root) (nameOf (now (a .text)) (nameStart g) (nameEnd g)) (stripped (a .run .parts) ms) (docOf (now (a .text)) g) (sym (out-is (c .before) v) ∙ c .if1 .taken))
+
+  pub bound-requires : lts.Need-bound-requires (given t) (member-at t) member.Post
+  bound-requires c κs = (c .before .before .before .before .before .before .before .before .before .pre .1 .0 .ordered, c .before .before .before .before .before .before .before .before .before .pre .1 .0 .inside)
+
+  pub bound-requires-2 : lts.Need-bound-requires-2 (given t) (member-at t) member.Post
+  bound-requires-2 c κs = (c .bound .ensures .high, c .before .before .before .before .before .before .before .before .before .before .pre .1 .0 .inside)
+
+  pub ends-first-requires : lts.Need-ends-first-requires (given t) (member-at t) member.Post
+  ends-first-requires c κs = in-rows c
+
+  pub mul-e : lts.Need-mul-e (given t) (member-at t) member.Post
+  mul-e c = omega (arith, c .before .ends-first .ensures .some (c .if2 .taken), in-rows (c .before .before) .inside, c .before .before .before .before .before .before .before .before .before .before .before .before .before .good .1 .1 .1 .1 .1 .1 .0 .1)
+
+  pub shared-slice-read-e : lts.Need-shared-slice-read-e (given t) (member-at t) member.Post
+  shared-slice-read-e c = omega (arith, c .before .before .ends-first .ensures .some (c .before .if2 .taken), in-rows (c .before .before .before) .inside)
+
+  pub cast-e : lts.Need-cast-e (given t) (member-at t) member.Post
+  cast-e c = omega (arith, c .shared-slice-known6 .given (c .before .before .before .before .bound .result))
+
+  pub put-replaced-requires : lts.Need-put-replaced-requires (given t) (member-at t) member.Post
+  put-replaced-requires c κs = tt
+
+  pub same-length : lts.Need-same-length (given t) (member-at t) member.Post
+  same-length c = c .before .before .put-replaced .kept .1 .1 .1 .1 .1 .1 .0
+
+  pub returns-2 : lts.Need-returns-2 (given t) (member-at t) member.Post
+  returns-2 c =
+      λ g ms v s.
+      let a = c .before .before .before .before .before .before .before .before .before .before .before .before .before .before .before .before .before .before .args in
+      let text = now (a .text) in
+      let n = nameOf text (nameStart g) (nameEnd g) in
+      let es = stripped (a .run .parts) ms in
+      let m = its-run (c .before .before .before .before .before .before .before) v s in
+      let f = first-said (m .said) (c .before .before .before .before .before .before .ends-first .ensures .some (c .before .before .before .before .before .if2 .taken)) in
+      let ends = sym (c .before .before .before .before .before .if2 .taken) ∙ c .before .before .before .before .before .before .ends-first .ensures .is (m .run) (m .said) in
+      let in-it = sym (out-is (c .before .before .before .before .before .before .before .before .before .before) v) ∙ c .before .before .before .before .before .before .before .before .before .if1 .left in
+      rw (stays-ends m (a .root) (docOf text g) in-it f ends, ← label-is text v)
+      (c .before .before .put-replaced .ensures (f .tree) (applied (docOf text g) (under n es)) (f .value))
+
+  pub put-head-requires : lts.Need-put-head-requires (given t) (member-at t) member.Post
+  put-head-requires c κs = tt
+
+  pub add-further : lts.Need-add-further (given t) (member-at t) member.Post
+  add-further c = omega (arith, c .before .before .before .before .before .before .before .before .before .before .before .before .before .before .before .before .before .pre .1 .1, c .before .before .before .before .before .before .before .before .before .before .before .before .before .before .before .before .before .good .1 .1 .0)
+
+  pub put-value-requires : lts.Need-put-value-requires (given t) (member-at t) member.Post
+  put-value-requires c κs = (omega (arith, c .before .before .before .before .before .before .before .before .before .before .before .before .before .before .before .before .before .before .pre .0), (in-rows (c .before .before .before .before .before .before .before), omega (arith, c .before .before .before .before .before .before .before .before .before .before .before .before .before .before .before .before .before .before .pre .1 .1)))
+
+  pub same-length-2 : lts.Need-same-length-2 (given t) (member-at t) member.Post
+  same-length-2 c = c .before .before .put-value .kept .1 .1 .1 .1 .1 .1 .1 .1 .0 ∙ c .before .before .before .before .before .before .put-head .kept .1 .1 .1 .1 .1 .0
+
+  pub returns-3 : lts.Need-returns-3 (given t) (member-at t) member.Post
+  returns-3 c =
+      λ g ms v s.
+      let a = c .before .before .before .before .before .before .before .before .before .before .before .before .before .before .before .before .before .before .before .before .before .args in
+      let text = now (a .text) in
+      let m = its-run (c .before .before .before .before .before .before .before .before .before .before) v s in
+      let goes = sym (c .before .before .before .before .before .before .before .before .if2 .left) ∙ c .before .before .before .before .before .before .before .before .before .ends-first .ensures .is (m .run) (m .said) in
+      let in-it = sym (out-is (c .before .before .before .before .before .before .before .before .before .before .before .before .before) v) ∙ c .before .before .before .before .before .before .before .before .before .before .before .before .if1 .left in
+      passed-some (applied (docOf text g) (stripped (a .run .parts + 1) (m .run))) (stays-goes m (a .root) (docOf text g) in-it goes)
+      (rw (label-is text v) at (c .before .before .before .before .before .before .put-head .ensures))
+      (c .before .before .put-value .ensures g (m .run) v (said-further m (a .root) (docOf text g) in-it goes))

@@ -1,0 +1,162 @@
+-- The needs of `put_value`. Assumes nothing.
+use Prim.Native.Nat.{ℕ, _+_, _-_, _*_, _<_}
+use mathlib.Core.Path.{refl, sym, ap, _∙_}
+use mathlib.Core.Bool.{true}
+use mathlib.Core.List.{[], _∷_}
+use native.Mathlib.Omega.{arith}
+use lib.ListN.{length}
+use denote.Ref.{now}
+use Rattle.text.specs.Tree.{Forest}
+use Rattle.text.specs.Firsts.{insideAt}
+use Rattle.text.specs.Doc.{Members, membersOf, docOf}
+use Rattle.text.proofs.Promise.{doc-kind, doc-object}
+use Rattle.contact.specs.Patch.{added}
+use Rattle.card.specs.Entries.{stripped}
+use Rattle.card.specs.Copied.{ValueAt}
+use Rattle.card.specs.Patched.{Said, membersIn}
+use Rattle.card.proofs.Bytes.{left-all, wrote-then}
+use Rattle.card.proofs.Walks.{row-inside, value-row, Passing, Walk, walk-start, walk-here}
+use Rattle.card.proofs.PatchLaws.{based-object, based-other}
+use Rattle.card.proofs.Patches.{idle-value, restBy, patch-turn, patch-end}
+use Rattle.card.proofs.writing.put_member.Reads as member
+use Rattle.card.proofs.writing.put_value.Reads as value
+use Rattle.card.proofs.writing.+put_member+put_value.Lts-put_value as lts
+use Rattle.json.proofs.rows.below.Reads as below-reads
+use Rattle.card.proofs.writing.copy_value.Reads as copy-value-reads
+use Rattle.card.proofs.writing.is_idle.Reads as is-idle-reads
+use Rattle.json.proofs.rows.kind.Reads as kind-reads
+use Rattle.card.proofs.writing.put_additions.Reads as put-additions-reads
+use Rattle.card.proofs.output.put_byte.Reads as put-byte-reads
+use Rattle.card.proofs.writing.+put_member+put_value.Proof.Measures.{value-at, member-below}
+
+abbrev pub Inv-loop : lts.InvT-loop
+Inv-loop text table row root ptext ptable rows run out₀ at end p s₀ m₀ out s m =
+    Passing row end m out₀ out
+    × ((g : Forest) (ms : Members) → ValueAt table row g → Said ptext ptable rows (run .lo) (run .hi) (run .parts) ms
+    → let es = stripped (run .parts) ms in
+    let more = added (membersIn root text g) es in
+    Walk table end (restBy text root es more) out₀ p (restBy text root es more (insideAt g) true) out (s .to) (s .first) m)
+
+abbrev pub μ-loop : lts.MeasureT-loop
+μ-loop text table row root ptext ptable rows run out₀ at end p s₀ m₀ out s m = end - m
+
+abbrev pub given : ℕ → lts.Claims
+given t = (kind-reads.Asked, kind-reads.Learnt, copy-value-reads.Asked, copy-value-reads.Learnt, is-idle-reads.Asked, is-idle-reads.Learnt, below-reads.Asked, below-reads.Learnt, put-byte-reads.Asked, put-byte-reads.Learnt, member-below t, member.Post, put-additions-reads.Asked, put-additions-reads.Learnt)
+
+module _ (t : ℕ) where
+  pub kind-requires : lts.Need-kind-requires (given t) (value-at t) value.Post Inv-loop μ-loop
+  kind-requires c κs = tt
+
+  pub copy-value-requires : lts.Need-copy-value-requires (given t) (value-at t) value.Post Inv-loop μ-loop
+  copy-value-requires c κs = tt
+
+  pub same-length : lts.Need-same-length (given t) (value-at t) value.Post Inv-loop μ-loop
+  same-length c = c .before .before .copy-value .kept .1 .1 .1 .0
+
+  pub returns : lts.Need-returns (given t) (value-at t) value.Post Inv-loop μ-loop
+  returns c =
+      λ g ms v s.
+      let a = c .before .before .before .before .before .before .before .before .before .before .before .before .args in
+      let d = docOf (now (a .text)) g in
+      rw (based-other (a .root) d (stripped (a .run .parts) ms) (λ e. c .before .before .before .before .if1 .taken (c .before .before .before .before .before .kind .ensures ∙ value-row v .kind ∙ sym (doc-kind (now (a .text)) g (v .some)) ∙ e)))
+      (c .before .before .copy-value .ensures g v)
+
+  pub is-idle-requires : lts.Need-is-idle-requires (given t) (value-at t) value.Post Inv-loop μ-loop
+  is-idle-requires c κs = tt
+
+  pub copy-value-requires-2 : lts.Need-copy-value-requires-2 (given t) (value-at t) value.Post Inv-loop μ-loop
+  copy-value-requires-2 c κs = tt
+
+  pub same-length-2 : lts.Need-same-length-2 (given t) (value-at t) value.Post Inv-loop μ-loop
+  same-length-2 c = c .before .before .copy-value2 .kept .1 .1 .1 .0
+
+  pub returns-2 : lts.Need-returns-2 (given t) (value-at t) value.Post Inv-loop μ-loop
+  returns-2 c =
+      λ g ms v s.
+      let a = c .before .before .before .before .before .before .before .before .before .before .before .before .before .before .args in
+      rw (idle-value (a .root) (docOf (now (a .text)) g) (sym (c .before .before .before .before .before .is-idle .ensures) ∙ c .before .before .before .before .if2 .taken) s) (c .before .before .copy-value2 .ensures g v)
+
+  -- the row is one of the table
+  inside : (c : lts.Else1 (given t) (value-at t) value.Post Inv-loop μ-loop) → c .before .before .before .before .before .before .before .before .args .row * 6 < length (c .before .before .before .before .before .before .before .before .args .table .now)
+  inside c = row-inside (c .before .before .before .before .before .before .before .before .args .table .now) (c .before .before .before .before .before .before .before .before .args .row) (omega (arith, c .before .kind .ensures, c .if1 .left))
+
+  pub add-end : lts.Need-add-end (given t) (value-at t) value.Post Inv-loop μ-loop
+  add-end c = omega (arith, inside (c .before .before), c .before .before .before .before .before .before .before .before .before .before .good .1 .0 .1)
+
+  pub below-requires : lts.Need-below-requires (given t) (value-at t) value.Post Inv-loop μ-loop
+  below-requires c κs = tt
+
+  -- the rows inside the value end not far
+  near : (c : lts.After-below (given t) (value-at t) value.Post Inv-loop μ-loop) → c .before .before .before .before .before .before .before .before .before .before .before .args .row + 1 + c .below .result < 4611686018427387904
+  near c =
+      let a = c .before .before .before .before .before .before .before .before .before .before .before .args in
+      omega (arith, c .before .before .before .before .before .before .before .before .before .shared-slice-known2 .given (a .row * 6 + 5), c .below .ensures, inside (c .before .before .before), c .before .before .before .before .before .before .before .before .before .before .before .good .1 .0 .1)
+
+  pub add-end-2 : lts.Need-add-end-2 (given t) (value-at t) value.Post Inv-loop μ-loop
+  add-end-2 c = omega (arith, near c)
+
+  pub put-byte-requires : lts.Need-put-byte-requires (given t) (value-at t) value.Post Inv-loop μ-loop
+  put-byte-requires c κs = tt
+
+  pub add-m : lts.Need-add-m (given t) (value-at t) value.Post Inv-loop μ-loop
+  add-m c = omega (arith, near (c .before .before .before .before))
+
+  pub loop-holds : lts.Need-loop-holds (given t) (value-at t) value.Post Inv-loop μ-loop
+  loop-holds c =
+      let a = c .before .before .before .before .before .before .before .before .before .before .before .before .before .before .before .args in (
+        record { later = omega arith; near = near (c .before .before .before .before); long = refl },
+        λ g ms v s. walk-start true v (ap (λ (n : ℕ). a .row + 1 + n) (c .before .before .before .before .below .ensures)) left-all,
+      )
+
+  pub put-member-requires : lts.Need-put-member-requires (given t) (value-at t) value.Post Inv-loop μ-loop
+  put-member-requires c κs = (
+    omega (arith, c .before .before .before .before .before .before .before .before .before .before .before .before .before .before .before .before .before .before .pre .0, c .before .before .loop .inv .0 .later, inside (c .before .before .before .before .before .before .before .before .before .before)),
+    (c .before .before .before .before .before .before .before .before .before .before .before .before .before .before .before .before .before .before .pre .1 .0, omega (arith, c .before .before .before .before .before .before .before .before .before .before .before .before .before .before .before .before .before .before .pre .1 .1, c .before .before .loop .inv .0 .later)),
+  )
+
+  pub add-m-2 : lts.Need-add-m-2 (given t) (value-at t) value.Post Inv-loop μ-loop
+  add-m-2 c = omega (arith, c .before .before .before .before .loop-test .taken, c .before .before .before .before .before .loop .inv .0 .near)
+
+  pub below-requires-2 : lts.Need-below-requires-2 (given t) (value-at t) value.Post Inv-loop μ-loop
+  below-requires-2 c κs = tt
+
+  pub add-m-3 : lts.Need-add-m-3 (given t) (value-at t) value.Post Inv-loop μ-loop
+  add-m-3 c = omega (arith, c .before .before .before .before .before .before .before .before .before .before .before .before .before .before .before .before .before .before .before .before .shared-slice-known2 .given (c .before .before .before .before .before .before .loop .m * 6 + 5), c .below2 .ensures, c .before .before .before .before .before .loop-test .taken, c .before .before .before .before .before .before .loop .inv .0 .near)
+
+  pub loop-less : lts.Need-loop-less (given t) (value-at t) value.Post Inv-loop μ-loop
+  loop-less c = omega (arith, c .before .before .before .before .before .loop-test .taken)
+
+  pub loop-again : lts.Need-loop-again (given t) (value-at t) value.Post Inv-loop μ-loop
+  loop-again c =
+      let a = c .before .before .before .before .before .before .before .before .before .before .before .before .before .before .before .before .before .before .before .before .before .before .args in
+      let l = c .before .before .before .before .before .before .loop in
+      let taken = c .before .before .before .before .before .loop-test .taken in (
+        record {
+          later = omega (arith, l .inv .0 .later);
+          near = l .inv .0 .near;
+          long = c .before .before .before .put-member .kept .1 .1 .1 .1 .1 .1 .1 .1 .0 ∙ l .inv .0 .long;
+        },
+        λ g ms v s.
+            let es = stripped (a .run .parts) ms in
+            let w = l .inv .1 g ms v s in
+            patch-turn (now (a .text)) (a .root) es (added (membersIn (a .root) (now (a .text)) g) es) w taken
+            (c .before .before .before .put-member .ensures (w .values) ms (walk-here w taken) s) (l .m + 1 + c .below2 .result) (ap (λ (n : ℕ). l .m + 1 + n) (c .below2 .ensures)),
+      )
+
+  pub put-additions-requires : lts.Need-put-additions-requires (given t) (value-at t) value.Post Inv-loop μ-loop
+  put-additions-requires c κs = c .before .before .before .before .before .before .before .before .before .before .before .before .before .before .before .before .before .before .pre .1 .0
+
+  pub same-length-3 : lts.Need-same-length-3 (given t) (value-at t) value.Post Inv-loop μ-loop
+  same-length-3 c = c .before .before .put-additions .kept .1 .1 .1 .1 .1 .1 .1 .1 .0 ∙ c .before .before .before .before .before .loop .inv .0 .long ∙ c .before .before .before .before .before .before .before .before .put-byte .kept .0
+
+  pub returns-3 : lts.Need-returns-3 (given t) (value-at t) value.Post Inv-loop μ-loop
+  returns-3 c =
+      λ g ms v s.
+      let a = c .before .before .before .before .before .before .before .before .before .before .before .before .before .before .before .before .before .before .before .before .before .args in
+      let text = now (a .text) in
+      let es = stripped (a .run .parts) ms in
+      let more = added (membersIn (a .root) text g) es in
+      let object = doc-object text g (v .some) (v .kinds) (sym (value-row v .kind) ∙ sym (c .before .before .before .before .before .before .before .before .before .before .before .before .before .before .kind .ensures) ∙ c .before .before .before .before .before .before .before .before .before .before .before .before .before .if1 .left) in
+      rw (object, based-object (a .root) (membersOf text (insideAt g)) es)
+      (wrote-then (123 ∷ []) (restBy text (a .root) es more (insideAt g) true) (c .before .before .before .before .before .before .before .before .put-byte .ensures)
+      (patch-end text (a .root) es more (c .before .before .before .before .before .loop .inv .1 g ms v s) (c .before .before .before .before .loop-test .left) (c .before .before .put-additions .ensures g ms v s)))

@@ -1,0 +1,80 @@
+-- `card::writing::ends_first` meets its contract. Assumes nothing.
+use mathlib.Core.Path.{_≡_}
+use Prim.Native.Nat.{ℕ}
+use native.Mathlib.Omega.{arith}
+use denote.Ref.{now}
+use Rattle.card.proofs.PatchLaws.{at-part}
+use Rattle.card.proofs.Additions.{first-said}
+use Rattle.card.proofs.Patches.{is-last, is-down, ends-by, no-end}
+use borrow.Author.Needs.{needs}
+use Rattle.card.proofs.writing.ends_first.Statement.{statement}
+use Rattle.card.proofs.writing.ends_first.Tie as tie
+
+returns : tie.Need-returns
+returns c = record { some = λ e. let z : _≡_ {A = ℕ} 0 1 = cc in absurd (omega arith); is = λ ms s. no-end s (c .if1 .taken) }
+
+mul-e : tie.Need-mul-e
+mul-e c = search needs
+
+shared-slice-read-e : tie.Need-shared-slice-read-e
+shared-slice-read-e c = search needs
+
+cast-e : tie.Need-cast-e
+cast-e c = omega (arith, c .shared-slice-known4 .given (c .before .before .before .before .before .args .lo))
+
+key-at-requires : tie.Need-key-at-requires
+key-at-requires c κs = search needs
+
+part-at-requires : tie.Need-part-at-requires
+part-at-requires c κs = search needs
+
+next-part-requires : tie.Need-next-part-requires
+next-part-requires c κs = search needs
+
+enum-told : tie.Need-enum-told
+enum-told c = search needs
+
+enum-told-2 : tie.Need-enum-told-2
+enum-told-2 c = search needs
+
+returns-2 : tie.Need-returns-2
+returns-2 c =
+    let a = c .before .before .before .before .before .before .before .before .before .before .args in
+    record {
+      some = λ e. c .before .before .before .before .before .before .if1 .left;
+      is =
+          λ ms s.
+          let f = first-said s (c .before .before .before .before .before .before .if1 .left) in
+          ends-by (now (a .ptext)) f
+          (is-last (at-part (now (a .ptext)) (a .parts) (now (c .before .before .before .before .key-at .result)) (c .before .before .before .part-at .result) (f .value) (c .before .before .before .before .key-at .ensures) (c .before .before .before .part-at .ensures))
+          (rw (c .enum-told .given .1) at (c .before .before .next-part .ensures)));
+    }
+
+returns-3 : tie.Need-returns-3
+returns-3 c =
+    let a = c .before .before .before .before .before .before .before .before .before .before .args in
+    record {
+      some = λ e. c .before .before .before .before .before .before .if1 .left;
+      is =
+          λ ms s.
+          let f = first-said s (c .before .before .before .before .before .before .if1 .left) in
+          ends-by (now (a .ptext)) f
+          (is-down (at-part (now (a .ptext)) (a .parts) (now (c .before .before .before .before .key-at .result)) (c .before .before .before .part-at .result) (f .value) (c .before .before .before .before .key-at .ensures) (c .before .before .before .part-at .ensures))
+          (rw (c .enum-told2 .given .1) at (c .before .before .next-part .ensures)));
+    }
+
+pub ends-first-spec : {M : Type 1} → statement M
+ends-first-spec =
+    tie.close
+    (tie.spec
+    returns
+    mul-e
+    shared-slice-read-e
+    cast-e
+    key-at-requires
+    part-at-requires
+    next-part-requires
+    enum-told
+    enum-told-2
+    returns-2
+    returns-3)

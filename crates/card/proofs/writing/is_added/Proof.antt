@@ -1,0 +1,72 @@
+-- `card::writing::is_added` meets its contract. Assumes nothing.
+use mathlib.Core.Path.{sym, _∙_}
+use denote.Ref.{now}
+use Rattle.text.specs.Doc.{docOf}
+use Rattle.text.proofs.Promise.{doc-kind}
+use Rattle.contact.specs.Pointer.{pointerOf}
+use Rattle.contact.specs.Patch.{changeOf}
+use Rattle.json.specs.Cursors.{rest}
+use Rattle.card.specs.Patched.{membersIn}
+use Rattle.card.proofs.Walks.{value-row}
+use Rattle.card.proofs.PatchLaws.{adds-null, adds-down, adds-none, adds-it}
+use borrow.Author.Needs.{needs}
+use Rattle.card.proofs.writing.is_added.Statement.{statement}
+use Rattle.card.proofs.writing.is_added.Tie as tie
+
+kind-requires : tie.Need-kind-requires
+kind-requires c κs = search needs
+
+returns : tie.Need-returns
+returns c =
+    λ t g h v w.
+    let a = c .before .before .before .before .before .before .args in
+    adds-null (membersIn (a .root) (now (a .text)) g) (pointerOf (rest (now (a .key)) (a .c))) (docOf t h)
+    (doc-kind t h (w .some) ∙ sym (value-row w .kind) ∙ sym (c .before .kind .ensures) ∙ c .if1 .taken)
+
+next-part-requires : tie.Need-next-part-requires
+next-part-requires c κs = search needs
+
+enum-told : tie.Need-enum-told
+enum-told c = search needs
+
+enum-told-2 : tie.Need-enum-told-2
+enum-told-2 c = search needs
+
+returns-2 : tie.Need-returns-2
+returns-2 c =
+    λ t g h v w.
+    let a = c .before .before .before .before .before .before .before .before .before .args in
+    adds-down (membersIn (a .root) (now (a .text)) g) (pointerOf (rest (now (a .key)) (a .c))) (changeOf (docOf t h)) (rw (c .enum-told2 .given .1) at (c .before .before .next-part .ensures))
+
+has-member-requires : tie.Need-has-member-requires
+has-member-requires c κs = search needs
+
+returns-3 : tie.Need-returns-3
+returns-3 c =
+    λ t g h v w.
+    let a = c .before .before .before .before .before .before .before .before .before .before .before .args in
+    adds-none (membersIn (a .root) (now (a .text)) g) (pointerOf (rest (now (a .key)) (a .c))) (docOf t h) (rw (c .before .before .enum-told .given .1) at (c .before .before .before .before .next-part .ensures))
+    (λ e. c .before .before .before .before .before .if1 .left (c .before .before .before .before .before .before .kind .ensures ∙ value-row w .kind ∙ sym (doc-kind t h (w .some)) ∙ e))
+    (c .before .has-member .ensures g v) (c .if2 .taken)
+
+returns-4 : tie.Need-returns-4
+returns-4 c =
+    λ t g h v w.
+    let a = c .before .before .before .before .before .before .before .before .before .before .before .args in
+    adds-it (membersIn (a .root) (now (a .text)) g) (pointerOf (rest (now (a .key)) (a .c))) (docOf t h) (rw (c .before .before .enum-told .given .1) at (c .before .before .before .before .next-part .ensures))
+    (λ e. c .before .before .before .before .before .if1 .left (c .before .before .before .before .before .before .kind .ensures ∙ value-row w .kind ∙ sym (doc-kind t h (w .some)) ∙ e))
+    (c .before .has-member .ensures g v) (c .if2 .left)
+
+pub is-added-spec : {M : Type 1} → statement M
+is-added-spec =
+    tie.close
+    (tie.spec
+    kind-requires
+    returns
+    next-part-requires
+    enum-told
+    enum-told-2
+    returns-2
+    has-member-requires
+    returns-3
+    returns-4)

@@ -1,0 +1,87 @@
+-- `card::writing::put_addition` meets its contract. Assumes nothing.
+use mathlib.Core.Path.{_≡_}
+use mathlib.Core.List.{[], _∷_, _++_}
+use native.Mathlib.Omega.{arith}
+use denote.Ref.{now}
+use Rattle.laws.proofs.Picks.{granted, denied}
+use Rattle.text.specs.Tree.{Forest}
+use Rattle.text.specs.Doc.{docOf}
+use Rattle.text.specs.Writing.{comma, spelled}
+use Rattle.contact.specs.Pointer.{pointerOf, firstPart}
+use Rattle.contact.specs.Patch.{changeOf}
+use Rattle.json.specs.Cursors.{rest}
+use Rattle.card.specs.Copied.{ValueAt}
+use Rattle.card.specs.Patched.{pointerIn, membersIn}
+use Rattle.card.proofs.Bytes.{wrote-then}
+use Rattle.card.proofs.PatchLaws.{at-part, adds-is, passed-none, passed-some}
+use borrow.Author.Needs.{needs}
+use Rattle.card.proofs.writing.put_addition.Statement.{statement}
+use Rattle.card.proofs.writing.put_addition.Tie as tie
+
+key-at-requires : tie.Need-key-at-requires
+key-at-requires c κs = search needs
+
+part-at-requires : tie.Need-part-at-requires
+part-at-requires c κs = search needs
+
+is-added-requires : tie.Need-is-added-requires
+is-added-requires c κs = search needs
+
+-- the entry's pointer from the part for the object on
+pointer : (c : tie.After-is-added) {h : Forest} → ValueAt (now (c .before .before .before .before .before .before .before .before .args .ptable)) (c .before .before .before .before .before .before .before .before .args .e) h
+    → pointerOf (rest (now (c .before .before .key-at .result)) (c .before .part-at .result)) ≡ pointerIn (now (c .before .before .before .before .before .before .before .before .args .ptext)) (c .before .before .before .before .before .before .before .before .args .parts) h
+pointer c w =
+    let a = c .before .before .before .before .before .before .before .before .args in
+    at-part (now (a .ptext)) (a .parts) (now (c .before .before .key-at .result)) (c .before .part-at .result) w
+    (c .before .before .key-at .ensures) (c .before .part-at .ensures)
+
+returns : tie.Need-returns
+returns c =
+    λ g h v w.
+    let a = c .before .before .before .before .before .before .before .before .before .args in
+    let off = denied (c .before .is-added .result) (c .if1 .taken) in
+    let is = adds-is (membersIn (a .root) (now (a .text)) g) (changeOf (docOf (now (a .ptext)) h)) (pointer (c .before) w) (c .before .is-added .ensures (now (a .ptext)) g h v w) in
+    passed-none (a .from) (omega (arith, c .before .before .before .before .before .before .before .before .before .good .1 .1 .1 .1 .1 .1 .1 .1 .0 .1)) (rw off at is)
+
+put-comma-requires : tie.Need-put-comma-requires
+put-comma-requires c κs = search needs
+
+put-spelled-requires : tie.Need-put-spelled-requires
+put-spelled-requires c κs = search needs
+
+put-byte-requires : tie.Need-put-byte-requires
+put-byte-requires c κs = search needs
+
+copy-value-requires : tie.Need-copy-value-requires
+copy-value-requires c κs = search needs
+
+same-length : tie.Need-same-length
+same-length c = search needs
+
+returns-2 : tie.Need-returns-2
+returns-2 c =
+    λ g h v w.
+    let a = c .before .before .before .before .before .before .before .before .before .before .before .before .before .before .before .before .before .before .before .before .before .before .before .before .before .args in
+    let on = granted (c .before .before .before .before .before .before .before .before .before .before .before .before .before .before .before .before .before .is-added .result) (c .before .before .before .before .before .before .before .before .before .before .before .before .before .before .before .before .if1 .left) in
+    let d = docOf (now (a .ptext)) h in
+    let label = spelled (firstPart (pointerIn (now (a .ptext)) (a .parts) h)) in
+    let named = rw (pointer (c .before .before .before .before .before .before .before .before .before .before .before .before .before .before .before .before .before) w) at (c .before .before .before .before .before .before .before .before .before .before .put-spelled .ensures) in
+    let is = adds-is (membersIn (a .root) (now (a .text)) g) (changeOf d) (pointer (c .before .before .before .before .before .before .before .before .before .before .before .before .before .before .before .before .before) w) (c .before .before .before .before .before .before .before .before .before .before .before .before .before .before .before .before .before .is-added .ensures (now (a .ptext)) g h v w) in
+    passed-some d (rw on at is)
+    (wrote-then (comma (a .from .first)) (label ++ (58 ∷ [])) (c .before .before .before .before .before .before .before .before .before .before .before .before .before .before .put-comma .ensures) (wrote-then label (58 ∷ []) named (c .before .before .before .before .before .before .put-byte .ensures)))
+    (c .before .before .copy-value .ensures h w)
+
+pub put-addition-spec : {M : Type 1} → statement M
+put-addition-spec =
+    tie.close
+    (tie.spec
+    key-at-requires
+    part-at-requires
+    is-added-requires
+    returns
+    put-comma-requires
+    put-spelled-requires
+    put-byte-requires
+    copy-value-requires
+    same-length
+    returns-2)

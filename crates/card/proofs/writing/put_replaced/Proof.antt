@@ -1,0 +1,45 @@
+-- `card::writing::put_replaced` meets its contract. Assumes nothing.
+use mathlib.Core.Path.{sym, _∙_}
+use native.Mathlib.Omega.{arith}
+use denote.Ref.{now}
+use Rattle.text.specs.Doc.{docOf}
+use Rattle.text.proofs.Promise.{doc-kind}
+use Rattle.card.proofs.Walks.{value-row}
+use Rattle.card.proofs.PatchLaws.{change-null, change-set, passed-none, passed-some}
+use borrow.Author.Needs.{needs}
+use Rattle.card.proofs.writing.put_replaced.Statement.{statement}
+use Rattle.card.proofs.writing.put_replaced.Tie as tie
+
+kind-requires : tie.Need-kind-requires
+kind-requires c κs = search needs
+
+returns : tie.Need-returns
+returns c =
+    λ h d w.
+    let a = c .before .before .before .before .before .before .before .args in
+    let v = docOf (now (a .ptext)) h in
+    let null = doc-kind (now (a .ptext)) h (w .some) ∙ sym (value-row w .kind) ∙ sym (c .before .kind .ensures) ∙ c .if1 .taken in
+    passed-none (a .from) (omega (arith, c .before .before .before .before .before .before .before .good .1 .1 .1 .1 .1 .1 .0 .1)) (rw (change-null v null))
+
+put-head-requires : tie.Need-put-head-requires
+put-head-requires c κs = search needs
+
+copy-value-requires : tie.Need-copy-value-requires
+copy-value-requires c κs = search needs
+
+same-length : tie.Need-same-length
+same-length c = search needs
+
+returns-2 : tie.Need-returns-2
+returns-2 c =
+    λ h d w.
+    let a = c .before .before .before .before .before .before .before .before .before .before .before .before .before .before .before .args in
+    let v = docOf (now (a .ptext)) h in
+    passed-some v
+    (rw (change-set v (λ e. c .before .before .before .before .before .before .before .before .if1 .left (c .before .before .before .before .before .before .before .before .before .kind .ensures ∙ value-row w .kind ∙ sym (doc-kind (now (a .ptext)) h (w .some)) ∙ e))))
+    (c .before .before .before .before .before .before .put-head .ensures) (c .before .before .copy-value .ensures h w)
+
+pub put-replaced-spec : {M : Type 1} → statement M
+put-replaced-spec =
+    tie.close
+    (tie.spec kind-requires returns put-head-requires copy-value-requires same-length returns-2)

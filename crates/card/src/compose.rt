@@ -1,0 +1,93 @@
+// The localized card, written for a lent output: all entries of the language's PatchObject, or a refusal from 21 to 27.
+use crate::conditions::Condition;
+use crate::conditions::first_broken;
+use crate::entries::collect;
+use crate::language::patch_row;
+use crate::members::Found;
+use crate::sort::sort_rows;
+use crate::writing::put_card;
+use contact::LocalRefusal;
+use json::rows::below;
+use json::rows::kind;
+ghost use Prim.Native.Nat.{_≤_};
+ghost use lib.ListN.{length};
+ghost use Rattle.text.specs.Tree.{Forest};
+ghost use Rattle.text.specs.Doc.{Members, docOf};
+ghost use Rattle.text.specs.Writing.{written};
+ghost use Rattle.contact.specs.Patch.{entriesOf, applied};
+ghost use Rattle.contact.specs.Entries.{NoClash};
+ghost use Rattle.contact.specs.Localize.{start};
+ghost use Rattle.card.specs.Entries.{Listed};
+ghost use Rattle.card.specs.Written.{Wrote};
+ghost use Rattle.card.specs.Copied.{ValueAt};
+ghost use Rattle.card.specs.Language.{Held};
+ghost use Rattle.card.specs.Localizing.{mostEntries, CardIn, Makes, MakesFor};
+
+// A card has no more values, so a PatchObject has no more entries.
+const MOST_ENTRIES: usize = 2048;
+
+// So many bytes were written, or nothing that counts.
+pub(crate) enum Attempt {
+    Bytes(usize),
+    Refused(LocalRefusal),
+}
+
+// The card as the listed entries leave it, which do not clash: they are sorted, and then it is written in one walk.
+fn put_sorted(
+    card: &[u8],
+    card_table: &[u32],
+    text: &[u8],
+    table: &[u32],
+    rows: &mut [u32],
+    n: usize,
+    out: &mut [u8],
+) -> usize
+    requires { ⌜ n ≤ length (now rows) ⌝ }
+    requires { ⌜ n ≤ mostEntries ⌝ }
+    ensures { λ r. ⌜ ((g : Forest) (ms : Members) → ValueAt (now («card_table» .entry)) 0 g → Listed (now (text .entry)) (now (table .entry)) (now (rows .entry)) 0 n ms → NoClash (entriesOf ms) → Wrote (now (out .entry)) 0 (written (applied (start (docOf (now (card .entry)) g)) (entriesOf ms))) (now (out .exit)) r) ⌝ }
+{
+    let mut scratch = [0u32; MOST_ENTRIES];
+    sort_rows(text, table, rows, &mut scratch, n);
+    put_card(card, card_table, text, table, rows, n, out)
+}
+
+// The card as the PatchObject at a row of the patch leaves it, if no condition from 22 to 27 is broken.
+fn compose(
+    card: &[u8],
+    card_table: &[u32],
+    text: &[u8],
+    table: &[u32],
+    patch: usize,
+    out: &mut [u8],
+) -> Attempt
+    requires { ⌜ ((g : Forest) × ValueAt (now «card_table») 0 g) ⌝ }
+    requires { ⌜ ((p : Forest) × Held (now table) mostEntries patch p) ⌝ }
+    ensures { λ r. ⌜ Makes (now (card .entry)) (now («card_table» .entry)) (now (text .entry)) (now (table .entry)) patch (length (now (out .entry))) (now (out .exit)) r ⌝ }
+{
+    let first = patch + 1;
+    let end = first + below(table, patch);
+    let mut rows = [0u32; MOST_ENTRIES];
+    let n = collect(table, first, end, &mut rows);
+    if let Condition::Broken(r) = first_broken(card, card_table, 0, text, table, &rows, n) {
+        return Attempt::Refused(r);
+    }
+    let count = put_sorted(card, card_table, text, table, &mut rows, n, out);
+    if out.len() < count {
+        return Attempt::Refused(LocalRefusal::Short(count));
+    }
+    Attempt::Bytes(count)
+}
+
+// The card as the PatchObject that it has for a language leaves it.
+pub(crate) fn compose_for(text: &[u8], table: &[u32], language: &[u8], out: &mut [u8]) -> Attempt
+    requires { ⌜ ((f : Forest) × CardIn (now text) (now table) f) ⌝ }
+    ensures { λ r. ⌜ MakesFor (now (text .entry)) (now (table .entry)) (now (language .entry)) (length (now (out .entry))) (now (out .exit)) r ⌝ }
+{
+    let Found::Row(patch) = patch_row(text, table, language) else {
+        return Attempt::Refused(LocalRefusal::NoLanguage);
+    };
+    if kind(table, patch) != 7 {
+        return Attempt::Refused(LocalRefusal::NoLanguage);
+    }
+    compose(text, table, text, table, patch, out)
+}

@@ -1,0 +1,63 @@
+// Localizing: a card text and a language become the localized card and its rows, or a refusal.
+use crate::compose::Attempt;
+use crate::compose::compose_for;
+use crate::judge::judge;
+use contact::LocalRefusal;
+use contact::Localized;
+use contact::Verdict;
+use laws::clear::clear_bytes;
+use laws::clear::clear_words;
+ghost use mathlib.Core.Path.{_≡_};
+ghost use Prim.Native.Nat.{ℕ, _≤_};
+ghost use lib.ListN.{length, take};
+ghost use Rattle.text.specs.Limits.{base};
+ghost use Rattle.contact.specs.Localize.{localizedOf};
+ghost use Rattle.contact.specs.Contract.{Localizes};
+ghost use Rattle.card.specs.Localizing.{judgedOutcome, Rejudged, Answers, usedBy};
+
+// 28, or the rows: the first n bytes of the output are judged as any text is.
+fn judge_written(out: &[u8], n: usize, table: &mut [u32]) -> Localized
+    requires { ⌜ n ≤ length (now out) ⌝ }
+    ensures { λ r. ⌜ ((room : ℕ) → Rejudged (length (now (table .entry))) (judgedOutcome (length (now (table .entry))) room (take n (now (out .entry)))) r (now (table .exit))) ⌝ }
+{
+    match judge(&out[..n], table) {
+        Verdict::Passed(rows) => Localized::Written(rows, n),
+        Verdict::Failed(r) => Localized::Denied(LocalRefusal::Inner(r)),
+    }
+}
+
+// All but clearing: conditions 1 to 14 on the card, 21 to 27 as it is written, and 28 on what is written.
+fn localize_in(text: &[u8], language: &[u8], out: &mut [u8], table: &mut [u32]) -> Localized
+    ensures { λ r. ⌜ Answers (length (now (table .entry))) (localizedOf base (length (now (table .entry))) (length (now (out .entry))) (now (text .entry)) (now (language .entry))) r (now (table .exit)) (now (out .exit)) ⌝ }
+{
+    if let Verdict::Failed(r) = judge(text, table) {
+        return Localized::Denied(LocalRefusal::Given(r));
+    }
+    match compose_for(text, table, language, out) {
+        Attempt::Refused(r) => Localized::Denied(r),
+        Attempt::Bytes(n) => judge_written(out, n, table),
+    }
+}
+
+// How many bytes of the output are used.
+fn bytes_used(a: Localized) -> usize
+    ensures { λ r. ⌜ r ≡ usedBy a ⌝ }
+{
+    match a {
+        Localized::Written(_, n) => n,
+        Localized::Denied(_) => 0,
+    }
+}
+
+// Writes the localized card into the output and its rows into the table. What is unused of the two is zero, and after a refusal all of both.
+pub fn localize(text: &[u8], language: &[u8], out: &mut [u8], table: &mut [u32]) -> Localized
+    ensures { λ r. ⌜ Localizes base (length (now (table .entry))) (length (now (out .entry))) (now (text .entry)) (now (language .entry)) r (now (table .exit)) (now (out .exit)) ⌝ }
+{
+    let a = localize_in(text, language, out, table);
+    let used = bytes_used(a);
+    clear_bytes(&mut out[used..]);
+    if let Localized::Denied(_) = a {
+        clear_words(table);
+    }
+    a
+}

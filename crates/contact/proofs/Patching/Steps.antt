@@ -1,0 +1,130 @@
+-- Localizing step by step, as it is carried out:
+--     judged-answer                      what judging answers, by its answer on paper
+--     no-patch, no-patch-object, patched-so       the PatchObject of the language
+--     bad-key-so .. no-object-so, unbroken-so     the conditions 22 to 26, one after the other
+--     short-so, room-so                  27, and then the text that is written is judged
+--     start-walk, start-walks            a pointer that does not begin with `localizations` leads where it leads in the card
+-- Assumes nothing.
+use mathlib.Core.Path.{_≡_, refl, sym, ap, _∙_}
+use mathlib.Core.Bool.{Bool, true, false, true≢false}
+use mathlib.Core.Logic.{_≢_}
+use mathlib.Core.List.{List, [], _∷_}
+use mathlib.Core.Option.{none, some}
+use Prim.Native.Nat.{ℕ, _≤_, _<_}
+use lib.ListN.{length}
+use borrow.Author.Tests.{lt-ltb, le-ltb}
+use Rattle.laws.specs.Order.{same}
+use Rattle.laws.proofs.Bools.{or-false}
+use Rattle.text.specs.Limits.{Limits}
+use Rattle.text.specs.Text.{bytes}
+use Rattle.text.specs.Tree.{size}
+use Rattle.text.specs.Doc.{Name, Doc, scalar, array, object, Members, Property, kindOf}
+use Rattle.text.specs.Writing.{written}
+use Rattle.contact.specs.Verdict.{paperOfVerdict, Judged, passed, failed, judgedOf, sheetOfJudged}
+use Rattle.contact.specs.Pointer.{Pointer, last, down, firstPart, find}
+use Rattle.contact.specs.Patch.{Entry, entry, entriesOf, Walk, onward, walk, anyBadKey, anyOwn, anyClash, anyWalk, isInArray, isNoObject, applied}
+use Rattle.contact.specs.Localize.{denied, start, patchAt, byJudge, byRoom, byEntries, inPatch, withPatch, localizedDoc}
+use Rattle.contact.specs.declared.Verdict.{Verdict}
+use Rattle.contact.specs.declared.Verdict.the-variants.{Passed, Failed}
+use Rattle.contact.specs.declared.LocalRefusal.the-variants.{NoLanguage, BadKey, OwnLocalizations, Clash, InArray, NoObject, Short}
+use Rattle.contact.proofs.Judging.{one-answer}
+use Rattle.contact.proofs.Patching.Names.{same-yes}
+use Rattle.contact.proofs.Patching.Seek.{seek-without-other}
+
+-- ---- judging
+
+abbrev pub verdictOf : Judged → Verdict
+verdictOf (passed f) = Passed (size f)
+verdictOf (failed r) = Failed r
+
+pub judged-answer : (v : Verdict) (j : Judged) → paperOfVerdict v ≡ sheetOfJudged j → v ≡ verdictOf j
+unfolding sheetOfJudged paperOfVerdict
+judged-answer v j e = one-answer v (verdictOf j) (e ∙ on-paper j)
+  where
+    on-paper : (j : Judged) → sheetOfJudged j ≡ paperOfVerdict (verdictOf j)
+    on-paper (passed f) = refl
+    on-paper (failed r) = refl
+
+module _ (L : Limits) (words room : ℕ) where
+  -- ---- 21
+
+  module _ (card : Doc) (lang : Name) where
+    pub no-patch : find (patchAt lang) card ≡ none → localizedDoc L words room card lang ≡ denied NoLanguage
+    unfolding localizedDoc withPatch
+    no-patch e = rw e
+
+    found-so : (s : Property) → find (patchAt lang) card ≡ some s → localizedDoc L words room card lang ≡ inPatch L words room (start card) (s .content)
+    unfolding localizedDoc withPatch
+    found-so s e = rw e
+
+    pub no-patch-object : (s : Property) → find (patchAt lang) card ≡ some s → kindOf (s .content) ≢ 7 → localizedDoc L words room card lang ≡ denied NoLanguage
+    unfolding inPatch
+    no-patch-object s e k = found-so s e ∙ go (s .content) k
+      where
+        go : (d : Doc) → kindOf d ≢ 7 → inPatch L words room (start card) d ≡ denied NoLanguage
+        go (scalar kind token) n = refl
+        go (array ms) n = refl
+        go (object ms) n = absurd (n refl)
+
+    pub patched-so : (s : Property) (ms : Members) → find (patchAt lang) card ≡ some s → s .content ≡ object ms
+        → localizedDoc L words room card lang ≡ byEntries L words room (start card) ms (entriesOf ms)
+    unfolding inPatch
+    patched-so s ms e o = found-so s e ∙ ap (inPatch L words room (start card)) o
+
+  -- ---- 22 to 26
+
+  module _ (d : Doc) (ms : Members) where
+    pub bad-key-so : anyBadKey ms ≡ true → byEntries L words room d ms (entriesOf ms) ≡ denied BadKey
+    unfolding byEntries
+    bad-key-so a = rw a
+
+    pub own-so : anyBadKey ms ≡ false → anyOwn (entriesOf ms) ≡ true → byEntries L words room d ms (entriesOf ms) ≡ denied OwnLocalizations
+    unfolding byEntries
+    own-so a b = rw (a, b)
+
+    pub clash-so : anyBadKey ms ≡ false → anyOwn (entriesOf ms) ≡ false → anyClash (entriesOf ms) ≡ true
+        → byEntries L words room d ms (entriesOf ms) ≡ denied Clash
+    unfolding byEntries
+    clash-so a b c = rw (a, b, c)
+
+    module _ (a : anyBadKey ms ≡ false) (b : anyOwn (entriesOf ms) ≡ false) (c : anyClash (entriesOf ms) ≡ false) where
+      pub in-array-so : anyWalk isInArray (entriesOf ms) d ≡ true → byEntries L words room d ms (entriesOf ms) ≡ denied InArray
+      unfolding byEntries
+      in-array-so e = rw (a, b, c, e)
+
+      pub no-object-so : anyWalk isInArray (entriesOf ms) d ≡ false → anyWalk isNoObject (entriesOf ms) d ≡ true
+          → byEntries L words room d ms (entriesOf ms) ≡ denied NoObject
+      unfolding byEntries
+      no-object-so e f = rw (a, b, c, e, f)
+
+      pub unbroken-so : anyWalk isInArray (entriesOf ms) d ≡ false → anyWalk isNoObject (entriesOf ms) d ≡ false
+          → byEntries L words room d ms (entriesOf ms) ≡ byRoom L words room (written (applied d (entriesOf ms)))
+      unfolding byEntries
+      unbroken-so e f = rw (a, b, c, e, f)
+
+  -- ---- 27
+
+  pub short-so : (text : List ℕ) → room < length text → byRoom L words room text ≡ denied (Short (length text))
+  unfolding byRoom
+  short-so text h = rw (lt-ltb room (length text) h)
+
+  pub room-so : (text : List ℕ) → length text ≤ room → byRoom L words room text ≡ byJudge L words room text (judgedOf L words text)
+  unfolding byRoom
+  room-so text h = rw (le-ltb room (length text) h)
+
+-- ---- on the card, and on the card without its localizations
+
+pub start-walk : (p : Pointer) (card : Doc) → same (firstPart p) (bytes "localizations") ≡ false → walk p (start card) ≡ walk p card
+start-walk (last n) (scalar kind token) h = refl
+start-walk (last n) (array ms) h = refl
+start-walk (last n) (object ms) h = refl
+start-walk (down n p) (scalar kind token) h = refl
+start-walk (down n p) (array ms) h = refl
+start-walk (down n p) (object ms) h =
+    ap (onward (walk p)) (seek-without-other (bytes "localizations") n ms (λ e. true≢false (sym (same-yes (sym e)) ∙ h)))
+
+pub start-walks : (is : Walk → Bool) (es : List Entry) (card : Doc) → anyOwn es ≡ false → anyWalk is es (start card) ≡ anyWalk is es card
+start-walks is [] card h = refl
+start-walks is (entry p c ∷ es) card h =
+    let x = or-false (same (firstPart p) (bytes "localizations")) (anyOwn es) h in
+    rw (start-walk p card (x .0), start-walks is es card (x .1))
