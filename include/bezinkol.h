@@ -45,11 +45,18 @@ enum {
     BEZINKOL_REPEATED_NAME = 4, /* a name already in the same object; the later name's opening quote */
     BEZINKOL_TOO_DEEP = 5,      /* the 33rd open array or object; its bracket */
     BEZINKOL_TOO_MANY = 6,      /* a 2,049th value begins; its first byte */
-    BEZINKOL_SMALL_TABLE = 7    /* fewer whole rows than values; the rows needed */
+    BEZINKOL_SMALL_TABLE = 7,   /* fewer whole rows than values; the rows needed */
+    BEZINKOL_WRONG_KIND = 11,   /* JSON kind wrong for the type; the value's first byte */
+    BEZINKOL_MISSING = 12,      /* mandatory member missing; the object's first byte */
+    BEZINKOL_NOT_ALLOWED = 13,  /* value not allowed, or map key not an Id; the value's first byte */
+    BEZINKOL_RULE_BROKEN = 14   /* a rule between members broken; the object's first byte */
 };
 
 /* Reads a text into rows: any JSON text of RFC 8259 that keeps RFC 7493's rules for strings and names, within the limits. */
 void bezinkol_read(const uint8_t *text, size_t text_len, uint32_t *table, size_t table_len, uint64_t answer[3]);
+
+/* Judges a text as a card: on acceptance the card's rows are left in the table. */
+void bezinkol_judge(const uint8_t *text, size_t text_len, uint32_t *table, size_t table_len, uint64_t answer[3]);
 
 #ifdef __cplusplus
 }
