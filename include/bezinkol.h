@@ -49,7 +49,15 @@ enum {
     BEZINKOL_WRONG_KIND = 11,   /* JSON kind wrong for the type; the value's first byte */
     BEZINKOL_MISSING = 12,      /* mandatory member missing; the object's first byte */
     BEZINKOL_NOT_ALLOWED = 13,  /* value not allowed, or map key not an Id; the value's first byte */
-    BEZINKOL_RULE_BROKEN = 14   /* a rule between members broken; the object's first byte */
+    BEZINKOL_RULE_BROKEN = 14,  /* a rule between members broken; the object's first byte */
+    BEZINKOL_NO_LANGUAGE = 21,  /* no such language in the card; 0 */
+    BEZINKOL_BAD_KEY = 22,      /* a key with ~ not followed by 0 or 1; 0 */
+    BEZINKOL_OWN_PATCH = 23,    /* a pointer whose first part is localizations; 0 */
+    BEZINKOL_CLASH = 24,        /* one pointer is a prefix of another; 0 */
+    BEZINKOL_IN_ARRAY = 25,     /* a pointer goes inside an array; 0 */
+    BEZINKOL_NO_OBJECT = 26,    /* a part before the last doesn't lead to an object that exists; 0 */
+    BEZINKOL_SHORT_OUTPUT = 27, /* output shorter than needed; the bytes needed */
+    BEZINKOL_WOULD_FAIL = 28    /* the localized card would itself be refused; that refusal's number */
 };
 
 /* Reads a text into rows: any JSON text of RFC 8259 that keeps RFC 7493's rules for strings and names, within the limits. */
@@ -57,6 +65,11 @@ void bezinkol_read(const uint8_t *text, size_t text_len, uint32_t *table, size_t
 
 /* Judges a text as a card: on acceptance the card's rows are left in the table. */
 void bezinkol_judge(const uint8_t *text, size_t text_len, uint32_t *table, size_t table_len, uint64_t answer[3]);
+
+/* Writes the card localized to a language into `out`, and its rows, whose places are in `out`, into the table. An output as long as the text always
+ * has room. */
+void bezinkol_localize(const uint8_t *text, size_t text_len, const uint8_t *language, size_t language_len, uint8_t *out, size_t out_len,
+                       uint32_t *table, size_t table_len, uint64_t answer[3]);
 
 #ifdef __cplusplus
 }

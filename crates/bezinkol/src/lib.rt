@@ -1,5 +1,7 @@
-// The intake for those who link it from C: thin functions over reading and judging, whose answers go into three lent words.
+// The intake for those who link it from C: thin functions over the three services, whose answers go into three lent words.
 use card::judge::judge;
+use card::localize::localize;
+use card::sheet::localized_on_paper;
 use card::sheet::verdict_on_paper;
 use json::read::read;
 use json::sheet::on_paper;
@@ -9,6 +11,7 @@ ghost use lib.ListN.{length};
 ghost use Rattle.text.specs.Limits.{base};
 ghost use Rattle.text.specs.Whole.{wholeOf, sheetOf, tableOf};
 ghost use Rattle.contact.specs.Verdict.{judgedOf, sheetOfJudged, tableOfJudged};
+ghost use Rattle.contact.specs.Localize.{localizedOf, sheetOfOutcome, tableOfOutcome, outputOfOutcome};
 ghost use Rattle.bezinkol.specs.Answer.{words};
 
 // The three numbers of an answer, in their order.
@@ -36,4 +39,21 @@ pub extern "C" fn bezinkol_judge(text: &[u8], table: &mut [u32], answer: &mut [u
 {
     let v = judge(text, table);
     put_answer(verdict_on_paper(v), answer);
+}
+
+// Localizes a card to a language.
+#[no_mangle]
+pub extern "C" fn bezinkol_localize(
+    text: &[u8],
+    language: &[u8],
+    out: &mut [u8],
+    table: &mut [u32],
+    answer: &mut [u64; 3],
+)
+    ensures { λ _. ⌜ now (answer .exit) ≡ words (sheetOfOutcome (localizedOf base (length (now (table .entry))) (length (now (out .entry))) (now (text .entry)) (now (language .entry)))) ⌝ }
+    ensures { λ _. ⌜ now (table .exit) ≡ tableOfOutcome (length (now (table .entry))) (localizedOf base (length (now (table .entry))) (length (now (out .entry))) (now (text .entry)) (now (language .entry))) ⌝ }
+    ensures { λ _. ⌜ now (out .exit) ≡ outputOfOutcome (length (now (out .entry))) (localizedOf base (length (now (table .entry))) (length (now (out .entry))) (now (text .entry)) (now (language .entry))) ⌝ }
+{
+    let a = localize(text, language, out, table);
+    put_answer(localized_on_paper(a), answer);
 }
