@@ -4,7 +4,8 @@
  *
  * A caller's duties: each pointer is good for as many elements as its length says, also where the length is 0 (then any pointer that isn't null);
  * the buffers don't overlap one another; `answer` has three words. Nothing else is asked: any bytes and any lengths are answered. No memory is kept
- * after a call and none is allocated; a call needs about 128 KiB of stack.
+ * after a call and none is allocated; its fixed arrays take some 64 KiB of stack
+ * (48 for reading, 16 for localizing); the whole stack of a call was not measured.
  *
  * answer[0]   0, or the refusal's number
  * answer[1]   the row count, or the refusal's second number
