@@ -1,17 +1,33 @@
-/* Bezinkol: the card intake, for those who link it from C (x86-64).
+/* Bezinkol: the card intake, for those who link it from C (Linux on x86-64).
  *
- * Build the archive with `rt staticlib bezinkol` (target/staticlib/libbezinkol.a).
+ * `rt staticlib bezinkol` writes target/staticlib/libbezinkol.a, which asks for nothing of a C library but `memset`. examples/c shows the use.
  *
- * A caller's duties: each pointer is good for as many elements as its length says, also where the length is 0 (then any pointer that isn't null);
- * the buffers don't overlap one another; `answer` has three words. Nothing else is asked: any bytes and any lengths are answered. No memory is kept
- * after a call and none is allocated; its fixed arrays take some 64 KiB of stack
- * (48 for reading, 16 for localizing); the whole stack of a call was not measured.
+ * A caller's duties
  *
- * answer[0]   0, or the refusal's number
- * answer[1]   the row count, or the refusal's second number
- * answer[2]   the bytes written by localizing, else 0
+ *   pointers  Each is good for as many elements as its length says: bytes for `text`, `language` and `out`, 32-bit words for `table`, three
+ *             64-bit words for `answer`. It is aligned for its type and not null, also where the length is 0.
+ *   lengths   Count elements, not bytes: a table of one row has table_len 6. No text needs a NUL at its end; a NUL inside is a byte like any other.
+ *   overlap   What is written (`table`, `out`, `answer`) shares no byte with any other buffer. `text` and `language` are only read: the language
+ *             may lie inside the text.
+ *   threads   While a call runs, no other thread writes what it reads, or uses what it writes.
+ *   stack     There is as much as the constants below say. What a signal handler takes of the same stack comes on top.
  *
- * After a refusal every word of the table and every byte of the output is zero. After acceptance what is unused is zero.
+ * Nothing else is asked. Any bytes and any lengths are answered, and nothing need be tested beforehand: a text that is too long, a table or an output
+ * that is too small (of length 0 too) is a refusal like any other. What was lent as `text` isn't trusted, and isn't changed.
+ *
+ * What a call does
+ *
+ *   It ends and leaves one answer, which hangs on the bytes read and on the lengths alone. No memory is allocated, nothing is kept after the call and
+ *   there is no state between calls, so calls from several threads, with buffers of their own, don't touch each other. How long a call takes is not
+ *   promised.
+ *
+ *   answer[0]   0, or the refusal's number
+ *   answer[1]   the row count, or the refusal's second number
+ *   answer[2]   the bytes written by localizing; 0 after reading, after judging and after any refusal
+ *
+ *   All three words are always written, and so is every word of the table and every byte of the output:
+ *   after a refusal     all of the table and all of the output is zero;
+ *   after acceptance    the table begins with answer[1] rows of six words, the output with answer[2] bytes; the rest of both is zero.
  */
 #ifndef BEZINKOL_H
 #define BEZINKOL_H
@@ -23,8 +39,34 @@
 extern "C" {
 #endif
 
-/* The words of a row, in their order: kind, name start, name end (without quotes), value start, value end, number of values below. */
+/* The limits: the bytes of a text, the arrays and objects that stand one inside the other, the values of a text. */
+#define BEZINKOL_MAX_BYTES 65536
+#define BEZINKOL_MAX_DEPTH 32
+#define BEZINKOL_MAX_VALUES 2048
+
+/* How much to lend so that there always is room: a table of BEZINKOL_TABLE_WORDS words (then 7 isn't given), and an output as long as the card text,
+ * so one of BEZINKOL_MAX_BYTES bytes for any text (then 27 isn't given). */
 #define BEZINKOL_ROW_WORDS 6
+#define BEZINKOL_TABLE_WORDS (BEZINKOL_ROW_WORDS * BEZINKOL_MAX_VALUES)
+#define BEZINKOL_ANSWER_WORDS 3
+
+/* The bytes of stack that a call needs, with a margin of 19 KiB or more. Measured on x86-64 with this kit (rattle-kit-5b): 60 KiB for reading and for
+ * judging, 77 KiB for localizing, by calls that nest as deep as the limits let them; by the frames of the machine code no call takes more. tests/c
+ * measures both again (stack.c, frames.py) and fails where it is more than is said here; another kit may write other machine code. */
+#define BEZINKOL_READ_STACK 81920
+#define BEZINKOL_JUDGE_STACK 81920
+#define BEZINKOL_LOCALIZE_STACK 98304
+
+/* The words of a row. There is one row a value, parents before children, in the order of the text. Places count bytes from 0, from the start of the
+ * text that was read (of the output, after localizing); ends are exclusive. The root and the elements of arrays have the name 0, 0. */
+enum {
+    BEZINKOL_ROW_KIND = 0,
+    BEZINKOL_ROW_NAME_START = 1, /* without its quotes, as it is written */
+    BEZINKOL_ROW_NAME_END = 2,
+    BEZINKOL_ROW_VALUE_START = 3, /* a string with its quotes */
+    BEZINKOL_ROW_VALUE_END = 4,
+    BEZINKOL_ROW_BELOW = 5 /* how many values are inside, so many rows follow before the next one beside it */
+};
 
 /* The kinds of a row. */
 enum {
@@ -37,16 +79,17 @@ enum {
     BEZINKOL_OBJECT = 7
 };
 
-/* The refusal sheet: what answer[0] says, and what answer[1] then is. */
+/* The refusal sheet: what answer[0] says, and what answer[1] then is. There are no other numbers. Reading gives 1 to 7, judging 11 to 14 too,
+ * localizing all. Which one comes first where several things are wrong: docs/REFUSALS.md. */
 enum {
-    BEZINKOL_OK = 0,
+    BEZINKOL_OK = 0,            /* accepted; the row count */
     BEZINKOL_TOO_LONG = 1,      /* text over 65,536 bytes; 0 */
     BEZINKOL_GRAMMAR = 2,       /* not RFC 8259; the first byte that can't continue, or the text's length */
     BEZINKOL_CHARACTER = 3,     /* bad UTF-8, a lone surrogate, a noncharacter; its first byte */
     BEZINKOL_REPEATED_NAME = 4, /* a name already in the same object; the later name's opening quote */
     BEZINKOL_TOO_DEEP = 5,      /* the 33rd open array or object; its bracket */
     BEZINKOL_TOO_MANY = 6,      /* a 2,049th value begins; its first byte */
-    BEZINKOL_SMALL_TABLE = 7,   /* fewer whole rows than values; the rows needed */
+    BEZINKOL_SMALL_TABLE = 7,   /* fewer whole rows than the text has values; the rows needed, each of six words */
     BEZINKOL_WRONG_KIND = 11,   /* JSON kind wrong for the type; the value's first byte */
     BEZINKOL_MISSING = 12,      /* mandatory member missing; the object's first byte */
     BEZINKOL_NOT_ALLOWED = 13,  /* value not allowed, or map key not an Id; the value's first byte */
@@ -58,19 +101,20 @@ enum {
     BEZINKOL_IN_ARRAY = 25,     /* a pointer goes inside an array; 0 */
     BEZINKOL_NO_OBJECT = 26,    /* a part before the last doesn't lead to an object that exists; 0 */
     BEZINKOL_SHORT_OUTPUT = 27, /* output shorter than needed; the bytes needed */
-    BEZINKOL_WOULD_FAIL = 28    /* the localized card would itself be refused; that refusal's number */
+    BEZINKOL_WOULD_FAIL = 28    /* the localized card would itself be refused; that refusal's number, 5 or 11 to 14, without its place */
 };
 
 /* Reads a text into rows: any JSON text of RFC 8259 that keeps RFC 7493's rules for strings and names, within the limits. */
-void bezinkol_read(const uint8_t *text, size_t text_len, uint32_t *table, size_t table_len, uint64_t answer[3]);
+void bezinkol_read(const uint8_t *text, size_t text_len, uint32_t *table, size_t table_len, uint64_t answer[BEZINKOL_ANSWER_WORDS]);
 
 /* Judges a text as a card: on acceptance the card's rows are left in the table. */
-void bezinkol_judge(const uint8_t *text, size_t text_len, uint32_t *table, size_t table_len, uint64_t answer[3]);
+void bezinkol_judge(const uint8_t *text, size_t text_len, uint32_t *table, size_t table_len, uint64_t answer[BEZINKOL_ANSWER_WORDS]);
 
-/* Writes the card localized to a language into `out`, and its rows, whose places are in `out`, into the table. An output as long as the text always
- * has room. */
+/* Judges a text as a card, writes it localized to a language into `out`, judges that too, and leaves its rows, whose places are in `out`, in the
+ * table. The language is the key of `localizations`, decoded (no quotes, no escapes), and compared byte for byte. The table has to hold the rows of
+ * the card text; the localized card has no more. */
 void bezinkol_localize(const uint8_t *text, size_t text_len, const uint8_t *language, size_t language_len, uint8_t *out, size_t out_len,
-                       uint32_t *table, size_t table_len, uint64_t answer[3]);
+                       uint32_t *table, size_t table_len, uint64_t answer[BEZINKOL_ANSWER_WORDS]);
 
 #ifdef __cplusplus
 }

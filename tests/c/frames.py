@@ -1,0 +1,88 @@
+"""What the archive's machine code can take of the stack at most: the frames along its deepest calls. Also that it has no state and what it links to.
+
+    python3 tests/c/frames.py target/staticlib/libbezinkol.a include/bezinkol.h
+
+Needs objdump. A function's frame is every push and every step of the stack pointer before its first call's arguments, so it is rather too large; what
+this can't follow (a call through a pointer, a frame of no fixed size, a recursion not named below) ends it with an error.
+"""
+import re
+import subprocess
+import sys
+
+# How often a function that calls itself can be open at once. Depth 32 is 32 containers and a value in the last; all but sorting go from a value to
+# one inside it, also the walk of a pointer, however many parts its key has. Sorting halves at most 2,048 rows down to one.
+OPEN = {"json::values::read_value": 33, "card::walk::breach_at": 33, "card::paths::follow": 33, "card::writing::copy_value": 33,
+    "card::writing::put_value": 33, "card::sort::sort": 12}
+PROBE = 0x1000  # a large frame is taken by pages; where that is a loop, its size is in r11
+
+
+def functions(archive):
+    """The instructions of each function, and the relocation after a call."""
+    found, name = {}, None
+    dump = subprocess.run(["objdump", "-dr", "--no-show-raw-insn", archive], check=True, capture_output=True, text=True).stdout
+    for line in dump.splitlines():
+        head = re.fullmatch(r"[0-9a-f]+ <(.*)>:", line)
+        if head:
+            name = head[1]
+            found[name] = []
+        elif name and "\t" in line:
+            found[name].append(line.split("\t", 1)[1].strip())
+    return found
+
+
+def frame_of(name, code):
+    """The size of a function's frame, the bytes below it that are used without a step, and each call with what is pushed for it."""
+    frame = pushed = below = looped = 0
+    taken, calls = False, []
+    for line in code:
+        step = re.match(r"(sub|add) +\$0x([0-9a-f]+),%(rsp|r11)$", line)
+        size = int(step[2], 16) if step else 8
+        if step and step[3] == "r11":
+            looped = size
+        elif line.startswith("push") or step and step[1] == "sub":
+            if taken:
+                pushed += size
+            else:
+                frame += looped if step and size == PROBE and looped else size
+                taken = bool(step) and size != PROBE
+        elif step:
+            pushed -= size if size <= pushed else 0
+        elif re.match(r"call +0 <", line):
+            calls.append((name, pushed))
+        elif "R_X86_64_PLT32" in line:
+            calls.append((re.search(r"\t(?:\.text\.)?(\S+)-0x4", line)[1], pushed))
+        elif re.match(r"call +\*|(?!cmp|test).*,%rsp$", line):
+            raise SystemExit(f"tests/c: {name}: {line}: can't follow the stack")
+        for low in re.findall(r"-0x([0-9a-f]+)\(%rsp", line):
+            below = max(below, int(low, 16))
+    return frame, below, calls
+
+
+def deepest(name, code, known):
+    """The bytes below a call's return address."""
+    if name not in known:
+        frame, below, calls = frame_of(name, code[name])
+        inside = max([below] + [8 + pushed + deepest(to, code, known) for to, pushed in calls if to != name])
+        again = [8 + pushed for to, pushed in calls if to == name]
+        known[name] = frame + inside + (OPEN[name] - 1) * (frame + max(again)) if again else frame + inside
+    return known[name]
+
+
+def main(archive, header):
+    symbols = subprocess.run(["objdump", "-t", archive], check=True, capture_output=True, text=True).stdout
+    outside = re.findall(r"\*UND\*\s+\S+\s+(\S+)", symbols)
+    sections = subprocess.run(["objdump", "-h", archive], check=True, capture_output=True, text=True).stdout
+    state = re.findall(r"\s(\.t?(?:data|bss)\S*)\s", sections)
+    if outside != ["memset"] or state:
+        raise SystemExit(f"tests/c: the archive asks for {outside} and has the writable sections {state}")
+    text = open(header, encoding="utf-8").read()
+    code, known = functions(archive), {"memset": 0}
+    for service in ("read", "judge", "localize"):
+        said = int(re.search(rf"BEZINKOL_{service.upper()}_STACK (\d+)", text)[1])
+        most = 8 + deepest("bezinkol_" + service, code, known)
+        print(f"tests/c: bezinkol_{service} can take {most} bytes of stack by its frames; the header says {said}")
+        if said < most:
+            raise SystemExit("tests/c: that is more than the header says")
+
+
+main(*sys.argv[1:])
