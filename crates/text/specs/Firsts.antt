@@ -4,10 +4,10 @@ use Prim.Native.Nat.{ℕ, _≤_, _<_}
 use Rattle.text.specs.Tree.{kindIn, Forest, none, leaf, node, size}
 
 -- there is a first value
-abbrev pub Some : Forest → Type 0
-Some none = ⊥
-Some (leaf kind ns ne from to rest) = Prim.Unit {0}
-Some (node b ns ne from to inside rest) = Prim.Unit {0}
+abbrev pub HasFirst : Forest → Type 0
+HasFirst none = ⊥
+HasFirst (leaf kind ns ne from to rest) = Prim.Unit {0}
+HasFirst (node b ns ne from to inside rest) = Prim.Unit {0}
 
 -- its kind: 1 to 5, 6 for an array, 7 for an object
 abbrev pub kindAt : Forest → ℕ

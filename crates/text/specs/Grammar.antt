@@ -84,32 +84,32 @@ pub data Letter : ℕ → Type 0 where
   tab : Letter 0x74
 
 -- char = unescaped / escape ( %x22 / .. / %x74 / %x75 4HEXDIG )
-pub data Char : List ℕ → Type 0 where
-  unescaped : {x : ℕ} → Unescaped x → Char (x ∷ [])
-  escape : {x : ℕ} → Letter x → Char (0x5C ∷ x ∷ [])
-  unicode : {a b c d : ℕ} → HexDigit a → HexDigit b → HexDigit c → HexDigit d → Char (0x5C ∷ 0x75 ∷ a ∷ b ∷ c ∷ d ∷ [])
+pub data JsonChar : List ℕ → Type 0 where
+  unescaped : {x : ℕ} → Unescaped x → JsonChar (x ∷ [])
+  escape : {x : ℕ} → Letter x → JsonChar (0x5C ∷ x ∷ [])
+  unicode : {a b c d : ℕ} → HexDigit a → HexDigit b → HexDigit c → HexDigit d → JsonChar (0x5C ∷ 0x75 ∷ a ∷ b ∷ c ∷ d ∷ [])
 
-pub data String : List ℕ → Type 0 where
-  quoted : {w : List ℕ} → Star Char w → String (0x22 ∷ w ++ 0x22 ∷ [])
+pub data JsonString : List ℕ → Type 0 where
+  quoted : {w : List ℕ} → Star JsonChar w → JsonString (0x22 ∷ w ++ 0x22 ∷ [])
 
 -- ---- section 3: the values that hold no others, with their kinds in a row
 
 pub data Simple : Type 0 where
   nothing falsity truth numeral text : Simple
 
-abbrev pub kindOf : Simple → ℕ
-kindOf nothing = 1
-kindOf falsity = 2
-kindOf truth = 3
-kindOf numeral = 4
-kindOf text = 5
+abbrev pub simpleKind : Simple → ℕ
+simpleKind nothing = 1
+simpleKind falsity = 2
+simpleKind truth = 3
+simpleKind numeral = 4
+simpleKind text = 5
 
-abbrev pub Written : Simple → List ℕ → Type 0
-Written nothing = Exactly (bytes "null")
-Written falsity = Exactly (bytes "false")
-Written truth = Exactly (bytes "true")
-Written numeral = Number
-Written text = String
+abbrev pub IsSimple : Simple → List ℕ → Type 0
+IsSimple nothing = Exactly (bytes "null")
+IsSimple falsity = Exactly (bytes "false")
+IsSimple truth = Exactly (bytes "true")
+IsSimple numeral = Number
+IsSimple text = JsonString
 
 -- ---- sections 2 to 5: values, arrays and objects
 
@@ -125,11 +125,11 @@ pub data Part : Type 0 where
 
 -- the bytes are such a part
 pub data Is : Part → List ℕ → Type 0 where
-  simple : {w : List ℕ} (k : Simple) → Written k w → Is value w
+  simple : {w : List ℕ} (k : Simple) → IsSimple k w → Is value w
   empty : {s : List ℕ} (b : Bracket) → Ws s → Is value (opening b ∷ s ++ closing b ∷ [])
   full : {s w : List ℕ} (b : Bracket) → Ws s → Is (items b) w → Is value (opening b ∷ s ++ (w ++ closing b ∷ []))
   element : {w : List ℕ} → Is value w → Is (item square) w
-  member : {m s r w : List ℕ} → String m → Ws s → Ws r → Is value w → Is (item curly) (m ++ (s ++ 0x3A ∷ (r ++ w)))
+  member : {m s r w : List ℕ} → JsonString m → Ws s → Ws r → Is value w → Is (item curly) (m ++ (s ++ 0x3A ∷ (r ++ w)))
   one : {v s : List ℕ} {b : Bracket} → Is (item b) v → Ws s → Is (items b) (v ++ s)
   comma : {v s r w : List ℕ} {b : Bracket} → Is (item b) v → Ws s → Ws r → Is (items b) w → Is (items b) (v ++ (s ++ 0x2C ∷ (r ++ w)))
 
@@ -140,7 +140,7 @@ pub data JsonText : List ℕ → Type 0 where
 
 -- the values of a part whose first byte is at a place, each from its own first byte to its last; a value that is no member has the name that is handed in
 unfoldable pub treeOf : {a : Part} {w : List ℕ} → Is a w → (ns ne at : ℕ) → Forest
-treeOf (simple {w} k l) ns ne at = leaf (kindOf k) ns ne at (at + length w) none
+treeOf (simple {w} k l) ns ne at = leaf (simpleKind k) ns ne at (at + length w) none
 treeOf (empty {s} b p) ns ne at = node b ns ne at (at + length s + 2) none none
 treeOf (full {s} {w} b p d) ns ne at = node b ns ne at (at + length s + length w + 2) (treeOf d 0 0 (at + 1 + length s)) none
 treeOf (element d) ns ne at = treeOf d 0 0 at

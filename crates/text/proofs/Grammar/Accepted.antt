@@ -15,7 +15,7 @@ use Rattle.text.specs.Tree.{Forest}
 use Rattle.text.specs.Reader.{Read, good, bad}
 use Rattle.text.specs.Whole.{endOf, readOf}
 use Rattle.text.specs.Grammar.{JsonText, rootOf, value}
-use Rattle.text.specs.Seats.{Head, Seat, top, In}
+use Rattle.text.specs.Seats.{Head, Seat, top, Sits}
 use Rattle.text.specs.Meaning.{Accepts}
 use Rattle.text.specs.declared.Refusal.{Refusal}
 use Rattle.text.proofs.Induction.{read-accepted}
@@ -62,7 +62,7 @@ module _ (L : Limits) (t : List ℕ) where
   -- what is answered of a text of the grammar: its value is read and the text ends behind it, or a value has something wrong, which is the answer
   pub data Answered (f : Forest) : Read → Type 0 where
     ended : (end : ℕ) → skip t end ≡ length t → Answered f (good f end)
-    stopped : {d : Seat} {h : Head} {m x : ℕ} {r : Refusal} → In top f d h → Wrong L t d h m x → Numbered m x r → Answered f (bad r)
+    stopped : {d : Seat} {h : Head} {m x : ℕ} {r : Refusal} → Sits top f d h → Wrong L t d h m x → Numbered m x r → Answered f (bad r)
 
   pub answered : (d : JsonText t) → Answered (rootOf d) (root L t)
   answered d = let m = self L t (root L t) refl d in go (root L t) (root-within L t) (m .end) (m .is) (m .ends)

@@ -19,7 +19,7 @@ use Rattle.text.specs.Spelling.{Short, FourDigits, four, Spell, raw, sho
 use Rattle.text.specs.Spelling as S
 use Rattle.text.specs.Broken.{HexDigits, Cut, control, ended, letter, digit, Aims, high, escape}
 use Rattle.text.specs.Abnf.{Star}
-use Rattle.text.specs.Grammar.{Unescaped, HexDigit, Letter, Char, String, quoted}
+use Rattle.text.specs.Grammar.{Unescaped, HexDigit, Letter, JsonChar, JsonString, quoted}
 use Rattle.text.specs.declared.Token.{Token}
 use Rattle.text.specs.declared.Token.the-variants.{End, No2, No3}
 use Rattle.text.proofs.Spelling.Codes.{by-utf8}
@@ -101,7 +101,7 @@ abbrev Plains : List ℕ → Type 0
 Plains [] = Unit {0}
 Plains (x ∷ w) = Plain x × Plains w
 
-utf8-plain : (c : ℕ) → S.Unescaped c → Plains (utf8 c)
+utf8-plain : (c : ℕ) → S.Bare c → Plains (utf8 c)
 utf8-plain c u =
     let h = u .no-control in
     let k = u .no-quote in
@@ -110,48 +110,48 @@ utf8-plain c u =
 
 -- ---- what spells is a string of the grammar ----
 
-plain-chars : (w : List ℕ) → Plains w → Star Char w
+plain-chars : (w : List ℕ) → Plains w → Star JsonChar w
 plain-chars [] p = Star.none
-plain-chars (x ∷ w) p = Star.more (Char.unescaped (plain-unescaped x (p .0))) (plain-chars w (p .1))
+plain-chars (x ∷ w) p = Star.more (JsonChar.unescaped (plain-unescaped x (p .0))) (plain-chars w (p .1))
 
 pub star-join : {L : List ℕ → Type 0} {u v : List ℕ} → Star L u → Star L v → Star L (u ++ v)
 star-join Star.none d = d
 star-join {v} (Star.more {u = w} {v = x} c e) d = rw (append-assoc w x v) (Star.more c (star-join e d))
 
-four-chars : {v : List ℕ} {c : ℕ} → FourDigits v c → Star Char (92 ∷ 117 ∷ v)
-four-chars (four a b c d) = Star.more (Char.unicode (hex-digit a) (hex-digit b) (hex-digit c) (hex-digit d)) Star.none
+four-chars : {v : List ℕ} {c : ℕ} → FourDigits v c → Star JsonChar (92 ∷ 117 ∷ v)
+four-chars (four a b c d) = Star.more (JsonChar.unicode (hex-digit a) (hex-digit b) (hex-digit c) (hex-digit d)) Star.none
 
-spell-chars : {w : List ℕ} {c : ℕ} → Spell w c → Star Char w
+spell-chars : {w : List ℕ} {c : ℕ} → Spell w c → Star JsonChar w
 spell-chars (raw {c} g u) = plain-chars (utf8 c) (utf8-plain c u)
-spell-chars (short s) = Star.more (Char.escape (short-letter s)) Star.none
+spell-chars (short s) = Star.more (JsonChar.escape (short-letter s)) Star.none
 spell-chars (unit g d) = four-chars d
 spell-chars (pair {v} d h e k g) = star-join {u = 92 ∷ 117 ∷ v} (four-chars d) (four-chars e)
 
-pub spells-chars : {w cs : List ℕ} → Spells w cs → Star Char w
+pub spells-chars : {w cs : List ℕ} → Spells w cs → Star JsonChar w
 spells-chars Spells.none = Star.none
 spells-chars (Spells.more s d) = star-join (spell-chars s) (spells-chars d)
 
 -- the beginning of a character is completed
 record Completed (begun : List ℕ) : Type 0 where
   more : List ℕ
-  is : Star Char (begun ++ more)
+  is : Star JsonChar (begun ++ more)
 
 zero-digit : HexDigit 48
 zero-digit = HexDigit.decimal {x = 48} (omega arith)
 
 digits-completed : {w : List ℕ} → HexDigits w → length w < 4 → Completed (92 ∷ 117 ∷ w)
-digits-completed HexDigits.none h = record { more = 48 ∷ 48 ∷ 48 ∷ 48 ∷ []; is = Star.more (Char.unicode zero-digit zero-digit zero-digit zero-digit) Star.none }
-digits-completed (HexDigits.more a HexDigits.none) h = record { more = 48 ∷ 48 ∷ 48 ∷ []; is = Star.more (Char.unicode (hex-digit a) zero-digit zero-digit zero-digit) Star.none }
+digits-completed HexDigits.none h = record { more = 48 ∷ 48 ∷ 48 ∷ 48 ∷ []; is = Star.more (JsonChar.unicode zero-digit zero-digit zero-digit zero-digit) Star.none }
+digits-completed (HexDigits.more a HexDigits.none) h = record { more = 48 ∷ 48 ∷ 48 ∷ []; is = Star.more (JsonChar.unicode (hex-digit a) zero-digit zero-digit zero-digit) Star.none }
 digits-completed (HexDigits.more a (HexDigits.more b HexDigits.none)) h =
-    record { more = 48 ∷ 48 ∷ []; is = Star.more (Char.unicode (hex-digit a) (hex-digit b) zero-digit zero-digit) Star.none }
+    record { more = 48 ∷ 48 ∷ []; is = Star.more (JsonChar.unicode (hex-digit a) (hex-digit b) zero-digit zero-digit) Star.none }
 digits-completed (HexDigits.more a (HexDigits.more b (HexDigits.more c HexDigits.none))) h =
-    record { more = 48 ∷ []; is = Star.more (Char.unicode (hex-digit a) (hex-digit b) (hex-digit c) zero-digit) Star.none }
+    record { more = 48 ∷ []; is = Star.more (JsonChar.unicode (hex-digit a) (hex-digit b) (hex-digit c) zero-digit) Star.none }
 digits-completed (HexDigits.more a (HexDigits.more b (HexDigits.more c (HexDigits.more d e)))) h = absurd (omega arith)
 
 cut-completed : {begun : List ℕ} {b : ℕ} → Cut begun b → Completed begun
 cut-completed (control h) = record { more = []; is = Star.none }
 cut-completed (ended h) = record { more = []; is = Star.none }
-cut-completed (letter n s) = record { more = 34 ∷ []; is = Star.more (Char.escape Letter.quotation-mark) Star.none }
+cut-completed (letter n s) = record { more = 34 ∷ []; is = Star.more (JsonChar.escape Letter.quotation-mark) Star.none }
 cut-completed (digit d h n) = digits-completed d h
 
 -- ---- what is told ----
@@ -182,7 +182,7 @@ module _ (t : List ℕ) where
     here = inside t at (omega arith)
 
     -- the beginning of a string: its quote, what spells, and the beginning of a character
-    begun-string : {from p e : ℕ} → SpellsTo t (at + 1) from → (w : List ℕ) → Star Char w → Like t e from w → at + 1 ≤ p → e ≤ length t → Begun t String at p e
+    begun-string : {from p e : ℕ} → SpellsTo t (at + 1) from → (w : List ℕ) → Star JsonChar w → Like t e from w → at + 1 ≤ p → e ≤ length t → Begun t JsonString at p e
     begun-string s w d l k i =
         record {
           word = 34 ∷ (s .bytes ++ w) ++ 34 ∷ [];
@@ -192,7 +192,7 @@ module _ (t : List ℕ) where
           within = i;
         }
 
-    cut-begun : {p : ℕ} → Refused2 t (at + 1) p → Begun t String at p p
+    cut-begun : {p : ℕ} → Refused2 t (at + 1) p → Begun t JsonString at p p
     cut-begun {p} a =
         let c = a .cut in
         let m = cut-completed (c .cut) in
@@ -201,11 +201,11 @@ module _ (t : List ℕ) where
         begun-string (a .spells) (c .begun ++ m .more) (m .is) (like-more (m .more) (like-stands b)) (omega (arith, stands-to s, stands-to b))
         (stands-inside b (stands-inside s (omega (arith, here))))
 
-    aim-begun : {p : ℕ} {l : List ℕ} → SpellsTo t (at + 1) p → Aims l → drop p t ≡ l → Begun t String at p (p + 1)
+    aim-begun : {p : ℕ} {l : List ℕ} → SpellsTo t (at + 1) p → Aims l → drop p t ≡ l → Begun t JsonString at p (p + 1)
     aim-begun {p} s (high {b} {r} lo hi) e =
         let x = split-stands t p (b ∷ []) r e in
         let k = spelled-stands s in
-        begun-string s (b ∷ []) (Star.more (Char.unescaped (Unescaped.high {x = b} (omega arith))) Star.none) (like-stands x) (omega (arith, stands-to k))
+        begun-string s (b ∷ []) (Star.more (JsonChar.unescaped (Unescaped.high {x = b} (omega arith))) Star.none) (like-stands x) (omega (arith, stands-to k))
         (stands-inside x (stands-inside k (omega (arith, here))))
     aim-begun {p} s (escape {w} d r) e =
         let x = split-stands t p (92 ∷ []) (117 ∷ w ++ r) e in
@@ -213,21 +213,21 @@ module _ (t : List ℕ) where
         begun-string s (92 ∷ 117 ∷ w) (four-chars d) (like-more (117 ∷ w) (like-stands x)) (omega (arith, stands-to k))
         (stands-inside x (stands-inside k (omega (arith, here))))
 
-    closed-string : {e : ℕ} → Closed t (at + 1) e → Standing t String at e
+    closed-string : {e : ℕ} → Closed t (at + 1) e → Standing t JsonString at e
     closed-string {e} a =
         let h = a .after in
         let z : Stands t (e - 1) (e - 1 + 1) (34 ∷ []) = one-stands (a .quote) (omega arith) in
         let o : e - 1 + 1 ≡ e = omega arith in
         record { word = 34 ∷ partOf t (at + 1) (e - 1) ++ 34 ∷ []; is = quoted (spells-chars (a .spelled)); stands = Stands.next q here (stands-join (closed-stands a) (rw o at z)) }
 
-    told-string : (k : Token) → Answers t (at + 1) k → Said t String at k
+    told-string : (k : Token) → Answers t (at + 1) k → Said t JsonString at k
     told-string (End e) a = closed-string a
     told-string (No2 p) a = cut-begun a
     told-string (No3 p) a = aim-begun (a .spells) (a .ill .aims) refl
 
-  quoted-told : (at : ℕ) → at ≤ length t → Said t String at (quotedAt t at)
+  quoted-told : (at : ℕ) → at ≤ length t → Said t JsonString at (quotedAt t at)
   quoted-told at i =
-      if-equal (Said t String at) (byteAt t at) 34 (λ q. told-string at q (stringEnd t (at + 1)) (answers t (at + 1)))
+      if-equal (Said t JsonString at) (byteAt t at) 34 (λ q. told-string at q (stringEnd t (at + 1)) (answers t (at + 1)))
       (λ q. record { word = 34 ∷ 34 ∷ []; is = quoted Star.none; like = like-none (34 ∷ 34 ∷ []) (le-refl at); later = le-refl at; within = i })
 
 -- ---- what follows ----
@@ -235,7 +235,7 @@ module _ (t : List ℕ) where
 -- the rest of a string that the text is like as far as q: from i to its closing quote at e, and then s
 record Rest (t : List ℕ) (q : ℕ) (s : List ℕ) (e i : ℕ) : Type 0 where
   word : List ℕ
-  is : Star Char word
+  is : Star JsonChar word
   like : Like t q i (word ++ 34 ∷ s)
   size : i + length word ≡ e
 
@@ -255,14 +255,14 @@ abbrev Seen : (q e to : ℕ) → Type 0
 Seen q e to = (j : ℕ) → j < to → j ≤ e → j < q
 
 module _ {t : List ℕ} {q : ℕ} {s : List ℕ} {e : ℕ} where
-  ahead : {i : ℕ} {w : List ℕ} → Star Char w → Like t q i (w ++ 34 ∷ s) → i + length w ≡ e → Ahead t q s e i
+  ahead : {i : ℕ} {w : List ℕ} → Star JsonChar w → Like t q i (w ++ 34 ∷ s) → i + length w ≡ e → Ahead t q s e i
   ahead {i} Star.none l n = closing (omega arith) (like-here l)
-  ahead {i} (Star.more {v} (Char.unescaped {x} u) d) l n =
+  ahead {i} (Star.more {v} (JsonChar.unescaped {x} u) d) l n =
       plain (λ k. rw (like-here l k) (unescaped-plain u)) (record { word = v; is = d; like = like-tail l; size = omega arith })
-  ahead {i} (Star.more {v} (Char.escape {x} u) d) l n =
+  ahead {i} (Star.more {v} (JsonChar.escape {x} u) d) l n =
       let two : i + 1 + 1 ≡ i + 2 = omega arith in
       escaped (like-here l) (λ k. rw (like-here (like-tail l) k) u) (record { word = v; is = d; like = rw two at (like-tail (like-tail l)); size = omega arith })
-  ahead {i} (Star.more {v} (Char.unicode {a} {b} {c} {d} x y z o) r) l n =
+  ahead {i} (Star.more {v} (JsonChar.unicode {a} {b} {c} {d} x y z o) r) l n =
       let l1 = like-tail (like-tail l) in
       let l2 = like-tail l1 in
       let l3 = like-tail l2 in
@@ -354,7 +354,7 @@ module _ {t : List ℕ} {q : ℕ} {s : List ℕ} {e : ℕ} where
       let g = digit-hex (c .1 p (omega arith) (omega arith) (k p (omega arith) (omega (arith, c .0 .size)))) in
       n (g .0) (g .1)
 
-string-follow : (t : List ℕ) (q at : ℕ) (w s : List ℕ) → String w → Like t q at (w ++ s) → Goes q (at + length w) (quotedAt t at)
+string-follow : (t : List ℕ) (q at : ℕ) (w s : List ℕ) → JsonString w → Like t q at (w ++ s) → Goes q (at + length w) (quotedAt t at)
 string-follow t q at w s (quoted {w = v} d) l =
     if-equal (Goes q (at + suc (length (v ++ 34 ∷ [])))) (byteAt t at) 34 (λ b. go (stringEnd t (at + 1)) (answers t (at + 1)))
     (λ b. let k = like-stuck l b in record { word = omega arith; answer = k })
@@ -392,7 +392,7 @@ string-follow t q at w s (quoted {w = v} d) l =
         (λ k. let r = over-spells (a .spells .spelled) (spelled-stands t (a .spells)) (λ j h m. omega arith) rest in inr (omega (arith, size, r .size)))
         (λ k. inl (omega (arith, size)))
 
-pub string-exact : (t : List ℕ) → Exact t String (λ z. Unit {0}) (quotedAt t)
+pub string-exact : (t : List ℕ) → Exact t JsonString (λ z. Unit {0}) (quotedAt t)
 string-exact t =
     record { some-word = 34 ∷ 34 ∷ []; has = quoted Star.none; told = λ at i. quoted-told t at i; follow = λ q at w s i d o l. string-follow t q at w s d l }
 
@@ -403,5 +403,5 @@ bad-later t at x =
     (λ b e. omega (arith, no3-ill t (at + 1) x e .spells .place))
     (λ b e. let z : _≡_ {A = ℕ} 0 1 = cc in absurd (omega arith))
 
-pub string-long : {w : List ℕ} → String w → 2 ≤ length w
+pub string-long : {w : List ℕ} → JsonString w → 2 ≤ length w
 string-long (quoted {w} d) = omega (arith, length-append w (34 ∷ []))
