@@ -10,6 +10,7 @@ use Prim.Native.Nat.{ℕ, suc, _+_, _-_, max}
 use mathlib.Core.List.{List, [], _∷_, _++_}
 use lib.ListN.{length}
 use Rattle.text.specs.Text.{bytes}
+use Rattle.text.specs.Spelling.{FourDigits, Short}
 use Rattle.text.specs.Abnf.{Byte, Between, Just, Exactly, Seq, Or, Opt, Star}
 use Rattle.text.specs.Tree.{Bracket, square, curly, closing, Forest, none, leaf, node, join}
 
@@ -58,7 +59,7 @@ Exp = Seq (Byte E) (Seq (Opt (Byte Sign)) Digits)
 abbrev pub Number : List ℕ → Type 0
 Number = Seq (Seq (Seq (Opt (Just 0x2D)) Int) (Opt Frac)) (Opt Exp)
 
--- ---- section 7: string = quotation-mark *char quotation-mark
+-- ---- section 7: strings; the letters of escapes and HEXDIG are those of specs/Spelling.antt
 
 -- unescaped = %x20-21 / %x23-5B / %x5D-10FFFF; of a code point above 7F the grammar takes any bytes, since UTF-8 is asked apart (specs/Spelling.antt)
 pub data Unescaped : ℕ → Type 0 where
@@ -66,29 +67,13 @@ pub data Unescaped : ℕ → Type 0 where
   middle : {x : ℕ} → Between 0x23 0x5B x → Unescaped x
   high : {x : ℕ} → Between 0x5D 0xFF x → Unescaped x
 
--- HEXDIG, whose letters may be small or capital
-pub data HexDigit : ℕ → Type 0 where
-  decimal : {x : ℕ} → Between 0x30 0x39 x → HexDigit x
-  capital : {x : ℕ} → Between 0x41 0x46 x → HexDigit x
-  small : {x : ℕ} → Between 0x61 0x66 x → HexDigit x
-
--- what may follow a backslash, u aside
-pub data Letter : ℕ → Type 0 where
-  quotation-mark : Letter 0x22
-  reverse-solidus : Letter 0x5C
-  solidus : Letter 0x2F
-  backspace : Letter 0x62
-  form-feed : Letter 0x66
-  line-feed : Letter 0x6E
-  return : Letter 0x72
-  tab : Letter 0x74
-
--- char = unescaped / escape ( %x22 / .. / %x74 / %x75 4HEXDIG )
+-- char = unescaped / escape ( %x22 / .. / %x74 / %x75 4HEXDIG ); what an escape stands for is not asked here
 pub data JsonChar : List ℕ → Type 0 where
   unescaped : {x : ℕ} → Unescaped x → JsonChar (x ∷ [])
-  escape : {x : ℕ} → Letter x → JsonChar (0x5C ∷ x ∷ [])
-  unicode : {a b c d : ℕ} → HexDigit a → HexDigit b → HexDigit c → HexDigit d → JsonChar (0x5C ∷ 0x75 ∷ a ∷ b ∷ c ∷ d ∷ [])
+  escape : {x code : ℕ} → Short x code → JsonChar (0x5C ∷ x ∷ [])
+  unicode : {w : List ℕ} {code : ℕ} → FourDigits w code → JsonChar (0x5C ∷ 0x75 ∷ w)
 
+-- string = quotation-mark *char quotation-mark
 pub data JsonString : List ℕ → Type 0 where
   quoted : {w : List ℕ} → Star JsonChar w → JsonString (0x22 ∷ w ++ 0x22 ∷ [])
 

@@ -125,19 +125,28 @@ memberOf L t value done at n =
 
 -- ---- the value at a place, where so many containers may be opened
 
+-- what stands inside an array, from after its bracket on, given the reader of its elements, which have no names
+abbrev pub insideArray : List ℕ → (value : Reader) → (at n : ℕ) → Read
+insideArray t value = insideOf t (λ done. value 0 0) (closing square)
+
+-- what stands inside an object, from after its brace on, given the reader of its members' values
+abbrev pub insideObject : Limits → List ℕ → (value : Reader) → (at n : ℕ) → Read
+insideObject L t value = insideOf t (memberOf L t value) (closing curly)
+
+-- the value at a place: in a container that is opened, one fewer may be opened
 unfoldable pub valueAt : Limits → List ℕ → (depth : ℕ) → Reader
 valueAt L t zero = valueWith L t deep deep
 valueAt L t (suc depth) =
-    valueWith L t
-    (container L square (insideOf t (λ done. valueAt L t depth 0 0) (closing square)))
-    (container L curly (insideOf t (memberOf L t (valueAt L t depth)) (closing curly)))
+    let value = valueAt L t depth in
+    valueWith L t (container L square (insideArray t value)) (container L curly (insideObject L t value))
 
--- the same by its parts, as the functions that call each other read them
+-- Its parts, by which contracts speak of them: what is inside an array or an object in which so many containers may be opened, and an array or an
+-- object where so many may be. A value is its kind's part: `value-parts` (proofs/Laws.antt).
 unfoldable pub elementsAt : Limits → List ℕ → (depth at n : ℕ) → Read
-elementsAt L t depth = insideOf t (λ done. valueAt L t depth 0 0) (closing square)
+elementsAt L t depth = insideArray t (valueAt L t depth)
 
 unfoldable pub membersAt : Limits → List ℕ → (depth at n : ℕ) → Read
-membersAt L t depth = insideOf t (memberOf L t (valueAt L t depth)) (closing curly)
+membersAt L t depth = insideObject L t (valueAt L t depth)
 
 unfoldable pub arrayAt : Limits → List ℕ → (depth : ℕ) → Reader
 arrayAt L t zero = deep
