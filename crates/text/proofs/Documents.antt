@@ -21,13 +21,13 @@ use Rattle.text.specs.Limits.{Limits}
 use Rattle.text.specs.Strings.{decode, nameOf, contentOf}
 use Rattle.text.specs.Tree.{Bracket, square, curly, Forest, leaf, node, size, join}
 use Rattle.text.specs.Tree as T
-use Rattle.text.specs.Firsts.{HasFirst, kindAt, nameStart, nameEnd, startAt, endAt, insideAt, belowAt, restAt, firstOf, Kinds}
+use Rattle.text.specs.Firsts.{HasFirst, kindAt, nameStart, nameEnd, startAt, endAt, insideAt, belowAt, restAt, Kinds}
 use Rattle.text.specs.Reader.{good, named, valueAt}
 use Rattle.text.specs.Tokens.{skip}
 use Rattle.text.specs.Whole.{readOf}
 use Rattle.text.specs.Doc.{Name, Doc, scalar, array, object, Members, empty, member, boxed, labelAt, membersOf, docOf, kindOf, tokenOf, below, countOf, countAll, property, seek}
-use Rattle.text.specs.Distinct.{Distinct, DistinctEntries, DistinctMembers, DistinctIn}
-use Rattle.text.proofs.Standing.{first-and-rest}
+use Rattle.text.specs.Distinct.{Distinct, DistinctEntries, DistinctMembers}
+use Rattle.text.proofs.Standing.{firstOf, first-and-rest}
 use Rattle.text.proofs.Induction.{Rules, value-induction, read-accepted}
 
 module _ (t : List ℕ) where
@@ -207,6 +207,11 @@ module _ (t : List ℕ) where
 record One (L : Limits) (t : List ℕ) (ns ne : ℕ) (f : Forest) : Type 0 where
   is : (label : List ℕ) × (membersOf t f ≡ member (nameOf t ns ne) label (docOf t f) empty)
   distinct : L .unique ≡ true → Distinct (docOf t f)
+
+-- what stands inside a container has distinct names
+abbrev pub DistinctIn : Bracket → Members → Type 0
+DistinctIn square ms = DistinctEntries ms
+DistinctIn curly ms = DistinctMembers ms
 
 box-distinct : (b : Bracket) (ms : Members) → DistinctIn b ms → Distinct (boxed b ms)
 box-distinct square ms h = h

@@ -18,9 +18,15 @@ use Rattle.laws.specs.Lists.{filled}
 use Rattle.text.specs.Limits.{rowWords}
 use Rattle.text.specs.Tree.{Bracket, square, curly, kindIn, Forest, none, leaf, node, size, rowsOf, startsOf}
 use Rattle.text.specs.Standing.{Stands, StandsTo}
-use Rattle.text.specs.Firsts.{HasFirst, kindAt, nameStart, nameEnd, startAt, endAt, insideAt, belowAt, restAt, firstOf, Kinds}
+use Rattle.text.specs.Firsts.{HasFirst, kindAt, nameStart, nameEnd, startAt, endAt, insideAt, belowAt, restAt, Kinds}
 use Rattle.text.specs.Reader.{good}
 use Rattle.text.specs.Whole.{tableOf}
+
+-- the first of some values alone, with what is inside it
+abbrev pub firstOf : Forest → Forest
+firstOf none = none
+firstOf (leaf kind ns ne from to rest) = leaf kind ns ne from to none
+firstOf (node b ns ne from to inside rest) = node b ns ne from to inside none
 
 -- ---- lengths ----
 

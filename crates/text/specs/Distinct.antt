@@ -1,7 +1,6 @@
 -- No two members of one object have one name, at any depth, also inside arrays. Assumes nothing: these are definitions.
 use mathlib.Core.Path.{_≡_}
 use mathlib.Core.Option.{none}
-use Rattle.text.specs.Tree.{Bracket, square, curly}
 use Rattle.text.specs.Doc.{Doc, scalar, array, object, Members, empty, member, seek}
 
 abbrev mutual
@@ -18,8 +17,3 @@ abbrev mutual
   pub DistinctMembers : Members → Type 0
   DistinctMembers empty = Prim.Unit {0}
   DistinctMembers (member n label d ms) = (seek n ms ≡ none) × Distinct d × DistinctMembers ms
-
--- what stands inside a container
-abbrev pub DistinctIn : Bracket → Members → Type 0
-DistinctIn square ms = DistinctEntries ms
-DistinctIn curly ms = DistinctMembers ms

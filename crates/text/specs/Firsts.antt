@@ -52,12 +52,6 @@ restAt none = none
 restAt (leaf kind ns ne from to rest) = rest
 restAt (node b ns ne from to inside rest) = rest
 
--- it alone, with what is inside it
-abbrev pub firstOf : Forest → Forest
-firstOf none = none
-firstOf (leaf kind ns ne from to rest) = leaf kind ns ne from to none
-firstOf (node b ns ne from to inside rest) = node b ns ne from to inside none
-
 -- a kind of a value that holds no others
 pub record ScalarKind (kind : ℕ) : Type 0 where
   pub least : 1 ≤ kind

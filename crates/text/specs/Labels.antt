@@ -2,7 +2,6 @@
 use Prim.Native.Nat.{ℕ}
 use mathlib.Core.Path.{_≡_}
 use mathlib.Core.List.{List, [], _∷_, _++_}
-use Rattle.text.specs.Tree.{Bracket, square, curly}
 use Rattle.text.specs.Doc.{Name, Doc, scalar, array, object, Members, empty, member}
 use Rattle.text.specs.Spelling.{Spells, utf8s}
 
@@ -35,13 +34,3 @@ module _ (N : Name → (label : List ℕ) → Type 0) (T : (kind : ℕ) → (tok
     pub EveryMember : Members → Type 0
     EveryMember empty = Prim.Unit {0}
     EveryMember (member n label d ms) = N n label × Every d × EveryMember ms
-
-  -- what stands inside a container
-  abbrev pub EveryIn : Bracket → Members → Type 0
-  EveryIn square ms = EveryEntry ms
-  EveryIn curly ms = EveryMember ms
-
--- the name of a value inside a container: in an array it has none
-abbrev pub LabelIn : (N : Name → (label : List ℕ) → Type 0) → Bracket → Name → (label : List ℕ) → Type 0
-LabelIn N square n label = Unlabelled n label
-LabelIn N curly n label = N n label

@@ -21,11 +21,11 @@ use Rattle.text.specs.Grammar.{Number, JsonString, Simple, nothing, nume
 use Rattle.text.specs.Grammar as G
 use Rattle.text.specs.Doc.{Name, Doc, scalar, array, object, Members, docOf}
 use Rattle.text.specs.Writing.{written}
-use Rattle.text.specs.Labels.{Labelled, Every, EveryIn, LabelIn}
+use Rattle.text.specs.Labels.{Labelled, Every}
 use Rattle.text.specs.Writable.{Lexeme, Writable}
 use Rattle.text.specs.Seats.{top}
 use Rattle.text.proofs.Induction.{read-accepted}
-use Rattle.text.proofs.Labels.{quoted-part, labels-said, every-box, every-none, every-more, every-parts}
+use Rattle.text.proofs.Labels.{LabelIn, EveryIn, quoted-part, labels-said, every-box, every-none, every-more, every-parts}
 use Rattle.text.proofs.Promise.{promised}
 use Rattle.text.proofs.Grammar.Stands.{stands-to, stands-inside}
 use Rattle.text.proofs.Grammar.Prefixes.{stands-drop}

@@ -20,12 +20,12 @@ use Rattle.text.specs.Seats.{Head, Seat, Sits, Named}
 use Rattle.text.specs.Placed.{Quoted}
 use Rattle.text.specs.Grammar.{Part, value, item, items, Is, simple, empty, full, element, member, one, comma, JsonText, json-text, treeOf, rootOf, depthOf}
 use Rattle.text.specs.Doc.{Name, Doc, Members, boxed, labelAt, membersOf, seek}
-use Rattle.text.specs.Distinct.{Distinct, DistinctIn}
-use Rattle.text.specs.Labels.{Labelled, EveryIn, LabelIn}
+use Rattle.text.specs.Distinct.{Distinct}
+use Rattle.text.specs.Labels.{Labelled}
 use Rattle.text.specs.Writable.{Lexeme, Writable}
 use Rattle.text.specs.Meaning.{Accepts}
-use Rattle.text.proofs.Labels.{every-inside, every-parts}
-use Rattle.text.proofs.Documents.{label-part, seek-name, seek-later}
+use Rattle.text.proofs.Labels.{EveryIn, LabelIn, every-inside, every-parts}
+use Rattle.text.proofs.Documents.{DistinctIn, label-part, seek-name, seek-later}
 use Rattle.text.proofs.Grammar.Stands.{clash}
 use Rattle.text.proofs.Grammar.Trees.{join-none, join-assoc}
 use Rattle.text.proofs.Grammar.Wrong.{no-string}
