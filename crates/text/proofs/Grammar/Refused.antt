@@ -11,7 +11,6 @@ use borrow.Author.Tests.{lt-ltb}
 use lib.ListN.{length, take, drop, take-append-drop, length-append, List·getD-eq-default}
 use lib.Seq.{length-take-le, take-take}
 use Rattle.laws.specs.Bounds.{AllBelow}
-use Rattle.laws.proofs.Bounds.{below-at}
 use Rattle.laws.proofs.Branches.{if-less, if-equal}
 use Rattle.text.specs.Limits.{Limits}
 use Rattle.text.specs.Text.{byteAt}
@@ -36,7 +35,7 @@ use Rattle.text.proofs.Grammar.Meets.{numberOf, numbered-has, Near, rea
 use Rattle.text.proofs.Grammar.Rules.{wrong-breaks, breaks-wrong, wrong-number}
 use Rattle.text.proofs.Grammar.Calm.{In-time, in-time}
 use Rattle.text.proofs.Grammar.Wholes.{root, root-told, self, other, other-calm, viable-begins, value-inside, read-inside, read-begins, read-text}
-use Rattle.text.proofs.Grammar.Accepted.{kept-accepts}
+use Rattle.text.proofs.Grammar.Accepted.{kept-accepts, at-end}
 
 -- a refusal that is in time
 time-bad : {m x : ℕ} {R : Read} {r : Refusal} → In-time m x R → R ≡ bad r → rank (numberOf r) (placeOf (bad r)) ≤ rank m x
@@ -179,8 +178,7 @@ means L t small short =
     go (good f to) e p =
         if-equal (Means L t) (byteAt t (skip t to)) 256
         (λ z.
-        let i = read-inside L t p in
-        let o : skip t to ≡ length t = by-order (skip t to) (length t) (λ l. absurd (omega (arith, below-at 256 t small (skip t to) 256 l))) (λ l. omega arith) in
+        let o = at-end L t small (skip t to) (read-inside L t p) z in
         let d = read-text L t p o in
         (kept-accepts L t short (p .kept) (d .0) (d .1), o))
         (λ z. record { n = 2; p = skip t to; is = refl; first = unended L t f to e p z; each = λ h. absurd (omega arith) })
