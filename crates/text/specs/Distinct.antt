@@ -4,16 +4,18 @@ use mathlib.Core.Option.{none}
 use Rattle.text.specs.Doc.{Doc, scalar, array, object, Members, empty, member, seek}
 
 abbrev mutual
+  -- in a document
   pub Distinct : Doc → Type 0
   Distinct (scalar kind token) = Prim.Unit {0}
   Distinct (array ms) = DistinctEntries ms
   Distinct (object ms) = DistinctMembers ms
 
-  -- the entries of an array have no names
+  -- in the entries of an array, which have no names themselves
   pub DistinctEntries : Members → Type 0
   DistinctEntries empty = Prim.Unit {0}
   DistinctEntries (member n label d ms) = Distinct d × DistinctEntries ms
 
+  -- in the members of an object, each of which has a name that no later one has
   pub DistinctMembers : Members → Type 0
   DistinctMembers empty = Prim.Unit {0}
   DistinctMembers (member n label d ms) = (seek n ms ≡ none) × Distinct d × DistinctMembers ms

@@ -41,14 +41,17 @@ pub data StringAt (h : Head) : (j : ℕ) → Type 0 where
 -- the value h, which stands at the seat d, breaks one of the rules 3 to 6 at a place
 pub data ValueBreaks (L : Limits) (t : List ℕ) (d : Seat) (h : Head) : (number place : ℕ) → Type 0 where
   -- in a string that opens at j, behind characters that are spelled: bytes that aim at a character and spell none
-  character : {j p : ℕ} {codes : List ℕ} → StringAt h j → byteAt t j ≡ 34 → j < p → Spells (partOf t (j + 1) p) codes → Ill (drop p t) → ValueBreaks L t d h 3 p
-  -- a name, closed and spelled, that a member before it in its object has, both decoded; it counts whatever follows it
+  character : {j p : ℕ} {codes : List ℕ} → StringAt h j → byteAt t j ≡ 34 → j < p → Spells (partOf t (j + 1) p) codes → Ill (drop p t)
+      → ValueBreaks L t d h 3 p
+  -- a name, closed and spelled, that a member before it in its object has, both decoded; it counts whatever follows it. Nothing is asked of the
+  -- other name: if that does not spell, it breaks 3 at a smaller place, which comes first
   repeated : {p e : ℕ} → L .unique ≡ true → h .ns ≡ p + 1 → Quoted t (p + 1) e → Named t (nameOf t (p + 1) e) (d .beside) → ValueBreaks L t d h 4 p
   -- an array or object inside as many others as may be open at once
   deep : h .holds ≡ true → d .inside ≡ L .depth → ValueBreaks L t d h 5 (h .from)
   -- a value after as many others as there may be
   many : d .after ≡ L .values → ValueBreaks L t d h 6 (h .from)
 
+-- some value of the tree f breaks the rule n at p
 pub record TreeBreaks (L : Limits) (t : List ℕ) (f : Forest) (n p : ℕ) : Type 0 where
   pub seat : Seat
   pub head : Head
@@ -62,6 +65,7 @@ pub record Violated (L : Limits) (t : List ℕ) (n p : ℕ) : Type 0 where
   pub is : JsonText (take (p + 1) t ++ rest)
   pub broken : TreeBreaks L t (rootOf is) n p
 
+-- a fault of any of 2 to 6
 pub data FaultAt (L : Limits) (t : List ℕ) : (number place : ℕ) → Type 0 where
   grammar : {p : ℕ} → NotGrammar t p → FaultAt L t 2 p
   violated : {n p : ℕ} → Violated L t n p → FaultAt L t n p

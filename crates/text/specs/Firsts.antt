@@ -15,34 +15,37 @@ kindAt none = 0
 kindAt (leaf kind ns ne from to rest) = kind
 kindAt (node b ns ne from to inside rest) = kindIn b
 
--- where its name starts and ends, without quotes
+-- where its name starts, after the quote
 abbrev pub nameStart : Forest → ℕ
 nameStart none = 0
 nameStart (leaf kind ns ne from to rest) = ns
 nameStart (node b ns ne from to inside rest) = ns
 
+-- where its name ends, before the quote
 abbrev pub nameEnd : Forest → ℕ
 nameEnd none = 0
 nameEnd (leaf kind ns ne from to rest) = ne
 nameEnd (node b ns ne from to inside rest) = ne
 
--- where it starts and ends itself
+-- where it starts itself
 abbrev pub startAt : Forest → ℕ
 startAt none = 0
 startAt (leaf kind ns ne from to rest) = from
 startAt (node b ns ne from to inside rest) = from
 
+-- where it ends itself
 abbrev pub endAt : Forest → ℕ
 endAt none = 0
 endAt (leaf kind ns ne from to rest) = to
 endAt (node b ns ne from to inside rest) = to
 
--- what is inside it, and how many values that are
+-- what is inside it
 abbrev pub insideAt : Forest → Forest
 insideAt none = none
 insideAt (leaf kind ns ne from to rest) = none
 insideAt (node b ns ne from to inside rest) = inside
 
+-- how many values that are, the last word of its row
 abbrev pub belowAt : Forest → ℕ
 belowAt f = size (insideAt f)
 

@@ -14,19 +14,22 @@ use Rattle.text.specs.Spelling.{FourDigits, Short}
 use Rattle.text.specs.Abnf.{Byte, Between, Just, Exactly, Seq, Or, Opt, Star}
 use Rattle.text.specs.Tree.{Bracket, square, curly, closing, Forest, none, leaf, node, join}
 
--- ---- section 2: ws = *( %x20 / %x09 / %x0A / %x0D )
+-- ---- section 2: white space
 
+-- %x20 / %x09 / %x0A / %x0D
 pub data Blank : ℕ → Type 0 where
   space : Blank 0x20
   tab : Blank 0x09
   line-feed : Blank 0x0A
   return : Blank 0x0D
 
+-- ws = *( %x20 / %x09 / %x0A / %x0D )
 abbrev pub Ws : List ℕ → Type 0
 Ws = Star (Byte Blank)
 
--- ---- section 6: number = [ minus ] int [ frac ] [ exp ]
+-- ---- section 6: numbers
 
+-- DIGIT = %x30-39
 abbrev pub Digit : List ℕ → Type 0
 Digit = Byte (Between 0x30 0x39)
 
@@ -56,6 +59,7 @@ pub data Sign : ℕ → Type 0 where
 abbrev pub Exp : List ℕ → Type 0
 Exp = Seq (Byte E) (Seq (Opt (Byte Sign)) Digits)
 
+-- number = [ minus ] int [ frac ] [ exp ]
 abbrev pub Number : List ℕ → Type 0
 Number = Seq (Seq (Seq (Opt (Just 0x2D)) Int) (Opt Frac)) (Opt Exp)
 
@@ -77,11 +81,13 @@ pub data JsonChar : List ℕ → Type 0 where
 pub data JsonString : List ℕ → Type 0 where
   quoted : {w : List ℕ} → Star JsonChar w → JsonString (0x22 ∷ w ++ 0x22 ∷ [])
 
--- ---- section 3: the values that hold no others, with their kinds in a row
+-- ---- section 3: the values that hold no others
 
+-- null, false, true, a number, a string
 pub data Simple : Type 0 where
   nothing falsity truth numeral text : Simple
 
+-- their kinds in a row
 abbrev pub simpleKind : Simple → ℕ
 simpleKind nothing = 1
 simpleKind falsity = 2
@@ -89,6 +95,7 @@ simpleKind truth = 3
 simpleKind numeral = 4
 simpleKind text = 5
 
+-- the bytes are such a value
 abbrev pub IsSimple : Simple → List ℕ → Type 0
 IsSimple nothing = Exactly (bytes "null")
 IsSimple falsity = Exactly (bytes "false")
@@ -118,6 +125,7 @@ pub data Is : Part → List ℕ → Type 0 where
   one : {v s : List ℕ} {b : Bracket} → Is (item b) v → Ws s → Is (items b) (v ++ s)
   comma : {v s r w : List ℕ} {b : Bracket} → Is (item b) v → Ws s → Ws r → Is (items b) w → Is (items b) (v ++ (s ++ 0x2C ∷ (r ++ w)))
 
+-- JSON-text = ws value ws
 pub data JsonText : List ℕ → Type 0 where
   json-text : {s w r : List ℕ} → Ws s → Is value w → Ws r → JsonText (s ++ (w ++ r))
 

@@ -21,16 +21,18 @@ pub record Unlabelled (name : Name) (label : List ℕ) : Type 0 where
 -- N holds of every member's name and label, T of the kind and the token of every value that holds no others, at any depth
 module _ (N : Name → (label : List ℕ) → Type 0) (T : (kind : ℕ) → (token : List ℕ) → Type 0) where
   abbrev mutual
+    -- in a document
     pub Every : Doc → Type 0
     Every (scalar kind token) = T kind token
     Every (array ms) = EveryEntry ms
     Every (object ms) = EveryMember ms
 
-    -- the entries of an array have no names
+    -- in the entries of an array, which have no names
     pub EveryEntry : Members → Type 0
     EveryEntry empty = Prim.Unit {0}
     EveryEntry (member n label d ms) = Unlabelled n label × Every d × EveryEntry ms
 
+    -- in the members of an object
     pub EveryMember : Members → Type 0
     EveryMember empty = Prim.Unit {0}
     EveryMember (member n label d ms) = N n label × Every d × EveryMember ms

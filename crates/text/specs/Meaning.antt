@@ -16,6 +16,7 @@ use Rattle.text.specs.Seats.{Head, Seat, top, Sits, Named}
 pub record DistinctNames (t : List ℕ) (f : Forest) : Type 0 where
   pub new : (d : Seat) (h : Head) → Sits top f d h → 0 < h .ns → Named t (nameOf t (h .ns) (h .ne)) (d .beside) → ⊥
 
+-- the text t is accepted with the tree f
 pub record Accepts (L : Limits) (t : List ℕ) (f : Forest) : Type 0 where
   -- it is a text of the grammar, of which f is the tree
   pub derives : JsonText t

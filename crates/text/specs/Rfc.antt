@@ -14,6 +14,7 @@ use Rattle.text.specs.Grammar.{Ws, JsonString, Simple, IsSimple, opening
 abbrev pub mark : ℕ → List ℕ → List ℕ → List ℕ → List ℕ
 mark c a b w = a ++ c ∷ (b ++ w)
 
+-- the bytes are such a part
 pub data Rfc : Part → List ℕ → Type 0 where
   simple : {w : List ℕ} (k : Simple) → IsSimple k w → Rfc value w
   empty : {a b c d : List ℕ} (k : Bracket) → Ws a → Ws b → Ws c → Ws d → Rfc value (mark (opening k) a b (mark (closing k) c d []))
@@ -23,5 +24,6 @@ pub data Rfc : Part → List ℕ → Type 0 where
   one : {w : List ℕ} {k : Bracket} → Rfc (item k) w → Rfc (items k) w
   comma : {v a b w : List ℕ} {k : Bracket} → Rfc (item k) v → Ws a → Ws b → Rfc (items k) w → Rfc (items k) (v ++ mark 0x2C a b w)
 
+-- JSON-text = ws value ws
 pub data RfcText : List ℕ → Type 0 where
   json-text : {s w r : List ℕ} → Ws s → Rfc value w → Ws r → RfcText (s ++ (w ++ r))

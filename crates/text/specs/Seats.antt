@@ -16,9 +16,11 @@ pub record Head : Type 0 where
   pub from : ℕ
   pub to : ℕ
 
+-- of a value that holds no others
 abbrev pub leafHead : (kind ns ne from to : ℕ) → Head
 leafHead kind ns ne from to = record { holds = false; kind = kind; ns = ns; ne = ne; from = from; to = to }
 
+-- of an array or an object
 abbrev pub nodeHead : (b : Bracket) (ns ne from to : ℕ) → Head
 nodeHead b ns ne from to = record { holds = true; kind = kindIn b; ns = ns; ne = ne; from = from; to = to }
 

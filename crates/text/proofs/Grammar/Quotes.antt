@@ -1,6 +1,6 @@
 -- RFC 8259's string is read as its grammar says (`string-exact`). What the reading of a string answers is known by the rules of spelling
 -- (proofs/Spelling/Ends.antt); here they meet the grammar, in which a byte of 128 or more is a character by itself. Assumes nothing.
-use mathlib.Core.Path.{_≡_, refl, sym, subst, _∙_}
+use mathlib.Core.Path.{_≡_, refl, sym, _∙_}
 use mathlib.Core.List.{List, [], _∷_, _++_, append-assoc}
 use mathlib.Core.Bool.{cond}
 use mathlib.Core.Logic.{inl, inr}
