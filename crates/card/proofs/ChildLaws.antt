@@ -13,7 +13,7 @@ use lib.ListN.{length}
 use Rattle.text.specs.Text.{bytes}
 use Rattle.text.specs.Tree.{Forest, size}
 use Rattle.text.specs.Tree as T
-use Rattle.text.specs.Firsts.{Some, insideAt}
+use Rattle.text.specs.Firsts.{HasFirst, insideAt}
 use Rattle.text.specs.Standing.{StandsTo}
 use Rattle.text.specs.Doc.{Name, Doc, scalar, array, object, kindOf, Property, docOf}
 use Rattle.text.proofs.Promise.{inside, doc-kind, doc-object}
@@ -52,7 +52,7 @@ module _ {table : List ℕ} {row : ℕ} {g : Forest} (v : ValueAt table row g) w
     no-child h = child-none n (docOf t g) (λ e. h (sym (value-kind t) ∙ e))
 
 -- what is inside a value ends before the values that follow it
-inside-size : (g : Forest) → Some g → 1 + size (insideAt g) ≤ size g
+inside-size : (g : Forest) → HasFirst g → 1 + size (insideAt g) ≤ size g
 unfolding size
 inside-size T.none s = absurd s
 inside-size (T.leaf kind ns ne from to rest) s = omega arith

@@ -14,7 +14,7 @@ use lib.Dec.{eqb}
 use borrow.Author.Tests.{ne-eqb}
 use Rattle.laws.specs.Lists.{partOf}
 use Rattle.text.specs.Tree.{square, curly, Forest, none, leaf, node}
-use Rattle.text.specs.Firsts.{Some, kindAt, nameStart, nameEnd, startAt, endAt, insideAt, restAt, Kinds}
+use Rattle.text.specs.Firsts.{HasFirst, kindAt, nameStart, nameEnd, startAt, endAt, insideAt, restAt, Kinds}
 use Rattle.text.specs.Doc.{membersOf, labelAt, docOf}
 use Rattle.text.specs.Writing.{comma, written, writtenEntries, writtenMembers}
 use Rattle.text.proofs.Promise.{doc-scalar, doc-array, doc-object, members-first, members-none}
@@ -28,18 +28,18 @@ pub label-is : {table : List ℕ} {row : ℕ} {g : Forest} (t : List ℕ) → Va
 label-is t v = rw (value-row v .name-start, value-row v .name-end)
 
 -- a container that is no object is an array
-only-array : (g : Forest) → Some g → Kinds g → 6 ≤ kindAt g → (kindAt g ≡ 7 → ⊥) → kindAt g ≡ 6
+only-array : (g : Forest) → HasFirst g → Kinds g → 6 ≤ kindAt g → (kindAt g ≡ 7 → ⊥) → kindAt g ≡ 6
 only-array none s k h not = absurd s
 only-array (leaf kind ns ne from to rest) s k h not = absurd (omega (arith, k .0 .most))
 only-array (node square ns ne from to inside rest) s k h not = refl
 only-array (node curly ns ne from to inside rest) s k h not = absurd (not refl)
 
 module _ (t : List ℕ) where
-  pub copied-scalar : (g : Forest) → Some g → kindAt g < 6 → written (docOf t g) ≡ partOf t (startAt g) (endAt g)
+  pub copied-scalar : (g : Forest) → HasFirst g → kindAt g < 6 → written (docOf t g) ≡ partOf t (startAt g) (endAt g)
   copied-scalar g s h = rw (doc-scalar t g s h)
 
   -- its kind is 6 or 7
-  pub copied-inside : (g : Forest) → Some g → Kinds g → (kind : ℕ) → kind ≡ kindAt g → 6 ≤ kind → written (docOf t g) ≡ openOf kind ∷ insideOf t kind (insideAt g) true
+  pub copied-inside : (g : Forest) → HasFirst g → Kinds g → (kind : ℕ) → kind ≡ kindAt g → 6 ≤ kind → written (docOf t g) ≡ openOf kind ∷ insideOf t kind (insideAt g) true
   unfolding insideOf
   copied-inside g s k kind is h =
       elim (ℕ-discrete kind 7) [
@@ -55,7 +55,7 @@ module _ (t : List ℕ) where
       go true = refl
       go false = refl
 
-  pub inside-more : (kind : ℕ) (g : Forest) → Some g → (first : Bool)
+  pub inside-more : (kind : ℕ) (g : Forest) → HasFirst g → (first : Bool)
       → insideOf t kind g first ≡ headOf kind first (labelAt t (nameStart g) (nameEnd g)) ++ (written (docOf t g) ++ insideOf t kind (restAt g) false)
   unfolding insideOf
   inside-more kind g s first = rw (members-first t g s) (go (eqb kind 7))

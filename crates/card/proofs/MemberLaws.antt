@@ -11,14 +11,14 @@ use Rattle.laws.specs.Order.{same}
 use Rattle.text.specs.Strings.{nameOf}
 use Rattle.text.specs.Tree.{Forest}
 use Rattle.text.specs.Tree as T
-use Rattle.text.specs.Firsts.{Some, Kinds, nameStart, nameEnd, restAt}
+use Rattle.text.specs.Firsts.{HasFirst, Kinds, nameStart, nameEnd, restAt}
 use Rattle.text.specs.Standing.{StandsTo}
 use Rattle.text.specs.Doc.{Name, membersOf, seek}
 use Rattle.text.proofs.Promise.{row-at, after, within, some-at, none-at, members-first, members-none}
 use Rattle.json.specs.Rows.{nameStartIn, nameEndIn, belowIn}
 use Rattle.card.specs.Members.{firstMember, Standing}
 
-module _ (t : List ℕ) (n : Name) (g : Forest) (s : Some g) where
+module _ (t : List ℕ) (n : Name) (g : Forest) (s : HasFirst g) where
   pub seek-here : same (nameOf t (nameStart g) (nameEnd g)) n ≡ true → seek n (membersOf t g) ≡ some (firstMember t g)
   seek-here e = rw (members-first t g s, e)
 

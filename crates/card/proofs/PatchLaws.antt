@@ -21,7 +21,7 @@ use Rattle.laws.specs.declared.Order.the-variants.{Less}
 use Rattle.text.specs.Text.{bytes}
 use Rattle.text.specs.Tree.{Forest}
 use Rattle.text.specs.Tree as T
-use Rattle.text.specs.Firsts.{Some, nameStart, nameEnd, restAt}
+use Rattle.text.specs.Firsts.{HasFirst, nameStart, nameEnd, restAt}
 use Rattle.text.specs.Strings.{decode, nameOf}
 use Rattle.text.specs.Standing.{Stands}
 use Rattle.text.specs.Doc.{Name, Doc, scalar, array, object, Members, empty, member, Property, property, seek, isThere, kindOf, membersOf, labelAt, docOf}
@@ -148,7 +148,7 @@ there-first true sought n label d ms = go (same n (bytes "localizations"))
 abbrev pub thereIn : (root : Bool) → (t sought : List ℕ) → Forest → Bool
 thereIn root t sought vs = isThere (seek sought (basedAll root (membersOf t vs)))
 
-module _ (root : Bool) (t sought : List ℕ) {table : List ℕ} {row : ℕ} (vs : Forest) (s : Some vs) (h : Stands table row vs) where
+module _ (root : Bool) (t sought : List ℕ) {table : List ℕ} {row : ℕ} (vs : Forest) (s : HasFirst vs) (h : Stands table row vs) where
   there-row : thereIn root t sought vs ≡ cond (memberIs root (keyAt t table row) sought) true (thereIn root t sought (restAt vs))
   there-row =
       let at = row-at vs s h in

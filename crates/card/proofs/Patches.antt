@@ -13,7 +13,7 @@ use native.Mathlib.Omega.{arith}
 use borrow.Author.Tests.{eqb-true}
 use Rattle.text.specs.Tree.{Forest}
 use Rattle.text.specs.Tree as T
-use Rattle.text.specs.Firsts.{Some, nameStart, nameEnd, restAt}
+use Rattle.text.specs.Firsts.{HasFirst, nameStart, nameEnd, restAt}
 use Rattle.text.specs.Strings.{nameOf}
 use Rattle.text.specs.Doc.{Name, Doc, Members, empty, member, membersOf, labelAt, docOf}
 use Rattle.text.specs.Writing.{writtenMembers}
@@ -115,7 +115,7 @@ abbrev pub restBy : (t : List ℕ) → (root : Bool) → List Entry → (more : 
 restBy t root es more vs first = writtenMembers (kept (basedAll root (membersOf t vs)) es more) first
 
 module _ (t : List ℕ) (root : Bool) (es : List Entry) (more : Members) where
-  rest-first : (g : Forest) → Some g → (first : Bool)
+  rest-first : (g : Forest) → HasFirst g → (first : Bool)
       → let o = stays root (nameOf t (nameStart g) (nameEnd g)) es (docOf t g) in
       restBy t root es more g first ≡ piece o first (labelAt t (nameStart g) (nameEnd g)) ++ restBy t root es more (restAt g) (since o first)
   rest-first g s first =

@@ -6,7 +6,7 @@ use mathlib.Core.Option.{none, some}
 use native.Mathlib.Omega.{arith}
 use Rattle.text.specs.Tree.{Forest}
 use Rattle.text.specs.Tree as T
-use Rattle.text.specs.Firsts.{Some, Kinds, kindAt, insideAt}
+use Rattle.text.specs.Firsts.{HasFirst, Kinds, kindAt, insideAt}
 use Rattle.text.specs.Doc.{Name, docOf, membersOf, seek}
 use Rattle.text.proofs.Promise.{doc-scalar, doc-array, doc-object}
 use Rattle.contact.specs.Pointer.{Pointer, last, down}
@@ -25,7 +25,7 @@ small-kind (T.leaf kind ns ne from to rest) k a o = omega (arith, k .0 .most)
 small-kind (T.node T.square ns ne from to inside rest) k a o = absurd (a refl)
 small-kind (T.node T.curly ns ne from to inside rest) k a o = absurd (o refl)
 
-module _ (t : List ℕ) (f : Forest) (s : Some f) (k : Kinds f) where
+module _ (t : List ℕ) (f : Forest) (s : HasFirst f) (k : Kinds f) where
   pub walk-array : (p : Pointer) → kindAt f ≡ 6 → inArray ≡ walk p (docOf t f)
   walk-array (last n) e = rw (doc-array t f s k e)
   walk-array (down n p) e = rw (doc-array t f s k e)

@@ -11,9 +11,8 @@ use mathlib.Core.List.{List}
 use Prim.Native.Nat.{ℕ}
 use native.Mathlib.Omega.{arith}
 use Rattle.laws.specs.Order.{orderOf, isSame}
-use Rattle.laws.specs.Sorting.{Total}
 use Rattle.laws.proofs.Orders.{flip, order-flip, order-refl, order-trans, same-eq, same-refl}
-use Rattle.laws.proofs.Sorting.{total-by, total-pull}
+use Rattle.laws.proofs.Sorting.{Total, total-by, total-pull}
 use Rattle.laws.specs.declared.Order.{Order}
 use Rattle.laws.specs.declared.Order.the-variants.{Less, Same, More}
 use Rattle.text.specs.Doc.{Name}

@@ -13,7 +13,7 @@ use borrow.Author.Tests.{eqb-true}
 use Rattle.laws.specs.Lists.{partOf}
 use Rattle.text.specs.Strings.{nameOf}
 use Rattle.text.specs.Tree.{Forest}
-use Rattle.text.specs.Firsts.{Some, Kinds, kindAt, startAt, endAt, nameStart, nameEnd, insideAt, belowAt, restAt}
+use Rattle.text.specs.Firsts.{HasFirst, Kinds, kindAt, startAt, endAt, nameStart, nameEnd, insideAt, belowAt, restAt}
 use Rattle.text.specs.Standing.{StandsTo}
 use Rattle.text.specs.Doc.{Name, Doc, scalar, array, object, Members, membersOf, docOf, kindOf, tokenOf, below, countOf}
 use Rattle.text.proofs.Promise.{row-at, inside, after, within, some-at, none-at, doc-kind, doc-token, doc-below, members-first, members-none, count-doc}
@@ -44,7 +44,7 @@ scalar-kind yes kind e = flag-kind kind (eqb kind 2) refl e
 scalar-kind (count low high) kind e = omega (arith, eqb-true kind 4 e)
 scalar-kind time kind e = omega (arith, eqb-true kind 5 e)
 
-module _ (t : List ℕ) (f : Forest) (s : Some f) where
+module _ (t : List ℕ) (f : Forest) (s : HasFirst f) where
   pub row-unfit : (ty : Ty) (key : Bool) → fits ty (kindAt f) ≡ false → 11 ≡ rowNumber ty key (docOf t f)
   unfolding rowNumber
   row-unfit ty key e = rw (doc-kind t f s, e)
@@ -84,7 +84,7 @@ breach-below : (ty : Ty) (key : Bool) (row : ℕ) (d : Doc) → 0 ≡ rowNumber 
 breach-below ty key row d e = breach-steps ty key row d ∙ ap (λ m. onRow m row (breachAmong ty [] (row + 1) (below d))) (sym e)
 
 -- the first of the members, and those after it
-among-first : (t : List ℕ) (ty : Ty) (earlier : List Name) (at : ℕ) (ws : Forest) → Some ws
+among-first : (t : List ℕ) (ty : Ty) (earlier : List Name) (at : ℕ) (ws : Forest) → HasFirst ws
     → breachAmong ty earlier at (membersOf t ws)
     ≡ orElse (breachOf (memberType ty (nameOf t (nameStart ws) (nameEnd ws))) (keyFits ty earlier (nameOf t (nameStart ws) (nameEnd ws))) at (docOf t ws))
     (breachAmong ty (nameOf t (nameStart ws) (nameEnd ws) ∷ earlier) (at + 1 + belowAt ws) (membersOf t (restAt ws)))
@@ -119,7 +119,7 @@ module _ (t table : List ℕ) (ty : Ty) (key : Bool) (row end : ℕ) where
     pub here : Forest
     here = g f v k .ahead
 
-    pub some-here : Some here
+    pub some-here : HasFirst here
     unfolding here
     some-here = some-at (g f v k .ahead) (g f v k .stands) lt
 

@@ -4,7 +4,7 @@ use mathlib.Core.Bool.{Bool, cond}
 use mathlib.Core.List.{List, [], _∷_, _++_}
 use lib.Dec.{eqb}
 use Rattle.text.specs.Tree.{Forest}
-use Rattle.text.specs.Firsts.{Some, Kinds}
+use Rattle.text.specs.Firsts.{HasFirst, Kinds}
 use Rattle.text.specs.Standing.{Stands}
 use Rattle.text.specs.Doc.{membersOf, labelAt, docOf}
 use Rattle.text.specs.Writing.{comma, written, writtenEntries, writtenMembers}
@@ -13,7 +13,7 @@ use Rattle.card.specs.Written.{Wrote}
 
 -- a value stands at a row of a table
 pub record ValueAt (table : List ℕ) (row : ℕ) (g : Forest) : Type 0 where
-  pub some : Some g
+  pub some : HasFirst g
   pub kinds : Kinds g
   pub stands : Stands table row g
 

@@ -8,7 +8,7 @@ use Rattle.laws.specs.declared.Order.{Order}
 use Rattle.text.specs.Strings.{nameOf}
 use Rattle.laws.specs.Lists.{partOf}
 use Rattle.text.specs.Tree.{Forest, size}
-use Rattle.text.specs.Firsts.{Some, Kinds, nameStart, nameEnd}
+use Rattle.text.specs.Firsts.{HasFirst, Kinds, nameStart, nameEnd}
 use Rattle.text.specs.Standing.{Stands, StandsTo}
 use Rattle.text.specs.Doc.{Name, Doc, Members, empty, member, labelAt, docOf}
 use Rattle.json.specs.Rows.{nameStartIn, nameEndIn}
@@ -21,7 +21,7 @@ use Rattle.card.specs.Pointers.{pointerOrder, strip}
 -- at the rows that the words i up to n of a list name stand these members, one after the other
 pub data Listed (t table rows : List ℕ) : (i n : ℕ) → Members → Type 0 where
   over : {n : ℕ} → Listed t table rows n n empty
-  next : {i n : ℕ} {ms : Members} (g : Forest) → i < n → Some g → Kinds g → Stands table (getD rows i 0) g → Listed t table rows (i + 1) n ms
+  next : {i n : ℕ} {ms : Members} (g : Forest) → i < n → HasFirst g → Kinds g → Stands table (getD rows i 0) g → Listed t table rows (i + 1) n ms
       → Listed t table rows i n (member (nameOf t (nameStart g) (nameEnd g)) (labelAt t (nameStart g) (nameEnd g)) (docOf t g) ms)
 
 -- the entries of these members, each without the first parts of its pointer

@@ -4,7 +4,7 @@ use mathlib.Core.Path.{_≡_}
 use mathlib.Core.List.{List}
 use mathlib.Core.Option.{Option, none, some}
 use Rattle.text.specs.Tree.{Forest}
-use Rattle.text.specs.Firsts.{Some, Kinds, nameStart, nameEnd}
+use Rattle.text.specs.Firsts.{HasFirst, Kinds, nameStart, nameEnd}
 use Rattle.text.specs.Standing.{StandsTo}
 use Rattle.text.specs.Doc.{Name, Property, property, labelAt, docOf, membersOf, seek}
 use Rattle.card.specs.declared.members.Found.{Found}
@@ -17,7 +17,7 @@ firstMember t g = property (labelAt t (nameStart g) (nameEnd g)) (docOf t g)
 -- among the values f, which end before a row, the member n is the first of those that stand from row m on
 pub record Standing (t table : List ℕ) (end : ℕ) (n : Name) (f : Forest) (m : ℕ) : Type 0 where
   pub found : Forest
-  pub some-found : Some found
+  pub some-found : HasFirst found
   pub stands : StandsTo table m end found
   pub kinds : Kinds f → Kinds found
   pub is : seek n (membersOf t f) ≡ some (firstMember t found)

@@ -6,7 +6,7 @@ use mathlib.Core.Bool.{cond}
 use mathlib.Core.Option.{Option, none, some}
 use lib.Dec.{eqb}
 use Rattle.text.specs.Tree.{Forest}
-use Rattle.text.specs.Firsts.{Some}
+use Rattle.text.specs.Firsts.{HasFirst}
 use Rattle.text.specs.Standing.{Stands}
 use Rattle.text.specs.Doc.{Property, docOf, kindOf}
 use Rattle.card.specs.declared.rows.Found.{Found}
@@ -14,7 +14,7 @@ use Rattle.card.specs.declared.rows.Found.the-variants.{At, Nothing}
 
 -- a value stands at the row, the first of some
 pub record ValueAt (table : List ℕ) (row : ℕ) (f : Forest) : Type 0 where
-  pub some : Some f
+  pub some : HasFirst f
   pub stands : Stands table row f
 
 -- the answer names the row of the member that is sought, or none

@@ -15,7 +15,7 @@ ghost use mathlib.Core.List.{List};
 ghost use Prim.Native.Nat.{ℕ, _≤_};
 ghost use lib.ListN.{length};
 ghost use Rattle.text.specs.Tree.{Forest, size};
-ghost use Rattle.text.specs.Firsts.{Some, Kinds};
+ghost use Rattle.text.specs.Firsts.{HasFirst, Kinds};
 ghost use Rattle.text.specs.Standing.{Stands, StandsTo};
 ghost use Rattle.text.specs.Doc.{Members, docOf, membersOf};
 ghost use Rattle.contact.specs.Patch.{entriesOf, anyBadKey, anyOwn, anyClash, isInArray, isNoObject};
@@ -130,8 +130,8 @@ pub(crate) fn worst_path(
     n: usize,
 ) -> Path
     requires { ⌜ n ≤ length (now rows) ⌝ }
-    requires { ⌜ ((f : Forest) × Some f × Stands (now «card_table») row f × Kinds f) ⌝ }
-    ensures { λ r. ⌜ ((f : Forest) (ms : Members) → Some f → Stands (now («card_table» .entry)) row f → Kinds f → Listed (now (text .entry)) (now (table .entry)) (now (rows .entry)) 0 n ms → walkOf r ≡ worstWalk (entriesOf ms) (docOf (now (card .entry)) f)) ⌝ }
+    requires { ⌜ ((f : Forest) × HasFirst f × Stands (now «card_table») row f × Kinds f) ⌝ }
+    ensures { λ r. ⌜ ((f : Forest) (ms : Members) → HasFirst f → Stands (now («card_table» .entry)) row f → Kinds f → Listed (now (text .entry)) (now (table .entry)) (now (rows .entry)) 0 n ms → walkOf r ≡ worstWalk (entriesOf ms) (docOf (now (card .entry)) f)) ⌝ }
 {
     let mut missing = false;
     for i in 0..n {

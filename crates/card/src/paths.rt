@@ -8,7 +8,7 @@ use json::rows::below;
 use json::rows::kind;
 ghost use mathlib.Core.Path.{_≡_};
 ghost use Rattle.text.specs.Tree.{Forest};
-ghost use Rattle.text.specs.Firsts.{Some, Kinds};
+ghost use Rattle.text.specs.Firsts.{HasFirst, Kinds};
 ghost use Rattle.text.specs.Standing.{Stands};
 ghost use Rattle.text.specs.Doc.{docOf};
 ghost use Rattle.json.specs.Cursors.{rest};
@@ -25,8 +25,8 @@ pub enum Path {
 
 // The walk of the rest of a key from the value at a row on; it calls itself on the remaining parts.
 pub(crate) fn follow(text: &[u8], table: &[u32], row: usize, key: &[u8], c: Cursor) -> Path
-    requires { ⌜ ((f : Forest) × Some f × Stands (now table) row f × Kinds f) ⌝ }
-    ensures { λ r. ⌜ ((f : Forest) → Some f → Stands (now (table .entry)) row f → Kinds f → walkOf r ≡ walk (pointerOf (rest (now (key .entry)) c)) (docOf (now (text .entry)) f)) ⌝ }
+    requires { ⌜ ((f : Forest) × HasFirst f × Stands (now table) row f × Kinds f) ⌝ }
+    ensures { λ r. ⌜ ((f : Forest) → HasFirst f → Stands (now (table .entry)) row f → Kinds f → walkOf r ≡ walk (pointerOf (rest (now (key .entry)) c)) (docOf (now (text .entry)) f)) ⌝ }
 {
     let k = kind(table, row);
     if k == 6 {

@@ -17,7 +17,7 @@ use Rattle.text.specs.Sheet.{numbers, paper}
 use Rattle.text.specs.Whole.{wholeOf, sheetOf, tableOf}
 use Rattle.text.specs.Doc.{Name, docOf}
 use Rattle.text.specs.Meaning.{Accepts}
-use Rattle.text.specs.Fault as Fault
+use Rattle.text.specs.Fault.{FirstFault}
 use Rattle.text.specs.Promised.{Filled}
 use Rattle.text.specs.declared.Reading.{Reading}
 use Rattle.contact.specs.Localize.{refusedLocal}
@@ -113,7 +113,7 @@ pub record ReadingAndJudging (L : Limits) : Type 0 where
   pub too-long : (t : List ℕ) (words second : ℕ) → (served L (read t words) .answer ≡ numbers 1 second 0) ↔ ((L .bytes < length t) × (second ≡ 0))
   -- else by 2 to 6 if it has such a fault, by the one of smallest place and then of smallest number
   pub first-fault : (t : List ℕ) → Bytes t → length t ≤ L .bytes → (words n p : ℕ) → Within 2 6 n
-      → (served L (read t words) .answer ≡ numbers n p 0) ↔ Fault.First L t n p
+      → (served L (read t words) .answer ≡ numbers n p 0) ↔ FirstFault L t n p
   -- else by 7, with the rows needed
   pub rows-short : (t : List ℕ) → Bytes t → (words n : ℕ) → (served L (read t words) .answer ≡ numbers 7 n 0) ↔ RowsShort L words t n
   -- judging refuses as reading does what reading refuses

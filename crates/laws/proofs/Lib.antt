@@ -1,5 +1,6 @@
--- Facts that speak of no format: places and parts of a list, runs, the outcomes of a test, the order of two runs of bytes, rules of a table, buffers
+-- Facts that speak of no format: walks, places and parts of a list, runs, the outcomes of a test, the order of two runs of bytes, rules of a table, buffers
 -- being cleared, and sorting.
+pub mod Scans
 pub mod Places
 pub mod Bounds
 pub mod Splits

@@ -13,11 +13,13 @@ orderOf [] (y ∷ ys) = Less
 orderOf (x ∷ xs) [] = More
 orderOf (x ∷ xs) (y ∷ ys) = let more = orderOf xs ys in cond (ltb x y) Less (cond (ltb y x) More more)
 
+-- is it Same?
 abbrev pub isSame : Order → Bool
 isSame Less = false
 isSame Same = true
 isSame More = false
 
+-- is it Less?
 abbrev pub isLess : Order → Bool
 isLess Less = true
 isLess Same = false

@@ -21,13 +21,13 @@ use Rattle.text.specs.Limits.{Limits}
 use Rattle.text.specs.Strings.{decode, nameOf, contentOf}
 use Rattle.text.specs.Tree.{Bracket, square, curly, Forest, leaf, node, size, join}
 use Rattle.text.specs.Tree as T
-use Rattle.text.specs.Firsts.{Some, kindAt, nameStart, nameEnd, startAt, endAt, insideAt, belowAt, restAt, firstOf, Kinds}
+use Rattle.text.specs.Firsts.{HasFirst, kindAt, nameStart, nameEnd, startAt, endAt, insideAt, belowAt, restAt, Kinds}
 use Rattle.text.specs.Reader.{good, named, valueAt}
 use Rattle.text.specs.Tokens.{skip}
 use Rattle.text.specs.Whole.{readOf}
 use Rattle.text.specs.Doc.{Name, Doc, scalar, array, object, Members, empty, member, boxed, labelAt, membersOf, docOf, kindOf, tokenOf, below, countOf, countAll, property, seek}
-use Rattle.text.specs.Distinct.{Distinct, DistinctEntries, DistinctMembers, DistinctIn}
-use Rattle.text.proofs.Standing.{first-and-rest}
+use Rattle.text.specs.Distinct.{Distinct, DistinctEntries, DistinctMembers}
+use Rattle.text.proofs.Standing.{firstOf, first-and-rest}
 use Rattle.text.proofs.Induction.{Rules, value-induction, read-accepted}
 
 module _ (t : List ℕ) where
@@ -41,7 +41,7 @@ module _ (t : List ℕ) where
   doc-first (node b ns ne from to inside rest) = refl
 
   -- its kind is the row's
-  pub doc-kind : (f : Forest) → Some f → kindOf (docOf t f) ≡ kindAt f
+  pub doc-kind : (f : Forest) → HasFirst f → kindOf (docOf t f) ≡ kindAt f
   unfolding docOf
   doc-kind T.none s = absurd s
   doc-kind (leaf kind ns ne from to rest) s = refl
@@ -49,14 +49,14 @@ module _ (t : List ℕ) where
   doc-kind (node curly ns ne from to inside rest) s = refl
 
   -- the token of a value that holds no others is what stands from its start to its end
-  pub doc-token : (f : Forest) → Some f → kindAt f < 6 → tokenOf (docOf t f) ≡ partOf t (startAt f) (endAt f)
+  pub doc-token : (f : Forest) → HasFirst f → kindAt f < 6 → tokenOf (docOf t f) ≡ partOf t (startAt f) (endAt f)
   unfolding docOf
   doc-token T.none s k = absurd s
   doc-token (leaf kind ns ne from to rest) s k = refl
   doc-token (node square ns ne from to inside rest) s k = absurd (omega arith)
   doc-token (node curly ns ne from to inside rest) s k = absurd (omega arith)
 
-  pub doc-scalar : (f : Forest) → Some f → kindAt f < 6 → docOf t f ≡ scalar (kindAt f) (partOf t (startAt f) (endAt f))
+  pub doc-scalar : (f : Forest) → HasFirst f → kindAt f < 6 → docOf t f ≡ scalar (kindAt f) (partOf t (startAt f) (endAt f))
   unfolding docOf
   doc-scalar T.none s k = absurd s
   doc-scalar (leaf kind ns ne from to rest) s k = refl
@@ -72,14 +72,14 @@ module _ (t : List ℕ) where
   doc-below (node curly ns ne from to inside rest) = refl
 
   -- a row of kind 6 or 7 is a container's
-  pub doc-array : (f : Forest) → Some f → Kinds f → kindAt f ≡ 6 → docOf t f ≡ array (membersOf t (insideAt f))
+  pub doc-array : (f : Forest) → HasFirst f → Kinds f → kindAt f ≡ 6 → docOf t f ≡ array (membersOf t (insideAt f))
   unfolding docOf
   doc-array T.none s h k = absurd s
   doc-array (leaf kind ns ne from to rest) s h k = absurd (omega (arith, h .0 .most))
   doc-array (node square ns ne from to inside rest) s h k = refl
   doc-array (node curly ns ne from to inside rest) s h k = absurd (omega arith)
 
-  pub doc-object : (f : Forest) → Some f → Kinds f → kindAt f ≡ 7 → docOf t f ≡ object (membersOf t (insideAt f))
+  pub doc-object : (f : Forest) → HasFirst f → Kinds f → kindAt f ≡ 7 → docOf t f ≡ object (membersOf t (insideAt f))
   unfolding docOf
   doc-object T.none s h k = absurd s
   doc-object (leaf kind ns ne from to rest) s h k = absurd (omega (arith, h .0 .most))
@@ -87,7 +87,7 @@ module _ (t : List ℕ) where
   doc-object (node curly ns ne from to inside rest) s h k = refl
 
   -- the first member, and those after it
-  pub members-first : (f : Forest) → Some f
+  pub members-first : (f : Forest) → HasFirst f
       → membersOf t f ≡ member (nameOf t (nameStart f) (nameEnd f)) (labelAt t (nameStart f) (nameEnd f)) (docOf t f) (membersOf t (restAt f))
   unfolding docOf membersOf
   members-first T.none s = absurd s
@@ -127,14 +127,14 @@ module _ (t : List ℕ) where
       omega (arith, box-count b (membersOf t inside), count-members inside, count-members rest)
 
   -- a value counts itself and those below it
-  pub count-doc : (f : Forest) → Some f → countOf (docOf t f) ≡ 1 + belowAt f
+  pub count-doc : (f : Forest) → HasFirst f → countOf (docOf t f) ≡ 1 + belowAt f
   unfolding docOf countOf size
   count-doc T.none s = absurd s
   count-doc (leaf kind ns ne from to rest) s = omega arith
   count-doc (node b ns ne from to inside rest) s = omega (arith, box-count b (membersOf t inside), count-members inside)
 
   -- a text's one value counts all
-  pub count-root : (f : Forest) → Some f → restAt f ≡ T.none → countOf (docOf t f) ≡ size f
+  pub count-root : (f : Forest) → HasFirst f → restAt f ≡ T.none → countOf (docOf t f) ≡ size f
   unfolding size
   count-root f s e = let rest : size (restAt f) ≡ 0 = rw e in omega (arith, count-doc f s, first-and-rest f s)
 
@@ -207,6 +207,11 @@ module _ (t : List ℕ) where
 record One (L : Limits) (t : List ℕ) (ns ne : ℕ) (f : Forest) : Type 0 where
   is : (label : List ℕ) × (membersOf t f ≡ member (nameOf t ns ne) label (docOf t f) empty)
   distinct : L .unique ≡ true → Distinct (docOf t f)
+
+-- what stands inside a container has distinct names
+abbrev pub DistinctIn : Bracket → Members → Type 0
+DistinctIn square ms = DistinctEntries ms
+DistinctIn curly ms = DistinctMembers ms
 
 box-distinct : (b : Bracket) (ms : Members) → DistinctIn b ms → Distinct (boxed b ms)
 box-distinct square ms h = h

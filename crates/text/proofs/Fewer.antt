@@ -21,27 +21,7 @@ use Rattle.text.specs.Text.{byteAt}
 use Rattle.text.specs.Strings.{stringEnd, nameOf}
 use Rattle.text.specs.Tokens.{skip, kindBy, tokenAt}
 use Rattle.text.specs.Tree.{Bracket, square, curly, closing, Forest, none, leaf, node, size, join}
-use Rattle.text.specs.Reader.{
-  Read,
-  good,
-  bad,
-  Reader,
-  ItemReader,
-  scalarWith,
-  scalarAt,
-  closeOf,
-  container,
-  deep,
-  valueWith,
-  afterItem,
-  itemsFrom,
-  insideOf,
-  named,
-  colonAt,
-  memberWith,
-  memberOf,
-  valueAt,
-}
+use Rattle.text.specs.Reader.{Read, good, bad, Reader, ItemReader, scalarWith, scalarAt, closeOf, container, deep, valueWith, afterItem, itemsFrom, insideOf, named, colonAt, memberWith, memberOf, valueAt}
 use Rattle.text.specs.Whole.{endOf, readOf, fitOf, wholeOf}
 use Rattle.text.specs.declared.Token.{Token}
 use Rattle.text.specs.declared.Token.the-variants.{End, No2, No3}

@@ -15,7 +15,7 @@ use Rattle.text.specs.Spelling.{none, utf8s}
 use Rattle.text.specs.Tree.{Bracket, square, curly, Forest}
 use Rattle.text.specs.Doc.{Name, Doc, Members, empty, member, boxed, labelAt, membersOf, docOf}
 use Rattle.text.specs.Placed.{Quoted, NameIn, TokenIn, Placed, nothing, token, box}
-use Rattle.text.specs.Labels.{Labelled, Unlabelled, Every, EveryIn, LabelIn}
+use Rattle.text.specs.Labels.{Labelled, Unlabelled, Every, EveryEntry, EveryMember}
 use Rattle.text.proofs.Spelling.Decoded.{decode-spelled}
 
 module _ (t : List ℕ) (i e : ℕ) (q : Quoted t i e) where
@@ -62,34 +62,44 @@ no-label t s e = record { nameless = ap₂ (nameOf t) s e ∙ ap decode (part-no
 
 -- ---- what is inside a container, whatever its bracket ----
 
+-- the name of a value there: in an array it has none
+abbrev pub LabelIn : (N : Name → (label : List ℕ) → Type 0) → Bracket → Name → (label : List ℕ) → Type 0
+LabelIn N square n label = Unlabelled n label
+LabelIn N curly n label = N n label
+
 module _ (N : Name → List ℕ → Type 0) (T : ℕ → List ℕ → Type 0) where
-  pub every-box : (c : Bracket) (ms : Members) → EveryIn N T c ms → Every N T (boxed c ms)
+  -- every name and every token there
+  abbrev pub EveryIn : Bracket → Members → Type 0
+  EveryIn square ms = EveryEntry N T ms
+  EveryIn curly ms = EveryMember N T ms
+
+  pub every-box : (c : Bracket) (ms : Members) → EveryIn c ms → Every N T (boxed c ms)
   every-box square ms h = h
   every-box curly ms h = h
 
-  pub every-inside : (c : Bracket) (ms : Members) → Every N T (boxed c ms) → EveryIn N T c ms
+  pub every-inside : (c : Bracket) (ms : Members) → Every N T (boxed c ms) → EveryIn c ms
   every-inside square ms h = h
   every-inside curly ms h = h
 
-  pub every-none : (b : Bracket) → EveryIn N T b empty
+  pub every-none : (b : Bracket) → EveryIn b empty
   every-none square = tt
   every-none curly = tt
 
   module _ (b : Bracket) (n : Name) (label : List ℕ) (d : Doc) (ms : Members) where
     abbrev Parts : Type 0
-    Parts = LabelIn N b n label × Every N T d × EveryIn N T b ms
+    Parts = LabelIn N b n label × Every N T d × EveryIn b ms
 
-    pub every-more : Parts → EveryIn N T b (member n label d ms)
+    pub every-more : Parts → EveryIn b (member n label d ms)
     every-more = go b
       where
-        go : (c : Bracket) → LabelIn N c n label × Every N T d × EveryIn N T c ms → EveryIn N T c (member n label d ms)
+        go : (c : Bracket) → LabelIn N c n label × Every N T d × EveryIn c ms → EveryIn c (member n label d ms)
         go square h = h
         go curly h = h
 
-    pub every-parts : EveryIn N T b (member n label d ms) → Parts
+    pub every-parts : EveryIn b (member n label d ms) → Parts
     every-parts = go b
       where
-        go : (c : Bracket) → EveryIn N T c (member n label d ms) → LabelIn N c n label × Every N T d × EveryIn N T c ms
+        go : (c : Bracket) → EveryIn c (member n label d ms) → LabelIn N c n label × Every N T d × EveryIn c ms
         go square h = h
         go curly h = h
 

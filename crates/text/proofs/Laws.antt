@@ -1,6 +1,7 @@
 -- Laws for callers:
 --     end-inside       a string that ends does so inside the text, after the place where the reading began
 --     decode-plain     bytes without a backslash decode to themselves
+--     value-parts      a value is, by its kind, the array, the object or the scalar that stands at its place
 --     two, three, four          the UTF-8 of a raw character's code point is its own bytes
 -- Assumes nothing.
 use mathlib.Core.Path.{_≡_, refl, sym, ap, ap₂, _∙_}
@@ -10,9 +11,11 @@ use native.Mathlib.Decide.{decLe}
 use native.Mathlib.Omega.{arith}
 use lib.ListN.{length, drop, drop-of-length-le}
 use borrow.Author.Tests.{lt-ltb, le-ltb, ne-eqb}
+use Rattle.text.specs.Limits.{Limits}
 use Rattle.text.specs.Text.{byteAt}
 use Rattle.text.specs.Chars.{seq2, seq3, seq4, stepAt}
 use Rattle.text.specs.Strings.{stringEnd, conts, utf8, stop, piece, pieceBy, decodeFrom, decode}
+use Rattle.text.specs.Reader.{valueWith, valueAt, elementsAt, membersAt, arrayAt, objectAt}
 use Rattle.text.specs.declared.Step.{Step}
 use Rattle.text.specs.declared.Step.the-variants.{Close, Char, Bad2, Bad3}
 use Rattle.text.specs.declared.Token.the-variants.{End, No2, No3}
@@ -111,3 +114,10 @@ four b x y z lo hi hx hy hz ov =
     let r : 128 + code / 64 % 64 ≡ 128 + y = omega arith in
     let v : 128 + code % 64 ≡ 128 + z = omega arith in
     ap utf8 s ∙ u ∙ (cc)
+
+-- ---- a value and its parts ----
+
+pub value-parts : (L : Limits) (t : List ℕ) (depth ns ne at n : ℕ) → valueAt L t depth ns ne at n ≡ valueWith L t (arrayAt L t depth) (objectAt L t depth) ns ne at n
+unfolding valueAt arrayAt objectAt elementsAt membersAt
+value-parts L t zero ns ne at n = refl
+value-parts L t (suc depth) ns ne at n = refl

@@ -12,7 +12,7 @@ use lib.ListN.{length, length-append}
 use borrow.Author.Tests.{ne-eqb, le-ltb}
 use Rattle.laws.proofs.Branches.{if-less, if-equal}
 use Rattle.text.specs.Strings.{utf8}
-use Rattle.text.specs.Spelling.{Good, Unescaped, HexDigit, decimal, small, FourDigits, four, Short, quote, backslash, slash, backspace, form-feed, line-feed, carriage-return, tab, Spell, raw, short, unit, pair, Spells, none, more, utf8s}
+use Rattle.text.specs.Spelling.{Good, Bare, HexDigit, decimal, small, FourDigits, four, Short, quote, backslash, slash, backspace, form-feed, line-feed, carriage-return, tab, Spell, raw, short, unit, pair, Spells, none, more, utf8s}
 use Rattle.text.specs.Writing.{smallHex, shortOf, spelledByte, spelledBytes, spelled}
 use Rattle.text.specs.Labels.{Labelled}
 use Rattle.text.proofs.Spelling.Codes.{by-utf8, one-byte}
@@ -39,7 +39,7 @@ short-of b =
 no-short : (b x : ℕ) → shortOf b ≡ 0 → (shortOf x ≡ 0 → ⊥) → b ≡ x → ⊥
 no-short b x z n e = n (sym (ap shortOf e) ∙ z)
 
-plain-char : (b : ℕ) → shortOf b ≡ 0 → 32 ≤ b → Unescaped b
+plain-char : (b : ℕ) → shortOf b ≡ 0 → 32 ≤ b → Bare b
 plain-char b z h =
     record { no-control = h; no-quote = no-short b 34 z (λ e. omega arith); no-backslash = no-short b 92 z (λ e. omega arith) }
 
@@ -77,7 +77,7 @@ high-byte : (b : ℕ) → 128 ≤ b → spelledByte b ≡ b ∷ []
 high-byte b h = rw (high-short b h, le-ltb b 32 (omega arith))
 
 -- a character that may stand raw
-raw-byte : (b : ℕ) → Unescaped b → spelledByte b ≡ b ∷ []
+raw-byte : (b : ℕ) → Bare b → spelledByte b ≡ b ∷ []
 raw-byte b u =
     let low = u .no-control in
     let z : shortOf b ≡ 0 =
@@ -141,7 +141,7 @@ char-six c = elim (decLt c 128) [
   | no h ↦ let k : 128 ≤ c = omega arith in rw (high-spelled c k) (omega (arith, utf8-four c))
 ]
 
-raw-length : (c : ℕ) → Unescaped c → length (spelledBytes (utf8 c)) ≤ length (utf8 c)
+raw-length : (c : ℕ) → Bare c → length (spelledBytes (utf8 c)) ≤ length (utf8 c)
 raw-length c u = elim (decLt c 128) [
   | yes h ↦ rw (one-byte c h, append-nil (spelledByte c), raw-byte c u) (omega arith)
   | no h ↦ let k : 128 ≤ c = omega arith in rw (high-spelled c k) (omega arith)

@@ -15,7 +15,7 @@ use Rattle.text.specs.Text.{byteAt}
 use Rattle.text.specs.Strings.{stringEnd}
 use Rattle.text.specs.Tokens.{skip, kindBy, tokenAt}
 use Rattle.text.specs.Tree.{Bracket, square, curly, kindIn, closing, Forest, none, leaf, node, join}
-use Rattle.text.specs.Firsts.{Some, kindAt, nameStart, nameEnd, startAt, endAt, insideAt, restAt, ScalarKind, Kinds}
+use Rattle.text.specs.Firsts.{HasFirst, kindAt, nameStart, nameEnd, startAt, endAt, insideAt, restAt, ScalarKind, Kinds}
 use Rattle.text.specs.Placed.{Quoted, Unnamed, NameIn, Numeral, TokenIn, null, falsity, truth, number, string, Spot, Placed, nothing, token, box}
 use Rattle.text.specs.Reader.{good, valueAt}
 use Rattle.text.specs.Whole.{readOf}
@@ -212,7 +212,7 @@ module _ (L : Limits) (t : List ℕ) where
 
 -- with the places of its name and its own
 pub record Single (ns ne at to : ℕ) (f : Forest) : Type 0 where
-  pub some : Some f
+  pub some : HasFirst f
   pub alone : restAt f ≡ none
   pub name-start : nameStart f ≡ ns
   pub name-end : nameEnd f ≡ ne
@@ -237,56 +237,56 @@ single-value L t depth ns ne at n f to e = value-induction L t _ _ (single-rules
 
 module _ {t : List ℕ} {b : Bracket} {from to : ℕ} where
   -- its name, its start and end, and its first byte
-  pub spot : {f : Forest} → Placed t b f from to → Some f → Spot t b from (kindAt f) (nameStart f) (nameEnd f) (startAt f) (endAt f)
+  pub spot : {f : Forest} → Placed t b f from to → HasFirst f → Spot t b from (kindAt f) (nameStart f) (nameEnd f) (startAt f) (endAt f)
   spot (nothing h) s = absurd s
   spot (token p k rest) s = p
   spot (box p c within rest) s = p
 
   -- the bytes of a value that holds no others
-  pub token-at : {f : Forest} → Placed t b f from to → Some f → kindAt f < 6 → TokenIn t (kindAt f) (startAt f) (endAt f)
+  pub token-at : {f : Forest} → Placed t b f from to → HasFirst f → kindAt f < 6 → TokenIn t (kindAt f) (startAt f) (endAt f)
   token-at (nothing h) s l = absurd s
   token-at (token p k rest) s l = k
   token-at (box {c = square} p c within rest) s l = absurd (omega arith)
   token-at (box {c = curly} p c within rest) s l = absurd (omega arith)
 
   -- what is inside it stands strictly within it: elements in an array, members in an object
-  pub elements-at : {f : Forest} → Placed t b f from to → Some f → kindAt f ≡ 6 → Placed t square (insideAt f) (startAt f + 1) (endAt f - 1)
+  pub elements-at : {f : Forest} → Placed t b f from to → HasFirst f → kindAt f ≡ 6 → Placed t square (insideAt f) (startAt f + 1) (endAt f - 1)
   elements-at (nothing h) s e = absurd s
   elements-at (token p k rest) s e = absurd (omega (arith, token-kind k .most))
   elements-at (box {c = square} p c within rest) s e = within
   elements-at (box {c = curly} p c within rest) s e = absurd (omega arith)
 
-  pub members-at : {f : Forest} → Placed t b f from to → Some f → kindAt f ≡ 7 → Placed t curly (insideAt f) (startAt f + 1) (endAt f - 1)
+  pub members-at : {f : Forest} → Placed t b f from to → HasFirst f → kindAt f ≡ 7 → Placed t curly (insideAt f) (startAt f + 1) (endAt f - 1)
   members-at (nothing h) s e = absurd s
   members-at (token p k rest) s e = absurd (omega (arith, token-kind k .most))
   members-at (box {c = square} p c within rest) s e = absurd (omega arith)
   members-at (box {c = curly} p c within rest) s e = within
 
   -- what follows it stands after its end
-  pub rest-at : {f : Forest} → Placed t b f from to → Some f → Placed t b (restAt f) (endAt f) to
+  pub rest-at : {f : Forest} → Placed t b f from to → HasFirst f → Placed t b (restAt f) (endAt f) to
   rest-at (nothing h) s = absurd s
   rest-at (token p k rest) s = rest
   rest-at (box p c within rest) s = rest
 
   -- it lies between the two places
-  pub bounds : {f : Forest} → Placed t b f from to → Some f → Within from to (startAt f) (endAt f)
+  pub bounds : {f : Forest} → Placed t b f from to → HasFirst f → Within from to (startAt f) (endAt f)
   bounds p s = omega (arith, spot p s .start, spot p s .some, in-order (rest-at p s))
 
   -- a string's inside, and a number
-  pub string-at : {f : Forest} → Placed t b f from to → Some f → kindAt f ≡ 5 → Quoted t (startAt f + 1) (endAt f - 1)
+  pub string-at : {f : Forest} → Placed t b f from to → HasFirst f → kindAt f ≡ 5 → Quoted t (startAt f + 1) (endAt f - 1)
   string-at {f} p s e = string-of e (token-at p s (omega arith))
 
-  pub number-at : {f : Forest} → Placed t b f from to → Some f → kindAt f ≡ 4 → Numeral t (startAt f) (endAt f)
+  pub number-at : {f : Forest} → Placed t b f from to → HasFirst f → kindAt f ≡ 4 → Numeral t (startAt f) (endAt f)
   number-at {f} p s e = number-of e (token-at p s (omega arith))
 
 -- the name of a member
-pub name-at : {t : List ℕ} {f : Forest} {from to : ℕ} → Placed t curly f from to → Some f → Quoted t (nameStart f) (nameEnd f)
+pub name-at : {t : List ℕ} {f : Forest} {from to : ℕ} → Placed t curly f from to → HasFirst f → Quoted t (nameStart f) (nameEnd f)
 name-at p s = spot p s .name .quoted
 
 -- the root and an element have the name 0, 0
-pub no-name-at : {t : List ℕ} {f : Forest} {from to : ℕ} → Placed t square f from to → Some f → Unnamed (nameStart f) (nameEnd f)
+pub no-name-at : {t : List ℕ} {f : Forest} {from to : ℕ} → Placed t square f from to → HasFirst f → Unnamed (nameStart f) (nameEnd f)
 no-name-at p s = spot p s .name
 
 -- one value ends before the next one starts
-pub next-after : {t : List ℕ} {b : Bracket} {f : Forest} {from to : ℕ} → Placed t b f from to → Some f → Some (restAt f) → endAt f ≤ startAt (restAt f)
+pub next-after : {t : List ℕ} {b : Bracket} {f : Forest} {from to : ℕ} → Placed t b f from to → HasFirst f → HasFirst (restAt f) → endAt f ≤ startAt (restAt f)
 next-after p s n = spot (rest-at p s) n .start

@@ -43,7 +43,7 @@ use borrow.Author.Tests.{ltb-false}
 use Rattle.laws.specs.Lists.{filled}
 use Rattle.text.specs.Limits.{Limits}
 use Rattle.text.specs.Tree.{Bracket, Forest, size}
-use Rattle.text.specs.Firsts.{Some, endAt, restAt}
+use Rattle.text.specs.Firsts.{HasFirst, endAt, restAt}
 use Rattle.text.specs.Placed.{Placed}
 use Rattle.text.specs.Promised.{Promised, Filled}
 use Rattle.text.specs.Reader.{Read, good, bad}
@@ -221,5 +221,5 @@ module _ (L : Limits) (words : ℕ) (t table : List ℕ) (is : table ≡ tableOf
 
 -- ---- for a walk that keeps where the values stand ----
 
-pub keep-placed : (t : List ℕ) (b : Bracket) (to : ℕ) (f : Forest) → Some f → (from : ℕ) × Placed t b f from to → (from : ℕ) × Placed t b (restAt f) from to
+pub keep-placed : (t : List ℕ) (b : Bracket) (to : ℕ) (f : Forest) → HasFirst f → (from : ℕ) × Placed t b f from to → (from : ℕ) × Placed t b (restAt f) from to
 keep-placed t b to f s (from, p) = (endAt f, rest-at p s)

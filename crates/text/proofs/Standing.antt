@@ -18,9 +18,15 @@ use Rattle.laws.specs.Lists.{filled}
 use Rattle.text.specs.Limits.{rowWords}
 use Rattle.text.specs.Tree.{Bracket, square, curly, kindIn, Forest, none, leaf, node, size, rowsOf, startsOf}
 use Rattle.text.specs.Standing.{Stands, StandsTo}
-use Rattle.text.specs.Firsts.{Some, kindAt, nameStart, nameEnd, startAt, endAt, insideAt, belowAt, restAt, firstOf, Kinds}
+use Rattle.text.specs.Firsts.{HasFirst, kindAt, nameStart, nameEnd, startAt, endAt, insideAt, belowAt, restAt, Kinds}
 use Rattle.text.specs.Reader.{good}
 use Rattle.text.specs.Whole.{tableOf}
+
+-- the first of some values alone, with what is inside it
+abbrev pub firstOf : Forest → Forest
+firstOf none = none
+firstOf (leaf kind ns ne from to rest) = leaf kind ns ne from to none
+firstOf (node b ns ne from to inside rest) = node b ns ne from to inside none
 
 -- ---- lengths ----
 
@@ -46,7 +52,7 @@ pub record RowAt (t : List ℕ) (k : ℕ) (f : Forest) : Type 0 where
   pub room : k * rowWords + 5 < length t
   pub room-all : (k + 1 + belowAt f) * rowWords ≤ length t
 
-pub row-at : {t : List ℕ} {k : ℕ} (f : Forest) → Some f → Stands t k f → RowAt t k f
+pub row-at : {t : List ℕ} {k : ℕ} (f : Forest) → HasFirst f → Stands t k f → RowAt t k f
 unfolding rowsOf size
 row-at none s h = absurd s
 row-at {t} {k} (leaf kind ns ne from to rest) s h =
@@ -80,7 +86,7 @@ next-row t l k n e =
     let place : (k + n) * rowWords ≡ k * rowWords + n * rowWords = omega arith in
     rw place (sym (drop-drop (n * rowWords) (k * rowWords) t) ∙ ap (λ (m : List ℕ). drop (n * rowWords) m) e)
 
-pub inside : {t : List ℕ} {k : ℕ} (f : Forest) → Some f → Stands t k f → StandsTo t (k + 1) (k + 1 + belowAt f) (insideAt f)
+pub inside : {t : List ℕ} {k : ℕ} (f : Forest) → HasFirst f → Stands t k f → StandsTo t (k + 1) (k + 1 + belowAt f) (insideAt f)
 unfolding rowsOf size
 inside none s h = absurd s
 inside {t} {k} (leaf kind ns ne from to rest) s h =
@@ -93,7 +99,7 @@ inside {t} {k} (node b ns ne from to within rest) s h =
     }
 
 -- what follows it
-pub next : {t : List ℕ} {k : ℕ} (f : Forest) → Some f → Stands t k f → Stands t (k + 1 + belowAt f) (restAt f)
+pub next : {t : List ℕ} {k : ℕ} (f : Forest) → HasFirst f → Stands t k f → Stands t (k + 1 + belowAt f) (restAt f)
 unfolding rowsOf size
 next none s h = absurd s
 next {t} {k} (leaf kind ns ne from to rest) s h =
@@ -110,7 +116,7 @@ next {t} {k} (node b ns ne from to within rest) s h =
     }
 
 -- the first value alone
-pub alone : {t : List ℕ} {k : ℕ} (f : Forest) → Some f → Stands t k f → Stands t k (firstOf f)
+pub alone : {t : List ℕ} {k : ℕ} (f : Forest) → HasFirst f → Stands t k f → Stands t k (firstOf f)
 unfolding rowsOf
 alone none s h = absurd s
 alone (leaf kind ns ne from to rest) s h = record { rest = rowsOf rest ++ h .rest; is = h .is }
@@ -119,13 +125,13 @@ alone (node b ns ne from to within rest) s h =
 
 -- ---- the same for values that end before a row ----
 
-pub first-and-rest : (f : Forest) → Some f → size f ≡ 1 + belowAt f + size (restAt f)
+pub first-and-rest : (f : Forest) → HasFirst f → size f ≡ 1 + belowAt f + size (restAt f)
 unfolding size
 first-and-rest none s = absurd s
 first-and-rest (leaf kind ns ne from to rest) s = omega arith
 first-and-rest (node b ns ne from to within rest) s = omega arith
 
-module _ {t : List ℕ} {k end : ℕ} (f : Forest) (s : Some f) (h : StandsTo t k end f) where
+module _ {t : List ℕ} {k end : ℕ} (f : Forest) (s : HasFirst f) (h : StandsTo t k end f) where
   pub after : StandsTo t (k + 1 + belowAt f) end (restAt f)
   after = record { stands = next f s (h .stands); ends = omega (arith, first-and-rest f s, h .ends) }
 
@@ -133,7 +139,7 @@ module _ {t : List ℕ} {k end : ℕ} (f : Forest) (s : Some f) (h : StandsTo t 
   within = omega (arith, after .ends)
 
 -- there is a value where the rows have not ended, and none where they have
-pub some-at : {t : List ℕ} {k end : ℕ} (f : Forest) → StandsTo t k end f → k < end → Some f
+pub some-at : {t : List ℕ} {k end : ℕ} (f : Forest) → StandsTo t k end f → k < end → HasFirst f
 unfolding size
 some-at none h lt = absurd (omega (arith, h .ends))
 some-at (leaf kind ns ne from to rest) h lt = tt
@@ -192,14 +198,14 @@ first-kinds none p = tt
 first-kinds (leaf kind ns ne from to rest) p = (p .0, tt)
 first-kinds (node b ns ne from to inside rest) p = (p .0, tt)
 
-pub first-size : (f : Forest) → Some f → size (firstOf f) ≡ 1 + belowAt f
+pub first-size : (f : Forest) → HasFirst f → size (firstOf f) ≡ 1 + belowAt f
 unfolding size
 first-size none s = absurd s
 first-size (leaf kind ns ne from to rest) s = omega arith
 first-size (node b ns ne from to inside rest) s = omega arith
 
 -- and no two values, whatever follows them
-pub value-unique : {t : List ℕ} {k : ℕ} (f g : Forest) → Some f → Some g → Kinds f → Kinds g → Stands t k f → Stands t k g → firstOf f ≡ firstOf g
+pub value-unique : {t : List ℕ} {k : ℕ} (f g : Forest) → HasFirst f → HasFirst g → Kinds f → Kinds g → Stands t k f → Stands t k g → firstOf f ≡ firstOf g
 value-unique {t} {k} f g p q x y h i =
     let n : k + size (firstOf g) ≡ k + size (firstOf f) = omega (arith, row-at f p h .below, row-at g q i .below, first-size f p, first-size g q) in
     stands-unique (firstOf f) (firstOf g) (first-kinds f x) (first-kinds g y)
@@ -265,21 +271,21 @@ module _ {A : Type 0} (t : List ℕ) (from end : ℕ) (f : Forest → A) where
 
   module _ (at : ℕ) (g : Going at) where
     -- the value where the walk is
-    pub here : (vs : Forest) → StandsTo t from end vs → at < end → (ws : Forest) × Some ws × StandsTo t at end ws × (f vs ≡ f ws)
+    pub here : (vs : Forest) → StandsTo t from end vs → at < end → (ws : Forest) × HasFirst ws × StandsTo t at end ws × (f vs ≡ f ws)
     here vs s lt = (g vs s .0, some-at (g vs s .0) (g vs s .1) lt, g vs s .1, g vs s .2)
 
     -- over a value that changes nothing, to the next one
-    pub go-on : at < end → ((ws : Forest) → Some ws → StandsTo t at end ws → f ws ≡ f (restAt ws)) → (n : ℕ) → n ≡ getD t (at * rowWords + 5) 0 → Going (at + 1 + n)
+    pub go-on : at < end → ((ws : Forest) → HasFirst ws → StandsTo t at end ws → f ws ≡ f (restAt ws)) → (n : ℕ) → n ≡ getD t (at * rowWords + 5) 0 → Going (at + 1 + n)
     go-on lt step n e vs s =
         let (ws, z, h, q) = here vs s lt in
         (restAt ws, rw (e ∙ row-at ws z (h .stands) .below) (after ws z h), q ∙ step ws z h)
 
     -- the value that decides
-    pub hit : at < end → (r : A) → ((ws : Forest) → Some ws → StandsTo t at end ws → r ≡ f ws) → (vs : Forest) → StandsTo t from end vs → r ≡ f vs
+    pub hit : at < end → (r : A) → ((ws : Forest) → HasFirst ws → StandsTo t at end ws → r ≡ f ws) → (vs : Forest) → StandsTo t from end vs → r ≡ f vs
     hit lt r this vs s = let (ws, z, h, q) = here vs s lt in this ws z h ∙ sym q
 
     -- the same for any property of what f says
-    pub hit-any : at < end → (P : A → Type 0) → ((ws : Forest) → Some ws → StandsTo t at end ws → P (f ws)) → (vs : Forest) → StandsTo t from end vs → P (f vs)
+    pub hit-any : at < end → (P : A → Type 0) → ((ws : Forest) → HasFirst ws → StandsTo t at end ws → P (f ws)) → (vs : Forest) → StandsTo t from end vs → P (f vs)
     hit-any lt P this vs s = let (ws, z, h, q) = here vs s lt in rw q (this ws z h)
 
     -- the end
@@ -287,7 +293,7 @@ module _ {A : Type 0} (t : List ℕ) (from end : ℕ) (f : Forest → A) where
     ended le vs s = rw (g vs s .2, none-at (g vs s .0) (g vs s .1) le)
 
 -- The same where something is known of the values from the start, P, which those that are left keep.
-module _ {A : Type 0} (P : Forest → Type 0) (keep : (ws : Forest) → Some ws → P ws → P (restAt ws)) (t : List ℕ) (from end : ℕ) (f : Forest → A) where
+module _ {A : Type 0} (P : Forest → Type 0) (keep : (ws : Forest) → HasFirst ws → P ws → P (restAt ws)) (t : List ℕ) (from end : ℕ) (f : Forest → A) where
   abbrev pub Keeping : ℕ → Type 0
   Keeping at = (vs : Forest) → P vs → StandsTo t from end vs → (ws : Forest) × P ws × StandsTo t at end ws × (f vs ≡ f ws)
 
@@ -295,20 +301,20 @@ module _ {A : Type 0} (P : Forest → Type 0) (keep : (ws : Forest) → Some ws 
   keeps-start vs p s = (vs, p, s, refl)
 
   module _ (at : ℕ) (g : Keeping at) where
-    pub keeps-here : (vs : Forest) → P vs → StandsTo t from end vs → at < end → (ws : Forest) × Some ws × P ws × StandsTo t at end ws × (f vs ≡ f ws)
+    pub keeps-here : (vs : Forest) → P vs → StandsTo t from end vs → at < end → (ws : Forest) × HasFirst ws × P ws × StandsTo t at end ws × (f vs ≡ f ws)
     keeps-here vs p s lt = let (ws, q, h, e) = g vs p s in (ws, some-at ws h lt, q, h, e)
 
-    pub keeps-on : at < end → ((ws : Forest) → Some ws → P ws → StandsTo t at end ws → f ws ≡ f (restAt ws)) → (n : ℕ)
+    pub keeps-on : at < end → ((ws : Forest) → HasFirst ws → P ws → StandsTo t at end ws → f ws ≡ f (restAt ws)) → (n : ℕ)
         → n ≡ getD t (at * rowWords + 5) 0 → Keeping (at + 1 + n)
     keeps-on lt step n e vs p s =
         let (ws, z, q, h, x) = keeps-here vs p s lt in
         (restAt ws, keep ws z q, rw (e ∙ row-at ws z (h .stands) .below) (after ws z h), x ∙ step ws z q h)
 
-    pub keeps-hit : at < end → (r : A) → ((ws : Forest) → Some ws → P ws → StandsTo t at end ws → r ≡ f ws) → (vs : Forest) → P vs
+    pub keeps-hit : at < end → (r : A) → ((ws : Forest) → HasFirst ws → P ws → StandsTo t at end ws → r ≡ f ws) → (vs : Forest) → P vs
         → StandsTo t from end vs → r ≡ f vs
     keeps-hit lt r this vs p s = let (ws, z, q, h, x) = keeps-here vs p s lt in this ws z q h ∙ sym x
 
-    pub keeps-any : at < end → (Q : A → Type 0) → ((ws : Forest) → Some ws → P ws → StandsTo t at end ws → Q (f ws)) → (vs : Forest) → P vs
+    pub keeps-any : at < end → (Q : A → Type 0) → ((ws : Forest) → HasFirst ws → P ws → StandsTo t at end ws → Q (f ws)) → (vs : Forest) → P vs
         → StandsTo t from end vs → Q (f vs)
     keeps-any lt Q this vs p s = let (ws, z, q, h, x) = keeps-here vs p s lt in rw x (this ws z q h)
 

@@ -13,7 +13,7 @@ use native.Mathlib.Omega.{arith}
 use lib.ListN.{length, List·getD-eq-default}
 use lib.Dec.{eqb}
 use borrow.Author.Tests.{eqb-true}
-use Rattle.laws.specs.Scan.{scan-step}
+use Rattle.laws.proofs.Scans.{scan-step}
 use Rattle.laws.proofs.Places.{inside}
 use Rattle.text.specs.Text.{byteAt, bytes}
 use Rattle.text.specs.Strings.{stringEnd}

@@ -13,7 +13,7 @@ use lib.Dec.{eqb}
 use borrow.Author.Needs.{needs}
 use Rattle.text.specs.Text.{byteAt}
 use Rattle.text.specs.Chars.{checkedAt, rawAt, lowAt, pairAt, unitAt, onHex, escapeAt, stepBy, stepAt}
-use Rattle.laws.specs.Scan.{scan-step}
+use Rattle.laws.proofs.Scans.{scan-step}
 use Rattle.text.specs.Strings.{onStep, endBody, stringEnd, Piece, stop, piece, pieceOf, pieceBy, onPiece, decodeBody, decodeFrom}
 use Rattle.text.specs.declared.Hex.{Hex}
 use Rattle.text.specs.declared.Hex.the-variants.{Unit, Bad}

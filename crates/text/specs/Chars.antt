@@ -31,9 +31,11 @@ hex4Of i a b c d =
     (cond (eqb c 16) (Bad (i + 2))
     (cond (eqb d 16) (Bad (i + 3)) (Unit (a % 16 * 4096 + b % 16 * 256 + c % 16 * 16 + d % 16)))))
 
+-- the value of the hexadecimal digit at a place, or 16
 unfoldable pub digitAt : List ℕ → ℕ → ℕ
 digitAt t i = digitOf (byteAt t i)
 
+-- the value of the four hexadecimal digits from a place on, or the first place that has none
 unfoldable pub hex4At : List ℕ → ℕ → Hex
 hex4At t i = hex4Of i (digitAt t i) (digitAt t (i + 1)) (digitAt t (i + 2)) (digitAt t (i + 3))
 
@@ -56,23 +58,27 @@ checkedAt i code len =
 unfoldable pub tailOf : ℕ → ℕ
 tailOf b = cond (ltb b 128) 64 (cond (ltb b 192) (b - 128) 64)
 
--- the code point of a first byte and the bits after it; no code point where a continuation byte lacks or a shorter sequence would do
+-- the code point of a sequence of two bytes, by its first byte and the bits of the next; U+110000, which is none, where that is no continuation
+-- byte or a shorter sequence would do
 unfoldable pub seq2 : ℕ → ℕ → ℕ
 seq2 b x =
     let code : ℕ = b % 32 * 64 + x in
     cond (ltb 63 x) 0x110000 (cond (ltb code 128) 0x110000 code)
 
+-- of a sequence of three bytes
 unfoldable pub seq3 : ℕ → ℕ → ℕ → ℕ
 seq3 b x y =
     let code : ℕ = b % 16 * 4096 + x * 64 + y in
     cond (ltb 63 x) 0x110000 (cond (ltb 63 y) 0x110000 (cond (ltb code 2048) 0x110000 code))
 
+-- of a sequence of four bytes
 unfoldable pub seq4 : ℕ → ℕ → ℕ → ℕ → ℕ
 seq4 b x y z =
     let code : ℕ = b % 8 * 262144 + x * 4096 + y * 64 + z in
     cond (ltb 63 x) 0x110000
     (cond (ltb 63 y) 0x110000 (cond (ltb 63 z) 0x110000 (cond (ltb code 65536) 0x110000 code)))
 
+-- the six bits of the continuation byte at a place, or 64
 unfoldable pub tailAt : List ℕ → ℕ → ℕ
 tailAt t i = tailOf (byteAt t i)
 
@@ -106,6 +112,7 @@ lowAt i high (Unit low) =
     cond (ltb low 0xDC00) (Bad3 i)
     (cond (ltb low 0xE000) (checkedAt i (65536 + high % 1024 * 1024 + low % 1024) 12) (Bad3 i))
 
+-- a high surrogate escape at i, which another escape must follow
 unfoldable pub pairAt : List ℕ → ℕ → ℕ → Step
 pairAt t i high =
     cond (eqb (byteAt t (i + 6)) 92)
@@ -116,6 +123,7 @@ pairAt t i high =
 unfoldable pub unitAt : List ℕ → ℕ → ℕ → Step
 unitAt t i u = cond (ltb u 0xD800) (checkedAt i u 6) (cond (ltb u 0xDC00) (pairAt t i u) (checkedAt i u 6))
 
+-- the escape \u at i with its four digits; 2 at the first that lacks
 unfoldable pub onHex : List ℕ → ℕ → Hex → Step
 onHex t i (Unit u) = unitAt t i u
 onHex t i (Bad p) = Bad2 p
@@ -139,5 +147,6 @@ stepBy t i b =
     (cond (ltb b 128) (Char b 1)
     (cond (ltb b 256) raw (Bad2 i)))))
 
+-- what stands at i
 abbrev pub stepAt : List ℕ → ℕ → Step
 stepAt t i = stepBy t i (byteAt t i)

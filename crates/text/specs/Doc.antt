@@ -30,6 +30,7 @@ mutual
 
 -- ---- from a text and its tree
 
+-- an array or an object of what stands inside it
 abbrev pub boxed : Bracket → Members → Doc
 boxed square ms = array ms
 boxed curly ms = object ms
@@ -38,6 +39,7 @@ boxed curly ms = object ms
 abbrev pub labelAt : List ℕ → (ns ne : ℕ) → List ℕ
 labelAt t ns ne = let label = partOf t (ns - 1) (ne + 1) in cond (eqb ns 0) [] label
 
+-- the values of a tree as members, each with its decoded name and its name as written
 unfoldable pub membersOf : List ℕ → Forest → Members
 membersOf t T.none = empty
 membersOf t (leaf kind ns ne from to rest) = member (nameOf t ns ne) (labelAt t ns ne) (scalar kind (partOf t from to)) (membersOf t rest)
@@ -51,6 +53,7 @@ docOf t (node b ns ne from to inside rest) = boxed b (membersOf t inside)
 
 -- ---- kinds and counts, as in the rows
 
+-- the kind of a value: 1 to 5, 6 for an array, 7 for an object
 abbrev pub kindOf : Doc → ℕ
 kindOf (scalar kind token) = kind
 kindOf (array ms) = 6
@@ -68,30 +71,35 @@ below (scalar kind token) = empty
 below (array ms) = ms
 below (object ms) = ms
 
--- the values of a document, itself included
 unfoldable mutual
+  -- the values of a document, itself included
   pub countOf : Doc → ℕ
   countOf (scalar kind token) = 1
   countOf (array ms) = suc (countAll ms)
   countOf (object ms) = suc (countAll ms)
 
+  -- the values of some members, those inside them too
   pub countAll : Members → ℕ
   countAll empty = 0
   countAll (member n label d ms) = countOf d + countAll ms
 
 -- ---- the member of a name
 
+-- a member without its decoded name: its name as written, and its value
 pub record Property : Type 0 where
   pub label : List ℕ
   pub content : Doc
 
+-- the record of the two
 abbrev pub property : List ℕ → Doc → Property
 property label d = record { label = label; content = d }
 
+-- the first member of that name, if there is one
 abbrev pub seek : Name → Members → Option Property
 seek n empty = none
 seek n (member m label d ms) = let more = seek n ms in cond (same m n) (some (property label d)) more
 
+-- is there one?
 abbrev pub isThere : {A : Type 0} → Option A → Bool
 isThere none = false
 isThere (some x) = true

@@ -1,5 +1,5 @@
 -- What it means that a text has a fault of a number at a place: each of 2 to 6 by itself, over texts of the grammar that begin as the text does,
--- limits, names and the rules of spelling aside. The refusal is the fault of the smallest place, then of the smaller number (`First`).
+-- limits, names and the rules of spelling aside. The refusal is the fault of the smallest place, then of the smaller number (`FirstFault`).
 -- Assumes nothing: these are definitions.
 use Prim.Native.Nat.{ℕ, _+_, _≤_, _<_}
 use mathlib.Core.Path.{_≡_}
@@ -18,7 +18,7 @@ use Rattle.text.specs.Reader.{bad}
 use Rattle.text.specs.Whole.{readOf}
 use Rattle.text.specs.Placed.{Quoted}
 use Rattle.text.specs.Grammar.{JsonText, rootOf}
-use Rattle.text.specs.Seats.{Head, Seat, top, In, Named}
+use Rattle.text.specs.Seats.{Head, Seat, top, Sits, Named}
 use Rattle.text.specs.declared.Refusal.{Refusal}
 
 -- some text of the grammar begins with the first p bytes
@@ -34,47 +34,51 @@ pub record NotGrammar (t : List ℕ) (p : ℕ) : Type 0 where
   pub no-end : p ≡ length t → JsonText t → ⊥
 
 -- a string of this value has its opening quote at j: the value itself, or its name
-pub data Opening (h : Head) : (j : ℕ) → Type 0 where
-  value : h .kind ≡ 5 → Opening h (h .from)
-  name : {j : ℕ} → h .ns ≡ j + 1 → Opening h j
+pub data StringAt (h : Head) : (j : ℕ) → Type 0 where
+  value : h .kind ≡ 5 → StringAt h (h .from)
+  name : {j : ℕ} → h .ns ≡ j + 1 → StringAt h j
 
 -- the value h, which stands at the seat d, breaks one of the rules 3 to 6 at a place
-pub data Breaks (L : Limits) (t : List ℕ) (d : Seat) (h : Head) : (number place : ℕ) → Type 0 where
+pub data ValueBreaks (L : Limits) (t : List ℕ) (d : Seat) (h : Head) : (number place : ℕ) → Type 0 where
   -- in a string that opens at j, behind characters that are spelled: bytes that aim at a character and spell none
-  character : {j p : ℕ} {codes : List ℕ} → Opening h j → byteAt t j ≡ 34 → j < p → Spells (partOf t (j + 1) p) codes → Ill (drop p t) → Breaks L t d h 3 p
-  -- a name, closed and spelled, that a member before it in its object has, both decoded; it counts whatever follows it
-  repeated : {p e : ℕ} → L .unique ≡ true → h .ns ≡ p + 1 → Quoted t (p + 1) e → Named t (nameOf t (p + 1) e) (d .beside) → Breaks L t d h 4 p
+  character : {j p : ℕ} {codes : List ℕ} → StringAt h j → byteAt t j ≡ 34 → j < p → Spells (partOf t (j + 1) p) codes → Ill (drop p t)
+      → ValueBreaks L t d h 3 p
+  -- a name, closed and spelled, that a member before it in its object has, both decoded; it counts whatever follows it. Nothing is asked of the
+  -- other name: if that does not spell, it breaks 3 at a smaller place, which comes first
+  repeated : {p e : ℕ} → L .unique ≡ true → h .ns ≡ p + 1 → Quoted t (p + 1) e → Named t (nameOf t (p + 1) e) (d .beside) → ValueBreaks L t d h 4 p
   -- an array or object inside as many others as may be open at once
-  deep : h .holds ≡ true → d .inside ≡ L .depth → Breaks L t d h 5 (h .from)
+  deep : h .holds ≡ true → d .inside ≡ L .depth → ValueBreaks L t d h 5 (h .from)
   -- a value after as many others as there may be
-  many : d .after ≡ L .values → Breaks L t d h 6 (h .from)
+  many : d .after ≡ L .values → ValueBreaks L t d h 6 (h .from)
 
-pub record Broken (L : Limits) (t : List ℕ) (f : Forest) (n p : ℕ) : Type 0 where
+-- some value of the tree f breaks the rule n at p
+pub record TreeBreaks (L : Limits) (t : List ℕ) (f : Forest) (n p : ℕ) : Type 0 where
   pub seat : Seat
   pub head : Head
-  pub there : In top f seat head
-  pub breaks : Breaks L t seat head n p
+  pub there : Sits top f seat head
+  pub breaks : ValueBreaks L t seat head n p
 
 -- 3 to 6: some text of the grammar begins with the first p bytes and the byte at p, and a value of it breaks the rule at p
 pub record Violated (L : Limits) (t : List ℕ) (n p : ℕ) : Type 0 where
   pub within : p < length t
   pub rest : List ℕ
   pub is : JsonText (take (p + 1) t ++ rest)
-  pub broken : Broken L t (rootOf is) n p
+  pub broken : TreeBreaks L t (rootOf is) n p
 
-pub data Fault (L : Limits) (t : List ℕ) : (number place : ℕ) → Type 0 where
-  grammar : {p : ℕ} → NotGrammar t p → Fault L t 2 p
-  violated : {n p : ℕ} → Violated L t n p → Fault L t n p
+-- a fault of any of 2 to 6
+pub data FaultAt (L : Limits) (t : List ℕ) : (number place : ℕ) → Type 0 where
+  grammar : {p : ℕ} → NotGrammar t p → FaultAt L t 2 p
+  violated : {n p : ℕ} → Violated L t n p → FaultAt L t n p
 
 -- even in each such text a value breaks the rule at p
 abbrev pub InEach : Limits → List ℕ → (number place : ℕ) → Type 0
-InEach L t n p = (rest : List ℕ) (d : JsonText (take (p + 1) t ++ rest)) → Broken L t (rootOf d) n p
+InEach L t n p = (rest : List ℕ) (d : JsonText (take (p + 1) t ++ rest)) → TreeBreaks L t (rootOf d) n p
 
 -- the fault of the smallest place, then of the smaller number
-pub record First (L : Limits) (t : List ℕ) (n p : ℕ) : Type 0 where
-  pub fault : Fault L t n p
-  pub no-earlier : (m q : ℕ) → Fault L t m q → q < p → ⊥
-  pub no-smaller : (m : ℕ) → Fault L t m p → m < n → ⊥
+pub record FirstFault (L : Limits) (t : List ℕ) (n p : ℕ) : Type 0 where
+  pub fault : FaultAt L t n p
+  pub no-earlier : (m q : ℕ) → FaultAt L t m q → q < p → ⊥
+  pub no-smaller : (m : ℕ) → FaultAt L t m p → m < n → ⊥
 
 -- reading refuses the text with these two numbers of the sheet
 pub record Refuses (L : Limits) (t : List ℕ) (n p : ℕ) : Type 0 where

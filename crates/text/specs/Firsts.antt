@@ -4,10 +4,10 @@ use Prim.Native.Nat.{ℕ, _≤_, _<_}
 use Rattle.text.specs.Tree.{kindIn, Forest, none, leaf, node, size}
 
 -- there is a first value
-abbrev pub Some : Forest → Type 0
-Some none = ⊥
-Some (leaf kind ns ne from to rest) = Prim.Unit {0}
-Some (node b ns ne from to inside rest) = Prim.Unit {0}
+abbrev pub HasFirst : Forest → Type 0
+HasFirst none = ⊥
+HasFirst (leaf kind ns ne from to rest) = Prim.Unit {0}
+HasFirst (node b ns ne from to inside rest) = Prim.Unit {0}
 
 -- its kind: 1 to 5, 6 for an array, 7 for an object
 abbrev pub kindAt : Forest → ℕ
@@ -15,34 +15,37 @@ kindAt none = 0
 kindAt (leaf kind ns ne from to rest) = kind
 kindAt (node b ns ne from to inside rest) = kindIn b
 
--- where its name starts and ends, without quotes
+-- where its name starts, after the quote
 abbrev pub nameStart : Forest → ℕ
 nameStart none = 0
 nameStart (leaf kind ns ne from to rest) = ns
 nameStart (node b ns ne from to inside rest) = ns
 
+-- where its name ends, before the quote
 abbrev pub nameEnd : Forest → ℕ
 nameEnd none = 0
 nameEnd (leaf kind ns ne from to rest) = ne
 nameEnd (node b ns ne from to inside rest) = ne
 
--- where it starts and ends itself
+-- where it starts itself
 abbrev pub startAt : Forest → ℕ
 startAt none = 0
 startAt (leaf kind ns ne from to rest) = from
 startAt (node b ns ne from to inside rest) = from
 
+-- where it ends itself
 abbrev pub endAt : Forest → ℕ
 endAt none = 0
 endAt (leaf kind ns ne from to rest) = to
 endAt (node b ns ne from to inside rest) = to
 
--- what is inside it, and how many values that are
+-- what is inside it
 abbrev pub insideAt : Forest → Forest
 insideAt none = none
 insideAt (leaf kind ns ne from to rest) = none
 insideAt (node b ns ne from to inside rest) = inside
 
+-- how many values that are, the last word of its row
 abbrev pub belowAt : Forest → ℕ
 belowAt f = size (insideAt f)
 
@@ -51,12 +54,6 @@ abbrev pub restAt : Forest → Forest
 restAt none = none
 restAt (leaf kind ns ne from to rest) = rest
 restAt (node b ns ne from to inside rest) = rest
-
--- it alone, with what is inside it
-abbrev pub firstOf : Forest → Forest
-firstOf none = none
-firstOf (leaf kind ns ne from to rest) = leaf kind ns ne from to none
-firstOf (node b ns ne from to inside rest) = node b ns ne from to inside none
 
 -- a kind of a value that holds no others
 pub record ScalarKind (kind : ℕ) : Type 0 where

@@ -10,22 +10,26 @@ use Prim.Native.Nat.{ℕ, suc, _+_, _-_, max}
 use mathlib.Core.List.{List, [], _∷_, _++_}
 use lib.ListN.{length}
 use Rattle.text.specs.Text.{bytes}
+use Rattle.text.specs.Spelling.{FourDigits, Short}
 use Rattle.text.specs.Abnf.{Byte, Between, Just, Exactly, Seq, Or, Opt, Star}
 use Rattle.text.specs.Tree.{Bracket, square, curly, closing, Forest, none, leaf, node, join}
 
--- ---- section 2: ws = *( %x20 / %x09 / %x0A / %x0D )
+-- ---- section 2: white space
 
+-- %x20 / %x09 / %x0A / %x0D
 pub data Blank : ℕ → Type 0 where
   space : Blank 0x20
   tab : Blank 0x09
   line-feed : Blank 0x0A
   return : Blank 0x0D
 
+-- ws = *( %x20 / %x09 / %x0A / %x0D )
 abbrev pub Ws : List ℕ → Type 0
 Ws = Star (Byte Blank)
 
--- ---- section 6: number = [ minus ] int [ frac ] [ exp ]
+-- ---- section 6: numbers
 
+-- DIGIT = %x30-39
 abbrev pub Digit : List ℕ → Type 0
 Digit = Byte (Between 0x30 0x39)
 
@@ -55,10 +59,11 @@ pub data Sign : ℕ → Type 0 where
 abbrev pub Exp : List ℕ → Type 0
 Exp = Seq (Byte E) (Seq (Opt (Byte Sign)) Digits)
 
+-- number = [ minus ] int [ frac ] [ exp ]
 abbrev pub Number : List ℕ → Type 0
 Number = Seq (Seq (Seq (Opt (Just 0x2D)) Int) (Opt Frac)) (Opt Exp)
 
--- ---- section 7: string = quotation-mark *char quotation-mark
+-- ---- section 7: strings; the letters of escapes and HEXDIG are those of specs/Spelling.antt
 
 -- unescaped = %x20-21 / %x23-5B / %x5D-10FFFF; of a code point above 7F the grammar takes any bytes, since UTF-8 is asked apart (specs/Spelling.antt)
 pub data Unescaped : ℕ → Type 0 where
@@ -66,50 +71,37 @@ pub data Unescaped : ℕ → Type 0 where
   middle : {x : ℕ} → Between 0x23 0x5B x → Unescaped x
   high : {x : ℕ} → Between 0x5D 0xFF x → Unescaped x
 
--- HEXDIG, whose letters may be small or capital
-pub data HexDigit : ℕ → Type 0 where
-  decimal : {x : ℕ} → Between 0x30 0x39 x → HexDigit x
-  capital : {x : ℕ} → Between 0x41 0x46 x → HexDigit x
-  small : {x : ℕ} → Between 0x61 0x66 x → HexDigit x
+-- char = unescaped / escape ( %x22 / .. / %x74 / %x75 4HEXDIG ); what an escape stands for is not asked here
+pub data JsonChar : List ℕ → Type 0 where
+  unescaped : {x : ℕ} → Unescaped x → JsonChar (x ∷ [])
+  escape : {x code : ℕ} → Short x code → JsonChar (0x5C ∷ x ∷ [])
+  unicode : {w : List ℕ} {code : ℕ} → FourDigits w code → JsonChar (0x5C ∷ 0x75 ∷ w)
 
--- what may follow a backslash, u aside
-pub data Letter : ℕ → Type 0 where
-  quotation-mark : Letter 0x22
-  reverse-solidus : Letter 0x5C
-  solidus : Letter 0x2F
-  backspace : Letter 0x62
-  form-feed : Letter 0x66
-  line-feed : Letter 0x6E
-  return : Letter 0x72
-  tab : Letter 0x74
+-- string = quotation-mark *char quotation-mark
+pub data JsonString : List ℕ → Type 0 where
+  quoted : {w : List ℕ} → Star JsonChar w → JsonString (0x22 ∷ w ++ 0x22 ∷ [])
 
--- char = unescaped / escape ( %x22 / .. / %x74 / %x75 4HEXDIG )
-pub data Char : List ℕ → Type 0 where
-  unescaped : {x : ℕ} → Unescaped x → Char (x ∷ [])
-  escape : {x : ℕ} → Letter x → Char (0x5C ∷ x ∷ [])
-  unicode : {a b c d : ℕ} → HexDigit a → HexDigit b → HexDigit c → HexDigit d → Char (0x5C ∷ 0x75 ∷ a ∷ b ∷ c ∷ d ∷ [])
+-- ---- section 3: the values that hold no others
 
-pub data String : List ℕ → Type 0 where
-  quoted : {w : List ℕ} → Star Char w → String (0x22 ∷ w ++ 0x22 ∷ [])
-
--- ---- section 3: the values that hold no others, with their kinds in a row
-
+-- null, false, true, a number, a string
 pub data Simple : Type 0 where
   nothing falsity truth numeral text : Simple
 
-abbrev pub kindOf : Simple → ℕ
-kindOf nothing = 1
-kindOf falsity = 2
-kindOf truth = 3
-kindOf numeral = 4
-kindOf text = 5
+-- their kinds in a row
+abbrev pub simpleKind : Simple → ℕ
+simpleKind nothing = 1
+simpleKind falsity = 2
+simpleKind truth = 3
+simpleKind numeral = 4
+simpleKind text = 5
 
-abbrev pub Written : Simple → List ℕ → Type 0
-Written nothing = Exactly (bytes "null")
-Written falsity = Exactly (bytes "false")
-Written truth = Exactly (bytes "true")
-Written numeral = Number
-Written text = String
+-- the bytes are such a value
+abbrev pub IsSimple : Simple → List ℕ → Type 0
+IsSimple nothing = Exactly (bytes "null")
+IsSimple falsity = Exactly (bytes "false")
+IsSimple truth = Exactly (bytes "true")
+IsSimple numeral = Number
+IsSimple text = JsonString
 
 -- ---- sections 2 to 5: values, arrays and objects
 
@@ -125,14 +117,15 @@ pub data Part : Type 0 where
 
 -- the bytes are such a part
 pub data Is : Part → List ℕ → Type 0 where
-  simple : {w : List ℕ} (k : Simple) → Written k w → Is value w
+  simple : {w : List ℕ} (k : Simple) → IsSimple k w → Is value w
   empty : {s : List ℕ} (b : Bracket) → Ws s → Is value (opening b ∷ s ++ closing b ∷ [])
   full : {s w : List ℕ} (b : Bracket) → Ws s → Is (items b) w → Is value (opening b ∷ s ++ (w ++ closing b ∷ []))
   element : {w : List ℕ} → Is value w → Is (item square) w
-  member : {m s r w : List ℕ} → String m → Ws s → Ws r → Is value w → Is (item curly) (m ++ (s ++ 0x3A ∷ (r ++ w)))
+  member : {m s r w : List ℕ} → JsonString m → Ws s → Ws r → Is value w → Is (item curly) (m ++ (s ++ 0x3A ∷ (r ++ w)))
   one : {v s : List ℕ} {b : Bracket} → Is (item b) v → Ws s → Is (items b) (v ++ s)
   comma : {v s r w : List ℕ} {b : Bracket} → Is (item b) v → Ws s → Ws r → Is (items b) w → Is (items b) (v ++ (s ++ 0x2C ∷ (r ++ w)))
 
+-- JSON-text = ws value ws
 pub data JsonText : List ℕ → Type 0 where
   json-text : {s w r : List ℕ} → Ws s → Is value w → Ws r → JsonText (s ++ (w ++ r))
 
@@ -140,7 +133,7 @@ pub data JsonText : List ℕ → Type 0 where
 
 -- the values of a part whose first byte is at a place, each from its own first byte to its last; a value that is no member has the name that is handed in
 unfoldable pub treeOf : {a : Part} {w : List ℕ} → Is a w → (ns ne at : ℕ) → Forest
-treeOf (simple {w} k l) ns ne at = leaf (kindOf k) ns ne at (at + length w) none
+treeOf (simple {w} k l) ns ne at = leaf (simpleKind k) ns ne at (at + length w) none
 treeOf (empty {s} b p) ns ne at = node b ns ne at (at + length s + 2) none none
 treeOf (full {s} {w} b p d) ns ne at = node b ns ne at (at + length s + length w + 2) (treeOf d 0 0 (at + 1 + length s)) none
 treeOf (element d) ns ne at = treeOf d 0 0 at

@@ -2,7 +2,6 @@
 use Prim.Native.Nat.{ℕ}
 use mathlib.Core.Path.{_≡_}
 use mathlib.Core.List.{List, [], _∷_, _++_}
-use Rattle.text.specs.Tree.{Bracket, square, curly}
 use Rattle.text.specs.Doc.{Name, Doc, scalar, array, object, Members, empty, member}
 use Rattle.text.specs.Spelling.{Spells, utf8s}
 
@@ -22,26 +21,18 @@ pub record Unlabelled (name : Name) (label : List ℕ) : Type 0 where
 -- N holds of every member's name and label, T of the kind and the token of every value that holds no others, at any depth
 module _ (N : Name → (label : List ℕ) → Type 0) (T : (kind : ℕ) → (token : List ℕ) → Type 0) where
   abbrev mutual
+    -- in a document
     pub Every : Doc → Type 0
     Every (scalar kind token) = T kind token
     Every (array ms) = EveryEntry ms
     Every (object ms) = EveryMember ms
 
-    -- the entries of an array have no names
+    -- in the entries of an array, which have no names
     pub EveryEntry : Members → Type 0
     EveryEntry empty = Prim.Unit {0}
     EveryEntry (member n label d ms) = Unlabelled n label × Every d × EveryEntry ms
 
+    -- in the members of an object
     pub EveryMember : Members → Type 0
     EveryMember empty = Prim.Unit {0}
     EveryMember (member n label d ms) = N n label × Every d × EveryMember ms
-
-  -- what stands inside a container
-  abbrev pub EveryIn : Bracket → Members → Type 0
-  EveryIn square ms = EveryEntry ms
-  EveryIn curly ms = EveryMember ms
-
--- the name of a value inside a container: in an array it has none
-abbrev pub LabelIn : (N : Name → (label : List ℕ) → Type 0) → Bracket → Name → (label : List ℕ) → Type 0
-LabelIn N square n label = Unlabelled n label
-LabelIn N curly n label = N n label

@@ -10,19 +10,20 @@ use Rattle.text.specs.Strings.{nameOf}
 use Rattle.text.specs.Tree.{Forest, size}
 use Rattle.text.specs.Placed.{Quoted}
 use Rattle.text.specs.Grammar.{JsonText, rootOf, depthOf}
-use Rattle.text.specs.Seats.{Head, Seat, top, In, Named}
+use Rattle.text.specs.Seats.{Head, Seat, top, Sits, Named}
 
 -- 01: names compared decoded: no member has a name that a member before it, in the same object, has. (A value that is no member has the name start 0.)
 pub record DistinctNames (t : List ℕ) (f : Forest) : Type 0 where
-  pub new : (d : Seat) (h : Head) → In top f d h → 0 < h .ns → Named t (nameOf t (h .ns) (h .ne)) (d .beside) → ⊥
+  pub new : (d : Seat) (h : Head) → Sits top f d h → 0 < h .ns → Named t (nameOf t (h .ns) (h .ne)) (d .beside) → ⊥
 
+-- the text t is accepted with the tree f
 pub record Accepts (L : Limits) (t : List ℕ) (f : Forest) : Type 0 where
   -- it is a text of the grammar, of which f is the tree
   pub derives : JsonText t
   pub tree : f ≡ rootOf derives
   -- its strings and its names spell
-  pub strings : (d : Seat) (h : Head) → In top f d h → h .kind ≡ 5 → Quoted t (h .from + 1) (h .to - 1)
-  pub names : (d : Seat) (h : Head) → In top f d h → 0 < h .ns → Quoted t (h .ns) (h .ne)
+  pub strings : (d : Seat) (h : Head) → Sits top f d h → h .kind ≡ 5 → Quoted t (h .from + 1) (h .to - 1)
+  pub names : (d : Seat) (h : Head) → Sits top f d h → 0 < h .ns → Quoted t (h .ns) (h .ne)
   -- the names in each object are distinct
   pub distinct : L .unique ≡ true → DistinctNames t f
   -- the limits hold

@@ -31,7 +31,7 @@ pub record Unnamed (ns ne : ℕ) : Type 0 where
   pub end : ne ≡ 0
 
 -- a member's name: its quotes stand at or after `from` and before its value
-pub record Member (t : List ℕ) (from ns ne at : ℕ) : Type 0 where
+pub record MemberName (t : List ℕ) (from ns ne at : ℕ) : Type 0 where
   pub quoted : Quoted t ns ne
   pub after : from < ns
   pub before : ne < at
@@ -39,7 +39,7 @@ pub record Member (t : List ℕ) (from ns ne at : ℕ) : Type 0 where
 -- the name of a value in a container of such a bracket; the root counts as an element
 abbrev pub NameIn : List ℕ → Bracket → (from ns ne at : ℕ) → Type 0
 NameIn t square from ns ne at = Unnamed ns ne
-NameIn t curly from ns ne at = Member t from ns ne at
+NameIn t curly from ns ne at = MemberName t from ns ne at
 
 -- ---- values that hold no others
 

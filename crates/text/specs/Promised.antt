@@ -7,14 +7,14 @@ use lib.ListN.{length}
 use Rattle.text.specs.Limits.{Limits}
 use Rattle.text.specs.Tree.{square, Forest, none, size}
 use Rattle.text.specs.Standing.{StandsTo}
-use Rattle.text.specs.Firsts.{Some, restAt}
+use Rattle.text.specs.Firsts.{HasFirst, restAt}
 use Rattle.text.specs.Placed.{Placed}
 use Rattle.text.specs.Doc.{docOf}
 use Rattle.text.specs.Distinct.{Distinct}
 
 -- a text and its tree: one value, which stands in the text as an element does, in no more bytes and values than the limits allow
 pub record Promised (L : Limits) (t : List ℕ) (f : Forest) : Type 0 where
-  pub some : Some f
+  pub some : HasFirst f
   pub alone : restAt f ≡ none
   pub placed : Placed t square f 0 (length t)
   pub distinct : L .unique ≡ true → Distinct (docOf t f)

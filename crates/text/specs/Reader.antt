@@ -39,7 +39,7 @@ scalarWith kind ns ne at (End to) = good (leaf kind ns ne at to none) to
 scalarWith kind ns ne at (No2 p) = bad (Grammar p)
 scalarWith kind ns ne at (No3 p) = bad (Character p)
 
--- 6: one value too many begins
+-- a value of such a kind at a place; 6: it is one value too many
 unfoldable pub scalarAt : Limits → List ℕ → (kind : ℕ) → Reader
 scalarAt L t kind ns ne at n =
     let all = scalarWith kind ns ne at (tokenAt t kind at) in
@@ -50,7 +50,7 @@ unfoldable pub closeOf : Bracket → (ns ne at : ℕ) → Read → Read
 closeOf b ns ne at (good inside to) = good (node b ns ne at to inside none) to
 closeOf b ns ne at (bad r) = bad r
 
--- a container whose bracket is at a place, given what stands inside from the next place on
+-- a container whose bracket is at a place, given what stands inside from the next place on; 6: it is one value too many
 unfoldable pub container : Limits → Bracket → (inside : ℕ → ℕ → Read) → Reader
 container L b inside ns ne at n =
     let all = closeOf b ns ne at (inside (at + 1) (n + 1)) in
@@ -125,24 +125,37 @@ memberOf L t value done at n =
 
 -- ---- the value at a place, where so many containers may be opened
 
+-- what stands inside an array, from after its bracket on, given the reader of its elements, which have no names
+abbrev pub insideArray : List ℕ → (value : Reader) → (at n : ℕ) → Read
+insideArray t value = insideOf t (λ done. value 0 0) (closing square)
+
+-- what stands inside an object, from after its brace on, given the reader of its members' values
+abbrev pub insideObject : Limits → List ℕ → (value : Reader) → (at n : ℕ) → Read
+insideObject L t value = insideOf t (memberOf L t value) (closing curly)
+
+-- the value at a place; inside a container that it opens, one container fewer may be opened
 unfoldable pub valueAt : Limits → List ℕ → (depth : ℕ) → Reader
 valueAt L t zero = valueWith L t deep deep
 valueAt L t (suc depth) =
-    valueWith L t
-    (container L square (insideOf t (λ done. valueAt L t depth 0 0) (closing square)))
-    (container L curly (insideOf t (memberOf L t (valueAt L t depth)) (closing curly)))
+    let value = valueAt L t depth in
+    valueWith L t (container L square (insideArray t value)) (container L curly (insideObject L t value))
 
--- the same by its parts, as the functions that call each other read them
+-- Its parts by themselves, for the contracts of the functions that call each other; a value is the part of its kind: `value-parts` (proofs/Laws.antt).
+
+-- the elements from after the bracket of an array on, where so many containers may be opened in it
 unfoldable pub elementsAt : Limits → List ℕ → (depth at n : ℕ) → Read
-elementsAt L t depth = insideOf t (λ done. valueAt L t depth 0 0) (closing square)
+elementsAt L t depth = insideArray t (valueAt L t depth)
 
+-- the members from after the brace of an object on, where so many containers may be opened in it
 unfoldable pub membersAt : Limits → List ℕ → (depth at n : ℕ) → Read
-membersAt L t depth = insideOf t (memberOf L t (valueAt L t depth)) (closing curly)
+membersAt L t depth = insideObject L t (valueAt L t depth)
 
+-- the array at a place, where so many containers may be opened, itself included
 unfoldable pub arrayAt : Limits → List ℕ → (depth : ℕ) → Reader
 arrayAt L t zero = deep
 arrayAt L t (suc depth) = container L square (elementsAt L t depth)
 
+-- the object at a place, likewise
 unfoldable pub objectAt : Limits → List ℕ → (depth : ℕ) → Reader
 objectAt L t zero = deep
 objectAt L t (suc depth) = container L curly (membersAt L t depth)

@@ -8,20 +8,22 @@
 use Prim.Native.Nat.{ℕ}
 use mathlib.Core.List.{List, [], _∷_, _++_}
 use Rattle.text.specs.Tree.{Bracket, square, curly, closing}
-use Rattle.text.specs.Grammar.{Ws, String, Simple, Written, opening, Part, value, item, items}
+use Rattle.text.specs.Grammar.{Ws, JsonString, Simple, IsSimple, opening, Part, value, item, items}
 
 -- a structural character c with the white space a before it and b after it, and then w
 abbrev pub mark : ℕ → List ℕ → List ℕ → List ℕ → List ℕ
 mark c a b w = a ++ c ∷ (b ++ w)
 
+-- the bytes are such a part
 pub data Rfc : Part → List ℕ → Type 0 where
-  simple : {w : List ℕ} (k : Simple) → Written k w → Rfc value w
+  simple : {w : List ℕ} (k : Simple) → IsSimple k w → Rfc value w
   empty : {a b c d : List ℕ} (k : Bracket) → Ws a → Ws b → Ws c → Ws d → Rfc value (mark (opening k) a b (mark (closing k) c d []))
   full : {a b c d w : List ℕ} (k : Bracket) → Ws a → Ws b → Rfc (items k) w → Ws c → Ws d → Rfc value (mark (opening k) a b (w ++ mark (closing k) c d []))
   element : {w : List ℕ} → Rfc value w → Rfc (item square) w
-  member : {m a b w : List ℕ} → String m → Ws a → Ws b → Rfc value w → Rfc (item curly) (m ++ mark 0x3A a b w)
+  member : {m a b w : List ℕ} → JsonString m → Ws a → Ws b → Rfc value w → Rfc (item curly) (m ++ mark 0x3A a b w)
   one : {w : List ℕ} {k : Bracket} → Rfc (item k) w → Rfc (items k) w
   comma : {v a b w : List ℕ} {k : Bracket} → Rfc (item k) v → Ws a → Ws b → Rfc (items k) w → Rfc (items k) (v ++ mark 0x2C a b w)
 
+-- JSON-text = ws value ws
 pub data RfcText : List ℕ → Type 0 where
   json-text : {s w r : List ℕ} → Ws s → Rfc value w → Ws r → RfcText (s ++ (w ++ r))

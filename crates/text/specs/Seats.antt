@@ -16,9 +16,11 @@ pub record Head : Type 0 where
   pub from : ℕ
   pub to : ℕ
 
+-- of a value that holds no others
 abbrev pub leafHead : (kind ns ne from to : ℕ) → Head
 leafHead kind ns ne from to = record { holds = false; kind = kind; ns = ns; ne = ne; from = from; to = to }
 
+-- of an array or an object
 abbrev pub nodeHead : (b : Bracket) (ns ne from to : ℕ) → Head
 nodeHead b ns ne from to = record { holds = true; kind = kindIn b; ns = ns; ne = ne; from = from; to = to }
 
@@ -43,15 +45,15 @@ under c = record { inside = c .inside + 1; after = c .after + 1; beside = none }
 abbrev pub behind : Seat → Forest → Seat
 behind c f = record { inside = c .inside; after = c .after + size f; beside = join (c .beside) f }
 
--- `In c f d h`: if the first of the values f stands at c, then the value h, which is one of them or inside one of them, stands at d
-pub data In : Seat → Forest → Seat → Head → Type 0 where
-  leaf-here : {c : Seat} {kind ns ne from to : ℕ} {rest : Forest} → In c (leaf kind ns ne from to rest) c (leafHead kind ns ne from to)
-  node-here : {c : Seat} {b : Bracket} {ns ne from to : ℕ} {inner rest : Forest} → In c (node b ns ne from to inner rest) c (nodeHead b ns ne from to)
-  into : {c d : Seat} {h : Head} {b : Bracket} {ns ne from to : ℕ} {inner rest : Forest} → In (under c) inner d h → In c (node b ns ne from to inner rest) d h
+-- `Sits c f d h`: if the first of the values f stands at c, then the value h, which is one of them or inside one of them, stands at d
+pub data Sits : Seat → Forest → Seat → Head → Type 0 where
+  leaf-here : {c : Seat} {kind ns ne from to : ℕ} {rest : Forest} → Sits c (leaf kind ns ne from to rest) c (leafHead kind ns ne from to)
+  node-here : {c : Seat} {b : Bracket} {ns ne from to : ℕ} {inner rest : Forest} → Sits c (node b ns ne from to inner rest) c (nodeHead b ns ne from to)
+  into : {c d : Seat} {h : Head} {b : Bracket} {ns ne from to : ℕ} {inner rest : Forest} → Sits (under c) inner d h → Sits c (node b ns ne from to inner rest) d h
   leaf-on : {c d : Seat} {h : Head} {kind ns ne from to : ℕ} {rest : Forest}
-      → In (behind c (leaf kind ns ne from to none)) rest d h → In c (leaf kind ns ne from to rest) d h
+      → Sits (behind c (leaf kind ns ne from to none)) rest d h → Sits c (leaf kind ns ne from to rest) d h
   node-on : {c d : Seat} {h : Head} {b : Bracket} {ns ne from to : ℕ} {inner rest : Forest}
-      → In (behind c (node b ns ne from to inner none)) rest d h → In c (node b ns ne from to inner rest) d h
+      → Sits (behind c (node b ns ne from to inner none)) rest d h → Sits c (node b ns ne from to inner rest) d h
 
 -- one of these values, not looking inside them, has that decoded name
 pub data Named (t name : List ℕ) : Forest → Type 0 where

@@ -20,6 +20,7 @@ refused (Deep p) = numbers 5 p 0
 refused (Many p) = numbers 6 p 0
 refused (Small rows) = numbers 7 rows 0
 
+-- an answer of reading: 0 and the row count, or the refusal's two numbers
 unfoldable pub paper : Reading → Paper
 paper (Rows n) = numbers 0 n 0
 paper (Refused r) = refused r

@@ -1,14 +1,14 @@
 -- What a good string is, by rules and not by a reader: its inside spells a list of code points, one character after the other
 -- (RFC 8259, section 7; RFC 3629; RFC 7493, section 2.1). No place, no step and no refusal is named here.
 -- Assumes nothing: these are definitions.
-use Prim.Native.Nat.{ℕ, _+_, _-_, _*_, _%_, _≤_, _<_}
+use Prim.Native.Nat.{ℕ, _+_, _*_, _%_, _≤_, _<_}
 use mathlib.Core.Path.{_≡_}
 use mathlib.Core.List.{List, [], _∷_, _++_}
 use mathlib.Core.Logic.{_⊎_}
 use Rattle.text.specs.Strings.{utf8}
 
 -- a Unicode scalar value: at most U+10FFFF, and no surrogate
-pub record Scalar (c : ℕ) : Type 0 where
+pub record UnicodeScalar (c : ℕ) : Type 0 where
   pub in-range : c ≤ 0x10FFFF
   pub no-surrogate : (c < 0xD800) ⊎ (0xE000 ≤ c)
 
@@ -19,11 +19,11 @@ pub data Noncharacter : ℕ → Type 0 where
 
 -- a code point that a string may hold
 pub record Good (c : ℕ) : Type 0 where
-  pub scalar : Scalar c
+  pub scalar : UnicodeScalar c
   pub character : Noncharacter c → ⊥
 
 -- what may stand raw: no control, no quote, no backslash
-pub record Unescaped (c : ℕ) : Type 0 where
+pub record Bare (c : ℕ) : Type 0 where
   pub no-control : 32 ≤ c
   pub no-quote : c ≡ 34 → ⊥
   pub no-backslash : c ≡ 92 → ⊥
@@ -52,7 +52,7 @@ pub data Short : (letter code : ℕ) → Type 0 where
 
 -- a character and the bytes that spell it: itself in UTF-8, a short escape, \u and four digits, or a surrogate pair of two such escapes
 pub data Spell : List ℕ → (code : ℕ) → Type 0 where
-  raw : {c : ℕ} → Good c → Unescaped c → Spell (utf8 c) c
+  raw : {c : ℕ} → Good c → Bare c → Spell (utf8 c) c
   short : {b c : ℕ} → Short b c → Spell (92 ∷ b ∷ []) c
   unit : {w : List ℕ} {c : ℕ} → Good c → FourDigits w c → Spell (92 ∷ 117 ∷ w) c
   pair : {v w : List ℕ} {h l : ℕ} → FourDigits v (0xD800 + h) → h < 0x400 → FourDigits w (0xDC00 + l) → l < 0x400

@@ -16,12 +16,14 @@ use Rattle.text.specs.declared.Token.the-variants.{End, No2, No3}
 
 -- ---- where a string ends (8259: string = quotation-mark *char quotation-mark)
 
+-- what a step at i says of the string, given what stands from later places on
 abbrev pub onStep : (ℕ → Token) → ℕ → Step → Token
 onStep k i Close = End (i + 1)
 onStep k i (Char code n) = k (i + n)
 onStep k i (Bad2 p) = No2 p
 onStep k i (Bad3 p) = No3 p
 
+-- one turn of the walk to the end of a string
 abbrev pub endBody : List ℕ → (ℕ → Token) → ℕ → Token
 endBody t k i = onStep k i (stepAt t i)
 
@@ -54,6 +56,7 @@ pub data Piece : Type 0 where
   stop : Piece
   piece : List ℕ → ℕ → Piece
 
+-- a character gives its UTF-8
 abbrev pub pieceOf : Step → Piece
 pieceOf Close = stop
 pieceOf (Char code n) = piece (utf8 code) n
@@ -66,10 +69,12 @@ pieceBy t i b =
     let escape = pieceOf (escapeAt t i) in
     cond (eqb b 256) stop (cond (eqb b 92) escape (piece (b ∷ []) 1))
 
+-- the bytes of a piece at i, and then what is decoded from after it on
 abbrev pub onPiece : (ℕ → List ℕ) → ℕ → Piece → List ℕ
 onPiece k i stop = []
 onPiece k i (piece bs n) = bs ++ k (i + n)
 
+-- one turn of decoding
 abbrev pub decodeBody : List ℕ → (ℕ → List ℕ) → ℕ → List ℕ
 decodeBody t k i = onPiece k i (pieceBy t i (byteAt t i))
 
@@ -77,6 +82,7 @@ decodeBody t k i = onPiece k i (pieceBy t i (byteAt t i))
 unfoldable pub decodeFrom : List ℕ → ℕ → List ℕ
 decodeFrom t i = scan (decodeBody t) [] (length t) i
 
+-- the decoded bytes of a string's inner bytes
 abbrev pub decode : List ℕ → List ℕ
 decode t = decodeFrom t 0
 

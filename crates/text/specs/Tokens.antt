@@ -13,6 +13,7 @@ use Rattle.text.specs.declared.Token.the-variants.{End, No2, No3}
 
 -- ---- runs of bytes
 
+-- one turn: on, while the bytes pass
 abbrev pub runBody : (ℕ → Bool) → List ℕ → (ℕ → ℕ) → ℕ → ℕ
 runBody is t k i = let more = k (i + 1) in cond (is (byteAt t i)) more i
 
@@ -20,10 +21,11 @@ runBody is t k i = let more = k (i + 1) in cond (is (byteAt t i)) more i
 unfoldable pub runEnd : (ℕ → Bool) → List ℕ → ℕ → ℕ
 runEnd is t i = scan (runBody is t) 0 (length t) i
 
--- ws = *( %x20 / %x09 / %x0A / %x0D )
+-- %x20 / %x09 / %x0A / %x0D
 abbrev pub isSpace : ℕ → Bool
 isSpace b = cond (eqb b 32) true (cond (eqb b 9) true (cond (eqb b 10) true (eqb b 13)))
 
+-- ws = *( %x20 / %x09 / %x0A / %x0D ): the place after white space
 abbrev pub skip : List ℕ → ℕ → ℕ
 skip t i = runEnd isSpace t i
 
@@ -31,6 +33,7 @@ skip t i = runEnd isSpace t i
 abbrev pub isDigit : ℕ → Bool
 isDigit b = cond (ltb b 48) false (ltb b 58)
 
+-- *DIGIT: the place after digits
 abbrev pub digitsEnd : List ℕ → ℕ → ℕ
 digitsEnd t i = runEnd isDigit t i
 
@@ -41,7 +44,7 @@ unfoldable pub wordAt : List ℕ → List ℕ → ℕ → Token
 wordAt t [] i = End i
 wordAt t (b ∷ bs) i = let more = wordAt t bs (i + 1) in cond (eqb (byteAt t i) b) more (No2 i)
 
--- ---- numbers: number = [ minus ] int [ frac ] [ exp ]
+-- ---- numbers
 
 -- one part and then another
 abbrev pub thenAt : (ℕ → Token) → Token → Token
@@ -75,6 +78,7 @@ expAt t i =
     let all = digitsAt t (signEnd t (i + 1)) in
     cond (eqb (byteAt t i) 101) all (cond (eqb (byteAt t i) 69) all (End i))
 
+-- number = [ minus ] int [ frac ] [ exp ]
 unfoldable pub numberAt : List ℕ → ℕ → Token
 numberAt t i = thenAt (expAt t) (thenAt (fracAt t) (intAt t (minusEnd t i)))
 

@@ -26,7 +26,8 @@ readOf L t =
     let all = endOf t (valueAt L t (L .depth) 0 0 (skip t 0) 0) in
     cond (ltb (L .bytes) (length t)) (bad TooLong) all
 
--- 7, after all others: the table has fewer whole rows than the text has values
+-- 7, after all others: the table has fewer whole rows than the text has values. Rows are counted with `L .words` words; those that `rowsOf` lists have
+-- `rowWords` (`rows-length`, proofs/Standing.antt). So what is said of both asks `L .words ≡ rowWords`, as the demands do (crate contact); `base` has it.
 unfoldable pub fitOf : Limits → (words : ℕ) → Read → Read
 fitOf L words (bad r) = bad r
 fitOf L words (good f to) = cond (ltb words (L .words * size f)) (bad (Small (size f))) (good f to)

@@ -30,13 +30,14 @@ pub record Writable (d : Doc) : Type 0 where
   pub labels : Every Labelled Lexeme d
   pub distinct : Distinct d
 
--- how many arrays and objects stand one inside the other, at the most
 unfoldable mutual
+  -- how many arrays and objects stand one inside the other, at the most
   pub depthIn : Doc → ℕ
   depthIn (scalar kind token) = 0
   depthIn (array ms) = suc (depthAll ms)
   depthIn (object ms) = suc (depthAll ms)
 
+  -- in some members
   pub depthAll : Members → ℕ
   depthAll empty = 0
   depthAll (member n label d ms) = max (depthIn d) (depthAll ms)

@@ -14,6 +14,7 @@ comma true = []
 comma false = 44 ∷ []
 
 abbrev mutual
+  -- the text of a document
   pub written : Doc → List ℕ
   written (scalar kind token) = token
   written (array ms) = 91 ∷ writtenEntries ms true
@@ -32,6 +33,7 @@ abbrev mutual
 -- ---- a new name: escaped only where RFC 8259 demands it (quote, backslash, bytes below 32), by the short escape if there is one,
 -- else by \u00 and two small hexadecimal digits
 
+-- the hexadecimal digit of a value below 16
 abbrev pub smallHex : ℕ → ℕ
 smallHex n = cond (ltb n 10) (48 + n) (87 + n)
 
@@ -46,16 +48,18 @@ shortOf b =
     (cond (eqb b 12) 102
     (cond (eqb b 13) 114 0))))))
 
+-- a byte of a name, escaped or not
 abbrev pub spelledByte : ℕ → List ℕ
 spelledByte b =
     cond (eqb (shortOf b) 0)
     (cond (ltb b 32) (92 ∷ 117 ∷ 48 ∷ 48 ∷ smallHex (b / 16) ∷ smallHex (b % 16) ∷ []) (b ∷ []))
     (92 ∷ shortOf b ∷ [])
 
+-- byte by byte
 abbrev pub spelledBytes : Name → List ℕ
 spelledBytes [] = []
 spelledBytes (b ∷ bs) = spelledByte b ++ spelledBytes bs
 
--- between its quotes
+-- a name as it is written, quotes included
 abbrev pub spelled : Name → List ℕ
 spelled n = 34 ∷ spelledBytes n ++ (34 ∷ [])

@@ -21,7 +21,7 @@ use Rattle.text.specs.Sheet.{numbers, refused}
 use Rattle.text.specs.Whole.{readOf, fitOf, wholeOf, sheetOf, tableOf}
 use Rattle.text.specs.Meaning.{Accepts}
 use Rattle.text.specs.Promised.{Filled}
-use Rattle.text.specs.Fault.{Fault, grammar, violated, First}
+use Rattle.text.specs.Fault.{FaultAt, grammar, violated, FirstFault}
 use Rattle.text.specs.declared.Refusal.{Refusal}
 use Rattle.text.specs.declared.Refusal.the-variants.{TooLong, Grammar, Character, Repeated, Deep, Many, Small}
 use Rattle.text.proofs.Induction.{read-accepted}
@@ -62,14 +62,14 @@ module _ (L : Limits) (words : ℕ) (t : List ℕ) where
   good-readable : Bytes t → (f : Forest) (to : ℕ) → wholeOf L words t ≡ good f to → Readable L words t f
   good-readable small f to e = let fit = whole-good L words t f to e in record { accepts = read-accepts small f to (fit .read); enough = fit .room }
 
-  fault-number : {n p : ℕ} → Fault L t n p → Within 2 6 n
+  fault-number : {n p : ℕ} → FaultAt L t n p → Within 2 6 n
   fault-number (grammar g) = omega arith
   fault-number (violated v) = let w = wrong-number L t (breaks-wrong L t (v .broken .breaks)) in omega arith
 
   -- what each answer means
   data Means : Read → Type 0 where
     long : L .bytes < length t → Means (bad TooLong)
-    faulty : {r : Refusal} (n p : ℕ) → refused r ≡ numbers n p 0 → length t ≤ L .bytes → First L t n p → Means (bad r)
+    faulty : {r : Refusal} (n p : ℕ) → refused r ≡ numbers n p 0 → length t ≤ L .bytes → FirstFault L t n p → Means (bad r)
     short : (f : Forest) → Accepts L t f → words < L .words * size f → Means (bad (Small (size f)))
     fits : (f : Forest) (to : ℕ) → Readable L words t f → Means (good f to)
 
@@ -131,17 +131,17 @@ module _ (L : Limits) (words : ℕ) (t : List ℕ) where
           absurd (if-less (λ (R : Read). sheetOf R ≡ numbers 1 second 0 → ⊥) words (L .words * size f)
           (λ l k. omega (arith, same-number k)) (λ l k. omega (arith, same-number k)) e)
 
-  pub read-fault : Bytes t → length t ≤ L .bytes → (n p : ℕ) → Within 2 6 n → (served L (read t words) .answer ≡ numbers n p 0) ↔ First L t n p
+  pub read-fault : Bytes t → length t ≤ L .bytes → (n p : ℕ) → Within 2 6 n → (served L (read t words) .answer ≡ numbers n p 0) ↔ FirstFault L t n p
   unfolding served sheetOf refused
   read-fault small within n p w = (λ e. go (wholeOf L words t) (means small) e, back)
     where
-      go : (R : Read) → Means R → sheetOf R ≡ numbers n p 0 → First L t n p
+      go : (R : Read) → Means R → sheetOf R ≡ numbers n p 0 → FirstFault L t n p
       go R (long l) e = absurd (omega arith)
       go R (faulty m q k l h) e = let z = sym k ∙ e in rw (same-number z, same-second z) at h
       go R (short f a l) e = absurd (omega (arith, same-number e))
       go R (fits f to r) e = absurd (omega (arith, same-number e))
 
-      back : First L t n p → sheetOf (wholeOf L words t) ≡ numbers n p 0
+      back : FirstFault L t n p → sheetOf (wholeOf L words t) ≡ numbers n p 0
       back h = let r = refuses L t small within n p .1 h in rw (whole-bad (r .refusal) (r .answer)) (r .sheet)
 
   pub read-short : Bytes t → (n : ℕ) → (served L (read t words) .answer ≡ numbers 7 n 0) ↔ RowsShort L words t n

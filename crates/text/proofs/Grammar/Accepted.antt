@@ -1,6 +1,6 @@
 -- Accepted exactly: a text is read with a tree if and only if it derives that tree from the grammar, its strings and names spell, the names in each object
--- are distinct, and the limits hold (`accepts`), for any limits. Assumes nothing.
-use mathlib.Core.Path.{_≡_, refl, sym, subst}
+-- are distinct, and the limits hold (`accepts`), for any limits. A text of bytes that is read is read to its end (`accepts-whole`). Assumes nothing.
+use mathlib.Core.Path.{_≡_, refl, sym, ap, subst, _∙_}
 use mathlib.Core.List.{List}
 use mathlib.Core.Logic.{_↔_, _⊎_, ⊎-elim}
 use Prim.Native.Nat.{ℕ, _+_, _≤_}
@@ -8,6 +8,8 @@ use native.Mathlib.Omega.{arith}
 use native.Mathlib.Nat.{zero-add, le-refl}
 use borrow.Author.Tests.{eq-eqb, le-ltb}
 use lib.ListN.{length, List·getD-eq-default}
+use Rattle.laws.specs.Bounds.{AllBelow}
+use Rattle.laws.proofs.Bounds.{below-at}
 use Rattle.text.specs.Limits.{Limits}
 use Rattle.text.specs.Text.{byteAt}
 use Rattle.text.specs.Tokens.{skip}
@@ -15,16 +17,17 @@ use Rattle.text.specs.Tree.{Forest}
 use Rattle.text.specs.Reader.{Read, good, bad}
 use Rattle.text.specs.Whole.{endOf, readOf}
 use Rattle.text.specs.Grammar.{JsonText, rootOf, value}
-use Rattle.text.specs.Seats.{Head, Seat, top, In}
+use Rattle.text.specs.Seats.{Head, Seat, top, Sits}
 use Rattle.text.specs.Meaning.{Accepts}
 use Rattle.text.specs.declared.Refusal.{Refusal}
 use Rattle.text.proofs.Induction.{read-accepted}
+use Rattle.text.proofs.Grammar.Stands.{by-order}
 use Rattle.text.proofs.Grammar.Exact.{Past}
 use Rattle.text.proofs.Grammar.Sound.{Parsed, placeOf}
 use Rattle.text.proofs.Grammar.Wrong.{Wrong, Kept, clean}
 use Rattle.text.proofs.Grammar.Meets.{Numbered, Near, read, broken}
 use Rattle.text.proofs.Grammar.Rules.{sane, sane-string, sane-name, sane-new}
-use Rattle.text.proofs.Grammar.Wholes.{root, root-told, root-within, self, read-text}
+use Rattle.text.proofs.Grammar.Wholes.{root, root-told, root-within, self, read-inside, read-text}
 
 module _ (L : Limits) (t : List ℕ) where
   -- ---- read, so it is as it should be ----
@@ -41,6 +44,10 @@ module _ (L : Limits) (t : List ℕ) where
         shallow = k .shallow;
         few = omega (arith, k .few);
       }
+
+  -- of a text of bytes only the end reads as 256
+  pub at-end : AllBelow 256 t → (i : ℕ) → i ≤ length t → byteAt t i ≡ 256 → i ≡ length t
+  at-end small i l e = by-order i (length t) (λ h. absurd (omega (arith, below-at 256 t small i 256 h))) (λ h. omega arith)
 
   read-accepts : (f : Forest) → readOf L t ≡ good f (length t) → Accepts L t f
   read-accepts f e =
@@ -62,7 +69,7 @@ module _ (L : Limits) (t : List ℕ) where
   -- what is answered of a text of the grammar: its value is read and the text ends behind it, or a value has something wrong, which is the answer
   pub data Answered (f : Forest) : Read → Type 0 where
     ended : (end : ℕ) → skip t end ≡ length t → Answered f (good f end)
-    stopped : {d : Seat} {h : Head} {m x : ℕ} {r : Refusal} → In top f d h → Wrong L t d h m x → Numbered m x r → Answered f (bad r)
+    stopped : {d : Seat} {h : Head} {m x : ℕ} {r : Refusal} → Sits top f d h → Wrong L t d h m x → Numbered m x r → Answered f (bad r)
 
   pub answered : (d : JsonText t) → Answered (rootOf d) (root L t)
   answered d = let m = self L t (root L t) refl d in go (root L t) (root-within L t) (m .end) (m .is) (m .ends)
@@ -88,3 +95,12 @@ module _ (L : Limits) (t : List ℕ) where
 -- theorem: accepted exactly
 pub accepts : (L : Limits) (t : List ℕ) (f : Forest) → (readOf L t ≡ good f (length t)) ↔ Accepts L t f
 accepts L t f = (read-accepts L t f, accepts-read L t f)
+
+-- theorem: what is read of a text of bytes is the whole text, and accepted
+pub accepts-whole : (L : Limits) (t : List ℕ) → AllBelow 256 t → (f : Forest) (to : ℕ) → readOf L t ≡ good f to → Accepts L t f × (to ≡ length t)
+accepts-whole L t small f to e =
+    let a = read-accepted L t f to e in
+    let p : Parsed L t value (L .depth) top 0 0 (skip t 0) f (a .end) = rw (a .value) at (root-told L t) in
+    let i : to ≤ length t = rw (a .space) at (read-inside L t p) in
+    let o = at-end L t small to i (a .ended) in
+    (read-accepts L t f (e ∙ ap (good f) o), o)

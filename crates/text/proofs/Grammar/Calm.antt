@@ -16,8 +16,8 @@ use Rattle.text.specs.Strings.{nameOf}
 use Rattle.text.specs.Tokens.{isSpace, skip}
 use Rattle.text.specs.Tree.{Bracket, closing, Forest, none, leaf, node, size, join}
 use Rattle.text.specs.Reader.{Read, bad, scalarWith, scalarAt, closeOf, container, deep, afterItem, itemsFrom, insideOf, named, colonAt, memberWith, valueAt}
-use Rattle.text.specs.Grammar.{Ws, String, Simple, kindOf, Written, opening, Part, value, item, items, Is, simple, empty, full, element, member, one, comma, treeOf}
-use Rattle.text.specs.Seats.{Head, Seat, under, behind, In}
+use Rattle.text.specs.Grammar.{Ws, JsonString, Simple, simpleKind, IsSimple, opening, Part, value, item, items, Is, simple, empty, full, element, member, one, comma, treeOf}
+use Rattle.text.specs.Seats.{Head, Seat, under, behind, Sits}
 use Rattle.text.specs.declared.Token.{Token}
 use Rattle.text.specs.declared.Token.the-variants.{End, No2, No3}
 use Rattle.text.specs.declared.Refusal.{Refusal}
@@ -52,7 +52,7 @@ time-after t z before more (in-time h) = in-time h
 module _ (L : Limits) (t : List ℕ) (q : ℕ) where
   -- whatever is wrong with these values before q is refused in time
   pub record Calm (c : Seat) (f : Forest) (R : Read) : Type 0 where
-    pub least : (s : Seat) (h : Head) (m x : ℕ) → In c f s h → Wrong L t s h m x → x < q → In-time m x R
+    pub least : (s : Seat) (h : Head) (m x : ℕ) → Sits c f s h → Wrong L t s h m x → x < q → In-time m x R
 
   -- no name of a value that stands there is wrong before q
   abbrev pub Good-names : Forest → ℕ → Type 0
@@ -60,58 +60,58 @@ module _ (L : Limits) (t : List ℕ) (q : ℕ) where
 
   -- ---- a value that holds no others ----
 
-  module _ (w : List ℕ) (k : Simple) (z : List ℕ) (c : Seat) (ns ne at : ℕ) (l : Written k w) (h : Like t q at (w ++ z)) (g : Good-names (c .beside) ns) where
-    scalar-time : (s : Seat) (o : Head) (m x : ℕ) → In c (leaf (kindOf k) ns ne at (at + length w) none) s o → Wrong L t s o m x → x < q
-        → In-time m x (scalarAt L t (kindOf k) ns ne at (c .after))
+  module _ (w : List ℕ) (k : Simple) (z : List ℕ) (c : Seat) (ns ne at : ℕ) (l : IsSimple k w) (h : Like t q at (w ++ z)) (g : Good-names (c .beside) ns) where
+    scalar-time : (s : Seat) (o : Head) (m x : ℕ) → Sits c (leaf (simpleKind k) ns ne at (at + length w) none) s o → Wrong L t s o m x → x < q
+        → In-time m x (scalarAt L t (simpleKind k) ns ne at (c .after))
     unfolding scalarAt scalarWith
-    scalar-time s o m x In.leaf-here (string e b) lt =
+    scalar-time s o m x Sits.leaf-here (string e b) lt =
         let n = bad-later t at x b in
         if-most (In-time 3 x) (L .values) (c .after)
         (λ j. in-time (omega arith))
         (λ j. rw (token-simple t k at (rw (like-here h (omega arith)) (simple-opens k w z l)), kind-text t k at e, b) (in-time (le-refl (rank 3 x))))
-    scalar-time s o m x In.leaf-here (name j e b) lt = absurd (g 3 x (spelled j e b) lt)
-    scalar-time s o m x In.leaf-here (again u e b n) lt = absurd (g 4 x (known u e b n) lt)
-    scalar-time s o m x In.leaf-here (W.Wrong.deep e n) lt = clash false e refl
-    scalar-time s o m x In.leaf-here (many e) lt = if-most (In-time 6 at) (L .values) (c .after) (λ j. in-time (le-refl (rank 6 at))) (λ j. absurd (omega arith))
+    scalar-time s o m x Sits.leaf-here (name j e b) lt = absurd (g 3 x (spelled j e b) lt)
+    scalar-time s o m x Sits.leaf-here (again u e b n) lt = absurd (g 4 x (known u e b n) lt)
+    scalar-time s o m x Sits.leaf-here (W.Wrong.deep e n) lt = clash false e refl
+    scalar-time s o m x Sits.leaf-here (many e) lt = if-most (In-time 6 at) (L .values) (c .after) (λ j. in-time (le-refl (rank 6 at))) (λ j. absurd (omega arith))
 
   -- ---- a container ----
 
   -- its bracket, where none may be opened
   deep-time : (b : Bracket) (f : Forest) (to : ℕ) (c : Seat) (ns ne at : ℕ) → Good-names (c .beside) ns
-      → ((s : Seat) (h : Head) (m x : ℕ) → In (under c) f s h → Wrong L t s h m x → at < x)
-      → (s : Seat) (h : Head) (m x : ℕ) → In c (node b ns ne at to f none) s h → Wrong L t s h m x → x < q → In-time m x (deep ns ne at (c .after))
+      → ((s : Seat) (h : Head) (m x : ℕ) → Sits (under c) f s h → Wrong L t s h m x → at < x)
+      → (s : Seat) (h : Head) (m x : ℕ) → Sits c (node b ns ne at to f none) s h → Wrong L t s h m x → x < q → In-time m x (deep ns ne at (c .after))
   unfolding deep
-  deep-time b f to c ns ne at g lower s h m x (In.into i) w lt = in-time {r = Deep at} (omega (arith, lower s h m x i w))
-  deep-time b f to c ns ne at g lower s h m x In.node-here (string e z) lt = absurd (no-string b e)
-  deep-time b f to c ns ne at g lower s h m x In.node-here (name j e z) lt = absurd (g 3 x (spelled j e z) lt)
-  deep-time b f to c ns ne at g lower s h m x In.node-here (again u e z n) lt = absurd (g 4 x (known u e z n) lt)
-  deep-time b f to c ns ne at g lower s h m x In.node-here (W.Wrong.deep e n) lt = in-time (le-refl (rank 5 at))
-  deep-time b f to c ns ne at g lower s h m x In.node-here (many e) lt = in-time {r = Deep at} (omega arith)
+  deep-time b f to c ns ne at g lower s h m x (Sits.into i) w lt = in-time {r = Deep at} (omega (arith, lower s h m x i w))
+  deep-time b f to c ns ne at g lower s h m x Sits.node-here (string e z) lt = absurd (no-string b e)
+  deep-time b f to c ns ne at g lower s h m x Sits.node-here (name j e z) lt = absurd (g 3 x (spelled j e z) lt)
+  deep-time b f to c ns ne at g lower s h m x Sits.node-here (again u e z n) lt = absurd (g 4 x (known u e z n) lt)
+  deep-time b f to c ns ne at g lower s h m x Sits.node-here (W.Wrong.deep e n) lt = in-time (le-refl (rank 5 at))
+  deep-time b f to c ns ne at g lower s h m x Sits.node-here (many e) lt = in-time {r = Deep at} (omega arith)
 
   -- and where some may
   box-time : (b : Bracket) (f : Forest) (to : ℕ) (c : Seat) (ns ne at depth : ℕ) (inner : ℕ → ℕ → Read) → c .inside + suc depth ≡ L .depth → Good-names (c .beside) ns
-      → ((s : Seat) (h : Head) (m x : ℕ) → In (under c) f s h → Wrong L t s h m x → at < x)
+      → ((s : Seat) (h : Head) (m x : ℕ) → Sits (under c) f s h → Wrong L t s h m x → at < x)
       → (c .after < L .values → Calm (under c) f (inner (at + 1) (c .after + 1)))
-      → (s : Seat) (h : Head) (m x : ℕ) → In c (node b ns ne at to f none) s h → Wrong L t s h m x → x < q → In-time m x (container L b inner ns ne at (c .after))
+      → (s : Seat) (h : Head) (m x : ℕ) → Sits c (node b ns ne at to f none) s h → Wrong L t s h m x → x < q → In-time m x (container L b inner ns ne at (c .after))
   unfolding container
-  box-time b f to c ns ne at depth inner room g lower k s h m x (In.into i) w lt =
+  box-time b f to c ns ne at depth inner room g lower k s h m x (Sits.into i) w lt =
       if-most (In-time m x) (L .values) (c .after) (λ j. in-time (omega (arith, lower s h m x i w)))
       (λ j. time-close b ns ne at (k j .least s h m x i w lt))
-  box-time b f to c ns ne at depth inner room g lower k s h m x In.node-here (string e z) lt = absurd (no-string b e)
-  box-time b f to c ns ne at depth inner room g lower k s h m x In.node-here (name j e z) lt = absurd (g 3 x (spelled j e z) lt)
-  box-time b f to c ns ne at depth inner room g lower k s h m x In.node-here (again u e z n) lt = absurd (g 4 x (known u e z n) lt)
-  box-time b f to c ns ne at depth inner room g lower k s h m x In.node-here (W.Wrong.deep e n) lt = absurd (omega arith)
-  box-time b f to c ns ne at depth inner room g lower k s h m x In.node-here (many e) lt =
+  box-time b f to c ns ne at depth inner room g lower k s h m x Sits.node-here (string e z) lt = absurd (no-string b e)
+  box-time b f to c ns ne at depth inner room g lower k s h m x Sits.node-here (name j e z) lt = absurd (g 3 x (spelled j e z) lt)
+  box-time b f to c ns ne at depth inner room g lower k s h m x Sits.node-here (again u e z n) lt = absurd (g 4 x (known u e z n) lt)
+  box-time b f to c ns ne at depth inner room g lower k s h m x Sits.node-here (W.Wrong.deep e n) lt = absurd (omega arith)
+  box-time b f to c ns ne at depth inner room g lower k s h m x Sits.node-here (many e) lt =
       if-most (In-time 6 at) (L .values) (c .after) (λ j. in-time (le-refl (rank 6 at))) (λ j. absurd (omega arith))
 
   container-calm : (b : Bracket) (f : Forest) (to : ℕ) (c : Seat) (ns ne at : ℕ) → Good-names (c .beside) ns → (at < q → byteAt t at ≡ opening b)
-      → ((s : Seat) (h : Head) (m x : ℕ) → In (under c) f s h → Wrong L t s h m x → at < x)
-      → ((s : Seat) (h : Head) (m x : ℕ) → In c (node b ns ne at to f none) s h → Wrong L t s h m x → Whence L t (c .beside) ns at m x)
+      → ((s : Seat) (h : Head) (m x : ℕ) → Sits (under c) f s h → Wrong L t s h m x → at < x)
+      → ((s : Seat) (h : Head) (m x : ℕ) → Sits c (node b ns ne at to f none) s h → Wrong L t s h m x → Whence L t (c .beside) ns at m x)
       → ((depth : ℕ) → c .inside + 1 + depth ≡ L .depth → at < length t → c .after < L .values → Calm (under c) f (insideOf t (itemAt L t depth b) (closing b) (at + 1) (c .after + 1)))
       → (depth : ℕ) → c .inside + depth ≡ L .depth → Calm c (node b ns ne at to f none) (valueAt L t depth ns ne at (c .after))
   container-calm b f to c ns ne at g e lower whence k depth room = record { least = λ s h m x i w lt. go s h m x i w lt depth room (whence s h m x i w) }
     where
-      go : (s : Seat) (h : Head) (m x : ℕ) → In c (node b ns ne at to f none) s h → Wrong L t s h m x → x < q → (depth : ℕ) → c .inside + depth ≡ L .depth → Whence L t (c .beside) ns at m x
+      go : (s : Seat) (h : Head) (m x : ℕ) → Sits c (node b ns ne at to f none) s h → Wrong L t s h m x → x < q → (depth : ℕ) → c .inside + depth ≡ L .depth → Whence L t (c .beside) ns at m x
           → In-time m x (valueAt L t depth ns ne at (c .after))
       go s h m x i w lt depth room (by-name n) = absurd (g m x n lt)
       go s h m x i w lt zero room (within o) = rw (opens-deep L t b ns ne at (c .after) (e (omega arith))) (deep-time b f to c ns ne at g lower s h m x i w lt)
@@ -208,7 +208,7 @@ module _ (L : Limits) (t : List ℕ) (q : ℕ) where
           let l₂ : f ≡ a = cc in
           clash (named t (nameOf t (at + 1) (a - 1)) (c .beside)) (rw (l, l₂) at n) (new b)
 
-      new-time : (e : Seat) (f : Head) (m x : ℕ) → In c (treeOf d (at + 1) (at + length v - 1) begin) e f → Wrong L t e f m x → x < q → a ≤ length t
+      new-time : (e : Seat) (f : Head) (m x : ℕ) → Sits c (treeOf d (at + 1) (at + length v - 1) begin) e f → Wrong L t e f m x → x < q → a ≤ length t
           → (a ≡ at + length v) ⊎ Past q (at + length v) a
           → Good-names (c .beside) (at + 1) → (begin ≤ length t → Calm c (treeOf d (at + 1) (at + length v - 1) begin) (valueAt L t depth (at + 1) (at + length v - 1) begin (c .after)))
           → Whence L t (c .beside) (at + 1) begin m x → In-time m x (colonAt t (valueAt L t depth) at a (c .after))
@@ -218,8 +218,8 @@ module _ (L : Limits) (t : List ℕ) (q : ℕ) where
     -- by its name's token
     member-time : (Good-names (c .beside) (at + 1) → begin ≤ length t → Calm c (treeOf d (at + 1) (at + length v - 1) begin)
         (valueAt L t depth (at + 1) (at + length v - 1) begin (c .after)))
-        → (e : Seat) (f : Head) (m x : ℕ) → In c (treeOf d (at + 1) (at + length v - 1) begin) e f → Wrong L t e f m x → x < q
-        → (key : Token) → quotedAt t at ≡ key → Said t String at key → Goes q (at + length v) key → Whence L t (c .beside) (at + 1) begin m x
+        → (e : Seat) (f : Head) (m x : ℕ) → Sits c (treeOf d (at + 1) (at + length v - 1) begin) e f → Wrong L t e f m x → x < q
+        → (key : Token) → quotedAt t at ≡ key → Said t JsonString at key → Goes q (at + length v) key → Whence L t (c .beside) (at + 1) begin m x
         → In-time m x (memberWith L t (valueAt L t depth) (c .beside) at (c .after) key)
     unfolding memberWith
     member-time g e f m x j y lt (No2 a) k n u (by-name (spelled b o₂ z₂)) = let l : b ≡ at = omega arith in no-two k (rw l at z₂)
@@ -239,7 +239,7 @@ module _ (L : Limits) (t : List ℕ) (q : ℕ) where
 -- an item, and items behind a comma
 comma-calm : (L : Limits) (t : List ℕ) (q : ℕ) (b : Bracket) (depth turns : ℕ) (c : Seat) (at : ℕ) (s r w : List ℕ) (to : ℕ) (T S : Forest)
     → c .inside + depth ≡ L .depth → length t < turns + at → at ≤ length t → Ws s → Ws r → isSpace (byteAt w 0) ≡ false → Like t q to (s ++ 44 ∷ (r ++ w))
-    → ((e : Seat) (h : Head) (m x : ℕ) → In (behind c T) S e h → Wrong L t e h m x → to + length s + 1 + length r ≤ x)
+    → ((e : Seat) (h : Head) (m x : ℕ) → Sits (behind c T) S e h → Wrong L t e h m x → to + length s + 1 + length r ≤ x)
     → Calm L t q c T (itemAt L t depth b (c .beside) at (c .after)) → Reads L t q c T to (itemAt L t depth b (c .beside) at (c .after))
     → ((left y : ℕ) → length t < suc left + at → y ≡ to + length s + 1 + length r → y ≤ length t → c .after + size T ≤ L .values → Calm L t q (behind c T) S
     (itemsFrom t (itemAt L t depth b) (closing b) left y (c .after + size T) (join (c .beside) T)))
@@ -279,7 +279,7 @@ calm L t q (simple {w} k l) = λ z o depth c ns ne at room few i h g.
     record { least = λ s y m x j v lt. go z c depth ns ne at h g s y m x j v lt (low L t (simple k l) c s y m x ns ne at j v) }
   where
     go : (z : List ℕ) (c : Seat) (depth ns ne at : ℕ) → Like t q at (w ++ z) → Good-names L t q (c .beside) ns → (s : Seat) (y : Head) (m x : ℕ)
-        → In c (leaf (kindOf k) ns ne at (at + length w) none) s y → Wrong L t s y m x → x < q → Whence L t (c .beside) ns at m x → In-time m x (valueAt L t depth ns ne at (c .after))
+        → Sits c (leaf (simpleKind k) ns ne at (at + length w) none) s y → Wrong L t s y m x → x < q → Whence L t (c .beside) ns at m x → In-time m x (valueAt L t depth ns ne at (c .after))
     go z c depth ns ne at h g s y m x j v lt (by-name n) = absurd (g m x n lt)
     go z c depth ns ne at h g s y m x j v lt (within n) =
         rw (counts-at L t k depth ns ne at (c .after) (rw (like-here h (omega arith)) (simple-first k w z l))) (scalar-time L t q w k z c ns ne at l h g s y m x j v lt)

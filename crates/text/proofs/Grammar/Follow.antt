@@ -16,8 +16,8 @@ use Rattle.text.specs.Strings.{nameOf}
 use Rattle.text.specs.Tokens.{isSpace, skip, kindBy}
 use Rattle.text.specs.Tree.{Bracket, square, curly, closing, Forest, none, leaf, node, size, join}
 use Rattle.text.specs.Reader.{Read, good, bad, Reader, scalarWith, scalarAt, container, deep, valueWith, afterItem, itemsFrom, insideOf, named, colonAt, memberWith, valueAt}
-use Rattle.text.specs.Grammar.{Ws, String, Simple, kindOf, Written, opening, Part, value, item, items, Is, simple, empty, full, element, member, one, comma, treeOf}
-use Rattle.text.specs.Seats.{Seat, under, behind, In}
+use Rattle.text.specs.Grammar.{Ws, JsonString, Simple, simpleKind, IsSimple, opening, Part, value, item, items, Is, simple, empty, full, element, member, one, comma, treeOf}
+use Rattle.text.specs.Seats.{Seat, under, behind, Sits}
 use Rattle.text.specs.declared.Token.{Token}
 use Rattle.text.specs.declared.Token.the-variants.{End, No2, No3}
 use Rattle.text.proofs.Grammar.Stands.{by-order, Like, stands-inside, like-none, like-tail, like-skip, like-here}
@@ -46,11 +46,11 @@ module _ (L : Limits) (t : List ℕ) where
   opens square depth ns ne at n h = rw h
   opens curly depth ns ne at n h = rw h
 
-  counts : (k : Simple) (arrays objects : Reader) (ns ne at n : ℕ) → kindBy (byteAt t at) ≡ kindOf k → valueWith L t arrays objects ns ne at n ≡ scalarAt L t (kindOf k) ns ne at n
+  counts : (k : Simple) (arrays objects : Reader) (ns ne at n : ℕ) → kindBy (byteAt t at) ≡ simpleKind k → valueWith L t arrays objects ns ne at n ≡ scalarAt L t (simpleKind k) ns ne at n
   unfolding valueWith
   counts k arrays objects ns ne at n e = rw e (kind-way k _ _ _ _)
 
-  pub counts-at : (k : Simple) (depth ns ne at n : ℕ) → kindBy (byteAt t at) ≡ kindOf k → valueAt L t depth ns ne at n ≡ scalarAt L t (kindOf k) ns ne at n
+  pub counts-at : (k : Simple) (depth ns ne at n : ℕ) → kindBy (byteAt t at) ≡ simpleKind k → valueAt L t depth ns ne at n ≡ scalarAt L t (simpleKind k) ns ne at n
   unfolding valueAt
   counts-at k zero ns ne at n e = counts k _ _ ns ne at n e
   counts-at k (suc depth) ns ne at n e = counts k _ _ ns ne at n e
@@ -58,21 +58,21 @@ module _ (L : Limits) (t : List ℕ) where
   module _ (q : ℕ) where
     -- ---- a value that holds no others ----
 
-    scalar-follow : (w : List ℕ) (k : Simple) (s : List ℕ) (c : Seat) (ns ne at : ℕ) → c .after ≤ L .values → at ≤ length t → at < q → Written k w → Behind (byteAt s 0)
+    scalar-follow : (w : List ℕ) (k : Simple) (s : List ℕ) (c : Seat) (ns ne at : ℕ) → c .after ≤ L .values → at ≤ length t → at < q → IsSimple k w → Behind (byteAt s 0)
         → Like t q at (w ++ s)
-        → Reads L t q c (leaf (kindOf k) ns ne at (at + length w) none) (at + length w) (scalarAt L t (kindOf k) ns ne at (c .after))
+        → Reads L t q c (leaf (simpleKind k) ns ne at (at + length w) none) (at + length w) (scalarAt L t (simpleKind k) ns ne at (c .after))
     unfolding scalarAt scalarWith size
     scalar-follow w k s c ns ne at few i b l o h =
-        if-most (Reads L t q c (leaf (kindOf k) ns ne at (at + length w) none) (at + length w)) (L .values) (c .after)
-        (λ m. wrong In.leaf-here (many (omega arith)) sixth (inr (omega (arith, simple-long k w l))))
+        if-most (Reads L t q c (leaf (simpleKind k) ns ne at (at + length w) none) (at + length w)) (L .values) (c .after)
+        (λ m. wrong Sits.leaf-here (many (omega arith)) sixth (inr (omega (arith, simple-long k w l))))
         (λ m. rw (token-simple t k at (rw (like-here h b) (simple-opens k w s l))) (go m (simpleOf t k at) refl (simple-exact t k .follow q at w s i l o h)))
       where
         go : c .after < L .values → (key : Token) → simpleOf t k at ≡ key → Goes q (at + length w) key
-            → Reads L t q c (leaf (kindOf k) ns ne at (at + length w) none) (at + length w) (scalarWith (kindOf k) ns ne at key)
+            → Reads L t q c (leaf (simpleKind k) ns ne at (at + length w) none) (at + length w) (scalarWith (simpleKind k) ns ne at key)
         go m (End to) e (inl u) = rw u (same (omega arith))
         go m (End to) e (inr u) = past (u .word) (u .answer)
         go m (No2 x) e u = past (u .word) (u .answer)
-        go m (No3 x) e u = let f = three-text t k at x e in wrong In.leaf-here (string f (sym (kind-text t k at f) ∙ e)) third u
+        go m (No3 x) e u = let f = three-text t k at x e in wrong Sits.leaf-here (string f (sym (kind-text t k at f) ∙ e)) third u
 
     -- ---- a container, from what is inside it ----
 
@@ -82,7 +82,7 @@ module _ (L : Limits) (t : List ℕ) where
         → (depth : ℕ) → c .inside + depth ≡ L .depth → Reads L t q c (node b ns ne at to f none) to (valueAt L t depth ns ne at (c .after))
     unfolding container deep
     container-follow b f to c ns ne at far few i e g zero room =
-        by-order at q (λ l. rw (opens-deep b ns ne at (c .after) (e l)) (wrong In.node-here (W.Wrong.deep refl (omega arith)) fifth (inr far)))
+        by-order at q (λ l. rw (opens-deep b ns ne at (c .after) (e l)) (wrong Sits.node-here (W.Wrong.deep refl (omega arith)) fifth (inr far)))
         (λ l. past (omega arith) (omega (arith, value-later L t zero ns ne at (c .after) i)))
     container-follow b f to c ns ne at far few i e g (suc depth) room =
         by-order at q
@@ -90,7 +90,7 @@ module _ (L : Limits) (t : List ℕ) where
         let j = inside t at (rw (e l) (byte-opening b)) in
         rw (opens b depth ns ne at (c .after) (e l))
         (if-most (Reads L t q c (node b ns ne at to f none) to) (L .values) (c .after)
-        (λ m. wrong In.node-here (many (omega arith)) sixth (inr far))
+        (λ m. wrong Sits.node-here (many (omega arith)) sixth (inr far))
         (λ m. meets-close L t q b ns ne at (g depth (omega arith) (omega arith) m))))
         (λ l. past (omega arith) (omega (arith, value-later L t (suc depth) ns ne at (c .after) i)))
 
@@ -253,7 +253,7 @@ module _ (L : Limits) (t : List ℕ) where
           (λ e. past (omega (arith, e .word)) (omega (arith, e .answer))) u)
 
       member-follow : ((ns ne at : ℕ) → at ≤ length t → Like t q at (w ++ z) → Reads L t q c (treeOf d ns ne at) (at + length w) (valueAt L t depth ns ne at (c .after)))
-          → (key : Token) → quotedAt t at ≡ key → Said t String at key → Goes q (at + length m) key
+          → (key : Token) → quotedAt t at ≡ key → Said t JsonString at key → Goes q (at + length m) key
           → Reads L t q c tree-of end-of (memberWith L t (valueAt L t depth) (c .beside) at (c .after) key)
       unfolding memberWith
       member-follow g (No2 x) e k u = past (omega (arith, u .word)) (u .answer)

@@ -9,8 +9,8 @@ use Rattle.text.specs.Limits.{Limits}
 use Rattle.text.specs.Strings.{nameOf}
 use Rattle.text.specs.Tree.{Bracket, Forest, none, leaf, node}
 use Rattle.text.specs.Reader.{named}
-use Rattle.text.specs.Grammar.{kindOf, Part, value, item, items, Is, simple, empty, full, element, member, one, comma, treeOf}
-use Rattle.text.specs.Seats.{Head, Seat, under, behind, In}
+use Rattle.text.specs.Grammar.{simpleKind, Part, value, item, items, Is, simple, empty, full, element, member, one, comma, treeOf}
+use Rattle.text.specs.Seats.{Head, Seat, under, behind, Sits}
 use Rattle.text.specs.declared.Token.the-variants.{End, No3}
 use Rattle.text.proofs.Grammar.Stands.{clash}
 use Rattle.text.proofs.Grammar.Quotes.{quotedAt, bad-later}
@@ -28,9 +28,9 @@ module _ (L : Limits) (t : List ℕ) where
     within : at ≤ x → Whence before ns at m x
 
   abbrev Lows : (a : Part) (w : List ℕ) → Is a w → Type 0
-  Lows value w d = (c s : Seat) (h : Head) (m x ns ne at : ℕ) → In c (treeOf d ns ne at) s h → Wrong L t s h m x → Whence (c .beside) ns at m x
-  Lows (item b) w d = (c s : Seat) (h : Head) (m x at : ℕ) → In c (treeOf d 0 0 at) s h → Wrong L t s h m x → at ≤ x
-  Lows (items b) w d = (c s : Seat) (h : Head) (m x at : ℕ) → In c (treeOf d 0 0 at) s h → Wrong L t s h m x → at ≤ x
+  Lows value w d = (c s : Seat) (h : Head) (m x ns ne at : ℕ) → Sits c (treeOf d ns ne at) s h → Wrong L t s h m x → Whence (c .beside) ns at m x
+  Lows (item b) w d = (c s : Seat) (h : Head) (m x at : ℕ) → Sits c (treeOf d 0 0 at) s h → Wrong L t s h m x → at ≤ x
+  Lows (items b) w d = (c s : Seat) (h : Head) (m x at : ℕ) → Sits c (treeOf d 0 0 at) s h → Wrong L t s h m x → at ≤ x
 
   -- by what stands behind it
   pub from-whence : {before : Forest} {m x : ℕ} (at : ℕ) → Whence before 0 at m x → at ≤ x
@@ -43,29 +43,29 @@ module _ (L : Limits) (t : List ℕ) where
   member-whence at to l (by-name (known u e z n)) = omega arith
   member-whence at to l (within k) = omega arith
 
-  leaf-low : (c s : Seat) (h : Head) (m x kind ns ne at to : ℕ) → In c (leaf kind ns ne at to none) s h → Wrong L t s h m x → Whence (c .beside) ns at m x
-  leaf-low c s h m x kind ns ne at to In.leaf-here (string e z) = within (omega (arith, bad-later t at x z))
-  leaf-low c s h m x kind ns ne at to In.leaf-here (name j e z) = by-name (spelled j e z)
-  leaf-low c s h m x kind ns ne at to In.leaf-here (again u e z n) = by-name (known u e z n)
-  leaf-low c s h m x kind ns ne at to In.leaf-here (deep o e) = clash false o refl
-  leaf-low c s h m x kind ns ne at to In.leaf-here (many e) = within (omega arith)
+  leaf-low : (c s : Seat) (h : Head) (m x kind ns ne at to : ℕ) → Sits c (leaf kind ns ne at to none) s h → Wrong L t s h m x → Whence (c .beside) ns at m x
+  leaf-low c s h m x kind ns ne at to Sits.leaf-here (string e z) = within (omega (arith, bad-later t at x z))
+  leaf-low c s h m x kind ns ne at to Sits.leaf-here (name j e z) = by-name (spelled j e z)
+  leaf-low c s h m x kind ns ne at to Sits.leaf-here (again u e z n) = by-name (known u e z n)
+  leaf-low c s h m x kind ns ne at to Sits.leaf-here (deep o e) = clash false o refl
+  leaf-low c s h m x kind ns ne at to Sits.leaf-here (many e) = within (omega arith)
 
-  node-low : (c s : Seat) (h : Head) (m x : ℕ) (b : Bracket) (ns ne at to : ℕ) (inner : Forest) → (In (under c) inner s h → Wrong L t s h m x → at ≤ x)
-      → In c (node b ns ne at to inner none) s h → Wrong L t s h m x → Whence (c .beside) ns at m x
-  node-low c s h m x b ns ne at to inner g (In.into i) w = within (g i w)
-  node-low c s h m x b ns ne at to inner g In.node-here (string e z) = absurd (no-string b e)
-  node-low c s h m x b ns ne at to inner g In.node-here (name j e z) = by-name (spelled j e z)
-  node-low c s h m x b ns ne at to inner g In.node-here (again u e z n) = by-name (known u e z n)
-  node-low c s h m x b ns ne at to inner g In.node-here (deep o e) = within (omega arith)
-  node-low c s h m x b ns ne at to inner g In.node-here (many e) = within (omega arith)
+  node-low : (c s : Seat) (h : Head) (m x : ℕ) (b : Bracket) (ns ne at to : ℕ) (inner : Forest) → (Sits (under c) inner s h → Wrong L t s h m x → at ≤ x)
+      → Sits c (node b ns ne at to inner none) s h → Wrong L t s h m x → Whence (c .beside) ns at m x
+  node-low c s h m x b ns ne at to inner g (Sits.into i) w = within (g i w)
+  node-low c s h m x b ns ne at to inner g Sits.node-here (string e z) = absurd (no-string b e)
+  node-low c s h m x b ns ne at to inner g Sits.node-here (name j e z) = by-name (spelled j e z)
+  node-low c s h m x b ns ne at to inner g Sits.node-here (again u e z n) = by-name (known u e z n)
+  node-low c s h m x b ns ne at to inner g Sits.node-here (deep o e) = within (omega arith)
+  node-low c s h m x b ns ne at to inner g Sits.node-here (many e) = within (omega arith)
 
-  join-low : (c s : Seat) (h : Head) (m x at : ℕ) (f g : Forest) → (In c f s h → at ≤ x) → (In (behind c f) g s h → at ≤ x) → Either-of c f g s h → at ≤ x
+  join-low : (c s : Seat) (h : Head) (m x at : ℕ) (f g : Forest) → (Sits c f s h → at ≤ x) → (Sits (behind c f) g s h → at ≤ x) → Either-of c f g s h → at ≤ x
   join-low c s h m x at f g p r (first i) = p i
   join-low c s h m x at f g p r (later i) = r i
 
   pub low : {a : Part} {w : List ℕ} (d : Is a w) → Lows a w d
   unfolding treeOf
-  low (simple {w} k l) = λ c s h m x ns ne at i e. leaf-low c s h m x (kindOf k) ns ne at (at + length w) i e
+  low (simple {w} k l) = λ c s h m x ns ne at i e. leaf-low c s h m x (simpleKind k) ns ne at (at + length w) i e
   low (empty b p) = λ c s h m x ns ne at i e. node-low c s h m x b ns ne at _ none (λ i e. in-none i) i e
   low (full {s = a} b p d) = λ c s h m x ns ne at i e. node-low c s h m x b ns ne at _ _ (λ i e. omega (arith, low d (under c) s h m x (at + 1 + length a) i e)) i e
   low (element d) = λ c s h m x at i e. from-whence at (low d c s h m x 0 0 at i e)

@@ -15,8 +15,8 @@ use Rattle.text.specs.Tokens.{isSpace, isDigit, wordAt, thenAt, digitsAt
 use Rattle.text.specs.Tree.{Bracket, square, curly, closing, Forest, none, node, size, join}
 use Rattle.text.specs.Reader.{Read, good, bad, closeOf}
 use Rattle.text.specs.Abnf.{Byte, Star}
-use Rattle.text.specs.Grammar.{Blank, Ws, quoted, Simple, nothing, falsity, truth, numeral, text, kindOf, Written, Part, value, Is, simple, empty, full, element, member, one, comma, treeOf}
-use Rattle.text.specs.Seats.{Head, leafHead, nodeHead, Seat, under, behind, In}
+use Rattle.text.specs.Grammar.{Blank, Ws, quoted, Simple, nothing, falsity, truth, numeral, text, simpleKind, IsSimple, Part, value, Is, simple, empty, full, element, member, one, comma, treeOf}
+use Rattle.text.specs.Seats.{Head, leafHead, nodeHead, Seat, under, behind, Sits}
 use Rattle.text.specs.declared.Token.{Token}
 use Rattle.text.specs.declared.Token.the-variants.{End, No2, No3}
 use Rattle.text.specs.declared.Refusal.{Refusal}
@@ -58,7 +58,7 @@ module _ (L : Limits) (t : List ℕ) (q : ℕ) where
   pub data Meets (c : Seat) (f T : Forest) (to : ℕ) : Read → Type 0 where
     past : {R : Read} → q ≤ to → q ≤ placeOf R → Meets c f T to R
     same : c .after + size T ≤ L .values → Meets c f T to (good f to)
-    wrong : {d : Seat} {h : Head} {m x : ℕ} {r : Refusal} → In c T d h → Wrong L t d h m x → Numbered m x r → (q ≤ to) ⊎ (x < to) → Meets c f T to (bad r)
+    wrong : {d : Seat} {h : Head} {m x : ℕ} {r : Refusal} → Sits c T d h → Wrong L t d h m x → Numbered m x r → (q ≤ to) ⊎ (x < to) → Meets c f T to (bad r)
 
   -- all of them are new
   abbrev pub Reads : Seat → Forest → ℕ → Read → Type 0
@@ -67,7 +67,7 @@ module _ (L : Limits) (t : List ℕ) (q : ℕ) where
   -- what an answer of a place before q says
   pub data Near (c : Seat) (f : Forest) (to : ℕ) : Read → Type 0 where
     read : Near c f to (good f to)
-    broken : {d : Seat} {h : Head} {m x : ℕ} {r : Refusal} → In c f d h → Wrong L t d h m x → Numbered m x r → Near c f to (bad r)
+    broken : {d : Seat} {h : Head} {m x : ℕ} {r : Refusal} → Sits c f d h → Wrong L t d h m x → Numbered m x r → Near c f to (bad r)
 
   pub near : {c : Seat} {f : Forest} {to : ℕ} {R : Read} → Reads c f to R → placeOf R < q → Near c f to R
   near (past k h) l = absurd (omega arith)
@@ -79,7 +79,7 @@ module _ (L : Limits) (t : List ℕ) (q : ℕ) where
   unfolding closeOf size
   meets-close b ns ne at (past {R} k h) = past {R = closeOf b ns ne at R} k (rw (close-place b ns ne at R) h)
   meets-close b ns ne at (same h) = same (omega arith)
-  meets-close b ns ne at (wrong i w n o) = wrong (In.into i) w n o
+  meets-close b ns ne at (wrong i w n o) = wrong (Sits.into i) w n o
 
   -- values after other values
   pub meets-join : {c : Seat} {x : ℕ} {R : Read} (B T S : Forest) → c .after + size T ≤ L .values
@@ -91,14 +91,14 @@ module _ (L : Limits) (t : List ℕ) (q : ℕ) where
 -- the first value of a part that is a value, and its name
 pub record Firstly (c : Seat) (f : Forest) (ns : ℕ) : Type 0 where
   pub head : Head
-  pub there : In c f c head
+  pub there : Sits c f c head
   pub name : head .ns ≡ ns
 
 pub firstly : {w : List ℕ} (c : Seat) (d : Is value w) (ns ne at : ℕ) → Firstly c (treeOf d ns ne at) ns
 unfolding treeOf
-firstly c (simple {w} k l) ns ne at = record { head = leafHead (kindOf k) ns ne at (at + length w); there = In.leaf-here; name = refl }
-firstly c (empty {s} b p) ns ne at = record { head = nodeHead b ns ne at (at + length s + 2); there = In.node-here; name = refl }
-firstly c (full {s} {w} b p d) ns ne at = record { head = nodeHead b ns ne at (at + length s + length w + 2); there = In.node-here; name = refl }
+firstly c (simple {w} k l) ns ne at = record { head = leafHead (simpleKind k) ns ne at (at + length w); there = Sits.leaf-here; name = refl }
+firstly c (empty {s} b p) ns ne at = record { head = nodeHead b ns ne at (at + length s + 2); there = Sits.node-here; name = refl }
+firstly c (full {s} {w} b p d) ns ne at = record { head = nodeHead b ns ne at (at + length s + length w + 2); there = Sits.node-here; name = refl }
 
 -- ---- first bytes ----
 
@@ -133,7 +133,7 @@ leads b h = record { dark = go (isSpace b) refl; apart-from = λ k e. apart k (r
     apart square k = omega arith
     apart curly k = omega arith
 
-some-kind : (k : Simple) → 0 < kindOf k
+some-kind : (k : Simple) → 0 < simpleKind k
 some-kind nothing = omega arith
 some-kind falsity = omega arith
 some-kind truth = omega arith
@@ -141,9 +141,9 @@ some-kind numeral = omega arith
 some-kind text = omega arith
 
 -- a value that holds no others has some bytes
-pub simple-long : (k : Simple) (w : List ℕ) → Written k w → 0 < length w
+pub simple-long : (k : Simple) (w : List ℕ) → IsSimple k w → 0 < length w
 unfolding kindBy
-simple-long k [] d = let e : 0 ≡ kindOf k = simple-first k [] [] d in absurd (omega (arith, some-kind k))
+simple-long k [] d = let e : 0 ≡ simpleKind k = simple-first k [] [] d in absurd (omega (arith, some-kind k))
 simple-long k (x ∷ w) d = omega arith
 
 first-kind : {a : Part} {w : List ℕ} → Is a w → (r : List ℕ) → 0 < kindBy (byteAt (w ++ r) 0)
@@ -211,7 +211,7 @@ module _ (t : List ℕ) where
   unfolding numberAt
   number-three at = then-three exp-three (then-three frac-three (int-three (minusEnd t at)))
 
-  pub three-text : (k : Simple) (at x : ℕ) → simpleOf t k at ≡ No3 x → kindOf k ≡ 5
+  pub three-text : (k : Simple) (at x : ℕ) → simpleOf t k at ≡ No3 x → simpleKind k ≡ 5
   three-text nothing at x e = not-three (word-three _ at) e
   three-text falsity at x e = not-three (word-three _ at) e
   three-text truth at x e = not-three (word-three _ at) e

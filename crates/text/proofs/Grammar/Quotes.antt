@@ -1,6 +1,6 @@
 -- RFC 8259's string is read as its grammar says (`string-exact`). What the reading of a string answers is known by the rules of spelling
 -- (proofs/Spelling/Ends.antt); here they meet the grammar, in which a byte of 128 or more is a character by itself. Assumes nothing.
-use mathlib.Core.Path.{_≡_, refl, sym, subst, _∙_}
+use mathlib.Core.Path.{_≡_, refl, sym, _∙_}
 use mathlib.Core.List.{List, [], _∷_, _++_, append-assoc}
 use mathlib.Core.Bool.{cond}
 use mathlib.Core.Logic.{inl, inr}
@@ -15,11 +15,10 @@ use Rattle.laws.proofs.Places.{inside}
 use Rattle.laws.proofs.Splits.{first-there, beyond, within, there-part, length-part}
 use Rattle.text.specs.Text.{byteAt}
 use Rattle.text.specs.Strings.{utf8, stringEnd}
-use Rattle.text.specs.Spelling.{Short, FourDigits, four, Spell, raw, short, unit, pair, Spells}
-use Rattle.text.specs.Spelling as S
+use Rattle.text.specs.Spelling.{Bare, HexDigit, Short, FourDigits, four, Spell, raw, short, unit, pair, Spells}
 use Rattle.text.specs.Broken.{HexDigits, Cut, control, ended, letter, digit, Aims, high, escape}
 use Rattle.text.specs.Abnf.{Star}
-use Rattle.text.specs.Grammar.{Unescaped, HexDigit, Letter, Char, String, quoted}
+use Rattle.text.specs.Grammar.{Unescaped, JsonChar, JsonString, quoted}
 use Rattle.text.specs.declared.Token.{Token}
 use Rattle.text.specs.declared.Token.the-variants.{End, No2, No3}
 use Rattle.text.proofs.Spelling.Codes.{by-utf8}
@@ -34,51 +33,22 @@ quotedAt t at = cond (eqb (byteAt t at) 34) (stringEnd t (at + 1)) (No2 at)
 
 -- ---- the rules of spelling and those of the grammar ----
 
-short-letter : {b c : ℕ} → Short b c → Letter b
-short-letter Short.quote = Letter.quotation-mark
-short-letter Short.backslash = Letter.reverse-solidus
-short-letter Short.slash = Letter.solidus
-short-letter Short.backspace = Letter.backspace
-short-letter Short.form-feed = Letter.form-feed
-short-letter Short.line-feed = Letter.line-feed
-short-letter Short.carriage-return = Letter.return
-short-letter Short.tab = Letter.tab
+letter-not-u : {b c : ℕ} → Short b c → b ≡ 117 → ⊥
+letter-not-u Short.quote e = omega arith
+letter-not-u Short.backslash e = omega arith
+letter-not-u Short.slash e = omega arith
+letter-not-u Short.backspace e = omega arith
+letter-not-u Short.form-feed e = omega arith
+letter-not-u Short.line-feed e = omega arith
+letter-not-u Short.carriage-return e = omega arith
+letter-not-u Short.tab e = omega arith
 
-letter-short : {b : ℕ} → Letter b → (c : ℕ) × Short b c
-letter-short Letter.quotation-mark = (34, Short.quote)
-letter-short Letter.reverse-solidus = (92, Short.backslash)
-letter-short Letter.solidus = (47, Short.slash)
-letter-short Letter.backspace = (8, Short.backspace)
-letter-short Letter.form-feed = (12, Short.form-feed)
-letter-short Letter.line-feed = (10, Short.line-feed)
-letter-short Letter.return = (13, Short.carriage-return)
-letter-short Letter.tab = (9, Short.tab)
+-- a letter of an escape, and a hexadecimal digit, whatever it stands for
+abbrev Letter : ℕ → Type 0
+Letter b = (c : ℕ) × Short b c
 
-letter-not-u : {b : ℕ} → Letter b → b ≡ 117 → ⊥
-letter-not-u Letter.quotation-mark e = omega arith
-letter-not-u Letter.reverse-solidus e = omega arith
-letter-not-u Letter.solidus e = omega arith
-letter-not-u Letter.backspace e = omega arith
-letter-not-u Letter.form-feed e = omega arith
-letter-not-u Letter.line-feed e = omega arith
-letter-not-u Letter.return e = omega arith
-letter-not-u Letter.tab e = omega arith
-
-hex-digit : {b v : ℕ} → S.HexDigit b v → HexDigit b
-hex-digit (S.HexDigit.decimal {v} h) = HexDigit.decimal {x = 48 + v} (omega arith)
-hex-digit (S.HexDigit.capital {v} l h) = HexDigit.capital {x = 55 + v} (omega arith)
-hex-digit (S.HexDigit.small {v} l h) = HexDigit.small {x = 87 + v} (omega arith)
-
-digit-hex : {b : ℕ} → HexDigit b → (v : ℕ) × S.HexDigit b v
-digit-hex (HexDigit.decimal {x} b) =
-    let e : 48 + (x - 48) ≡ x = omega (arith, b .from) in
-    (x - 48, subst (λ (y : ℕ). S.HexDigit y (x - 48)) e (S.HexDigit.decimal (omega (arith, b .up-to))))
-digit-hex (HexDigit.capital {x} b) =
-    let e : 55 + (x - 55) ≡ x = omega (arith, b .from) in
-    (x - 55, subst (λ (y : ℕ). S.HexDigit y (x - 55)) e (S.HexDigit.capital (omega (arith, b .from)) (omega (arith, b .up-to))))
-digit-hex (HexDigit.small {x} b) =
-    let e : 87 + (x - 87) ≡ x = omega (arith, b .from) in
-    (x - 87, subst (λ (y : ℕ). S.HexDigit y (x - 87)) e (S.HexDigit.small (omega (arith, b .from)) (omega (arith, b .up-to))))
+abbrev Hexadecimal : ℕ → Type 0
+Hexadecimal b = (v : ℕ) × HexDigit b v
 
 -- a byte that may stand raw
 pub record Plain (x : ℕ) : Type 0 where
@@ -101,7 +71,7 @@ abbrev Plains : List ℕ → Type 0
 Plains [] = Unit {0}
 Plains (x ∷ w) = Plain x × Plains w
 
-utf8-plain : (c : ℕ) → S.Unescaped c → Plains (utf8 c)
+utf8-plain : (c : ℕ) → Bare c → Plains (utf8 c)
 utf8-plain c u =
     let h = u .no-control in
     let k = u .no-quote in
@@ -110,48 +80,49 @@ utf8-plain c u =
 
 -- ---- what spells is a string of the grammar ----
 
-plain-chars : (w : List ℕ) → Plains w → Star Char w
+plain-chars : (w : List ℕ) → Plains w → Star JsonChar w
 plain-chars [] p = Star.none
-plain-chars (x ∷ w) p = Star.more (Char.unescaped (plain-unescaped x (p .0))) (plain-chars w (p .1))
+plain-chars (x ∷ w) p = Star.more (JsonChar.unescaped (plain-unescaped x (p .0))) (plain-chars w (p .1))
 
 pub star-join : {L : List ℕ → Type 0} {u v : List ℕ} → Star L u → Star L v → Star L (u ++ v)
 star-join Star.none d = d
 star-join {v} (Star.more {u = w} {v = x} c e) d = rw (append-assoc w x v) (Star.more c (star-join e d))
 
-four-chars : {v : List ℕ} {c : ℕ} → FourDigits v c → Star Char (92 ∷ 117 ∷ v)
-four-chars (four a b c d) = Star.more (Char.unicode (hex-digit a) (hex-digit b) (hex-digit c) (hex-digit d)) Star.none
+four-chars : {v : List ℕ} {c : ℕ} → FourDigits v c → Star JsonChar (92 ∷ 117 ∷ v)
+four-chars (four a b c d) = Star.more (JsonChar.unicode (four a b c d)) Star.none
 
-spell-chars : {w : List ℕ} {c : ℕ} → Spell w c → Star Char w
+spell-chars : {w : List ℕ} {c : ℕ} → Spell w c → Star JsonChar w
 spell-chars (raw {c} g u) = plain-chars (utf8 c) (utf8-plain c u)
-spell-chars (short s) = Star.more (Char.escape (short-letter s)) Star.none
+spell-chars (short s) = Star.more (JsonChar.escape s) Star.none
 spell-chars (unit g d) = four-chars d
 spell-chars (pair {v} d h e k g) = star-join {u = 92 ∷ 117 ∷ v} (four-chars d) (four-chars e)
 
-pub spells-chars : {w cs : List ℕ} → Spells w cs → Star Char w
+pub spells-chars : {w cs : List ℕ} → Spells w cs → Star JsonChar w
 spells-chars Spells.none = Star.none
 spells-chars (Spells.more s d) = star-join (spell-chars s) (spells-chars d)
 
 -- the beginning of a character is completed
 record Completed (begun : List ℕ) : Type 0 where
   more : List ℕ
-  is : Star Char (begun ++ more)
+  is : Star JsonChar (begun ++ more)
 
-zero-digit : HexDigit 48
-zero-digit = HexDigit.decimal {x = 48} (omega arith)
+zero-digit : HexDigit 48 0
+zero-digit = HexDigit.decimal {v = 0} (omega arith)
+
+four-completed : {a b c d w x y z : ℕ} → HexDigit a w → HexDigit b x → HexDigit c y → HexDigit d z → Star JsonChar (92 ∷ 117 ∷ a ∷ b ∷ c ∷ d ∷ [])
+four-completed a b c d = four-chars (four a b c d)
 
 digits-completed : {w : List ℕ} → HexDigits w → length w < 4 → Completed (92 ∷ 117 ∷ w)
-digits-completed HexDigits.none h = record { more = 48 ∷ 48 ∷ 48 ∷ 48 ∷ []; is = Star.more (Char.unicode zero-digit zero-digit zero-digit zero-digit) Star.none }
-digits-completed (HexDigits.more a HexDigits.none) h = record { more = 48 ∷ 48 ∷ 48 ∷ []; is = Star.more (Char.unicode (hex-digit a) zero-digit zero-digit zero-digit) Star.none }
-digits-completed (HexDigits.more a (HexDigits.more b HexDigits.none)) h =
-    record { more = 48 ∷ 48 ∷ []; is = Star.more (Char.unicode (hex-digit a) (hex-digit b) zero-digit zero-digit) Star.none }
-digits-completed (HexDigits.more a (HexDigits.more b (HexDigits.more c HexDigits.none))) h =
-    record { more = 48 ∷ []; is = Star.more (Char.unicode (hex-digit a) (hex-digit b) (hex-digit c) zero-digit) Star.none }
+digits-completed HexDigits.none h = record { more = 48 ∷ 48 ∷ 48 ∷ 48 ∷ []; is = four-completed zero-digit zero-digit zero-digit zero-digit }
+digits-completed (HexDigits.more a HexDigits.none) h = record { more = 48 ∷ 48 ∷ 48 ∷ []; is = four-completed a zero-digit zero-digit zero-digit }
+digits-completed (HexDigits.more a (HexDigits.more b HexDigits.none)) h = record { more = 48 ∷ 48 ∷ []; is = four-completed a b zero-digit zero-digit }
+digits-completed (HexDigits.more a (HexDigits.more b (HexDigits.more c HexDigits.none))) h = record { more = 48 ∷ []; is = four-completed a b c zero-digit }
 digits-completed (HexDigits.more a (HexDigits.more b (HexDigits.more c (HexDigits.more d e)))) h = absurd (omega arith)
 
 cut-completed : {begun : List ℕ} {b : ℕ} → Cut begun b → Completed begun
 cut-completed (control h) = record { more = []; is = Star.none }
 cut-completed (ended h) = record { more = []; is = Star.none }
-cut-completed (letter n s) = record { more = 34 ∷ []; is = Star.more (Char.escape Letter.quotation-mark) Star.none }
+cut-completed (letter n s) = record { more = 34 ∷ []; is = Star.more (JsonChar.escape Short.quote) Star.none }
 cut-completed (digit d h n) = digits-completed d h
 
 -- ---- what is told ----
@@ -182,7 +153,7 @@ module _ (t : List ℕ) where
     here = inside t at (omega arith)
 
     -- the beginning of a string: its quote, what spells, and the beginning of a character
-    begun-string : {from p e : ℕ} → SpellsTo t (at + 1) from → (w : List ℕ) → Star Char w → Like t e from w → at + 1 ≤ p → e ≤ length t → Begun t String at p e
+    begun-string : {from p e : ℕ} → SpellsTo t (at + 1) from → (w : List ℕ) → Star JsonChar w → Like t e from w → at + 1 ≤ p → e ≤ length t → Begun t JsonString at p e
     begun-string s w d l k i =
         record {
           word = 34 ∷ (s .bytes ++ w) ++ 34 ∷ [];
@@ -192,7 +163,7 @@ module _ (t : List ℕ) where
           within = i;
         }
 
-    cut-begun : {p : ℕ} → Refused2 t (at + 1) p → Begun t String at p p
+    cut-begun : {p : ℕ} → Refused2 t (at + 1) p → Begun t JsonString at p p
     cut-begun {p} a =
         let c = a .cut in
         let m = cut-completed (c .cut) in
@@ -201,11 +172,11 @@ module _ (t : List ℕ) where
         begun-string (a .spells) (c .begun ++ m .more) (m .is) (like-more (m .more) (like-stands b)) (omega (arith, stands-to s, stands-to b))
         (stands-inside b (stands-inside s (omega (arith, here))))
 
-    aim-begun : {p : ℕ} {l : List ℕ} → SpellsTo t (at + 1) p → Aims l → drop p t ≡ l → Begun t String at p (p + 1)
+    aim-begun : {p : ℕ} {l : List ℕ} → SpellsTo t (at + 1) p → Aims l → drop p t ≡ l → Begun t JsonString at p (p + 1)
     aim-begun {p} s (high {b} {r} lo hi) e =
         let x = split-stands t p (b ∷ []) r e in
         let k = spelled-stands s in
-        begun-string s (b ∷ []) (Star.more (Char.unescaped (Unescaped.high {x = b} (omega arith))) Star.none) (like-stands x) (omega (arith, stands-to k))
+        begun-string s (b ∷ []) (Star.more (JsonChar.unescaped (Unescaped.high {x = b} (omega arith))) Star.none) (like-stands x) (omega (arith, stands-to k))
         (stands-inside x (stands-inside k (omega (arith, here))))
     aim-begun {p} s (escape {w} d r) e =
         let x = split-stands t p (92 ∷ []) (117 ∷ w ++ r) e in
@@ -213,21 +184,21 @@ module _ (t : List ℕ) where
         begun-string s (92 ∷ 117 ∷ w) (four-chars d) (like-more (117 ∷ w) (like-stands x)) (omega (arith, stands-to k))
         (stands-inside x (stands-inside k (omega (arith, here))))
 
-    closed-string : {e : ℕ} → Closed t (at + 1) e → Standing t String at e
+    closed-string : {e : ℕ} → Closed t (at + 1) e → Standing t JsonString at e
     closed-string {e} a =
         let h = a .after in
         let z : Stands t (e - 1) (e - 1 + 1) (34 ∷ []) = one-stands (a .quote) (omega arith) in
         let o : e - 1 + 1 ≡ e = omega arith in
         record { word = 34 ∷ partOf t (at + 1) (e - 1) ++ 34 ∷ []; is = quoted (spells-chars (a .spelled)); stands = Stands.next q here (stands-join (closed-stands a) (rw o at z)) }
 
-    told-string : (k : Token) → Answers t (at + 1) k → Said t String at k
+    told-string : (k : Token) → Answers t (at + 1) k → Said t JsonString at k
     told-string (End e) a = closed-string a
     told-string (No2 p) a = cut-begun a
     told-string (No3 p) a = aim-begun (a .spells) (a .ill .aims) refl
 
-  quoted-told : (at : ℕ) → at ≤ length t → Said t String at (quotedAt t at)
+  quoted-told : (at : ℕ) → at ≤ length t → Said t JsonString at (quotedAt t at)
   quoted-told at i =
-      if-equal (Said t String at) (byteAt t at) 34 (λ q. told-string at q (stringEnd t (at + 1)) (answers t (at + 1)))
+      if-equal (Said t JsonString at) (byteAt t at) 34 (λ q. told-string at q (stringEnd t (at + 1)) (answers t (at + 1)))
       (λ q. record { word = 34 ∷ 34 ∷ []; is = quoted Star.none; like = like-none (34 ∷ 34 ∷ []) (le-refl at); later = le-refl at; within = i })
 
 -- ---- what follows ----
@@ -235,7 +206,7 @@ module _ (t : List ℕ) where
 -- the rest of a string that the text is like as far as q: from i to its closing quote at e, and then s
 record Rest (t : List ℕ) (q : ℕ) (s : List ℕ) (e i : ℕ) : Type 0 where
   word : List ℕ
-  is : Star Char word
+  is : Star JsonChar word
   like : Like t q i (word ++ 34 ∷ s)
   size : i + length word ≡ e
 
@@ -244,10 +215,10 @@ data Ahead (t : List ℕ) (q : ℕ) (s : List ℕ) (e i : ℕ) : Type 0 where
   closing : i ≡ e → (i < q → byteAt t i ≡ 34) → Ahead t q s e i
   plain : (i < q → Plain (byteAt t i)) → Rest t q s e (i + 1) → Ahead t q s e i
   escaped : (i < q → byteAt t i ≡ 92) → (i + 1 < q → Letter (byteAt t (i + 1))) → Rest t q s e (i + 2) → Ahead t q s e i
-  coded : (i < q → byteAt t i ≡ 92) → (i + 1 < q → byteAt t (i + 1) ≡ 117) → ((j : ℕ) → i + 2 ≤ j → j < i + 6 → j < q → HexDigit (byteAt t j))
+  coded : (i < q → byteAt t i ≡ 92) → (i + 1 < q → byteAt t (i + 1) ≡ 117) → ((j : ℕ) → i + 2 ≤ j → j < i + 6 → j < q → Hexadecimal (byteAt t j))
       → Rest t q s e (i + 6) → Ahead t q s e i
 
-hex-here : {t : List ℕ} {q at x : ℕ} {w : List ℕ} (j : ℕ) → HexDigit x → Like t q at (x ∷ w) → j ≡ at → j < q → HexDigit (byteAt t j)
+hex-here : {t : List ℕ} {q at x : ℕ} {w : List ℕ} (j : ℕ) → Hexadecimal x → Like t q at (x ∷ w) → j ≡ at → j < q → Hexadecimal (byteAt t j)
 hex-here {t} {at} {x} j h l n k = let b : byteAt t j ≡ x = rw n (like-here l (omega arith)) in rw b h
 
 -- each place before `to`, and not behind the closing quote at e, is before q
@@ -255,23 +226,23 @@ abbrev Seen : (q e to : ℕ) → Type 0
 Seen q e to = (j : ℕ) → j < to → j ≤ e → j < q
 
 module _ {t : List ℕ} {q : ℕ} {s : List ℕ} {e : ℕ} where
-  ahead : {i : ℕ} {w : List ℕ} → Star Char w → Like t q i (w ++ 34 ∷ s) → i + length w ≡ e → Ahead t q s e i
+  ahead : {i : ℕ} {w : List ℕ} → Star JsonChar w → Like t q i (w ++ 34 ∷ s) → i + length w ≡ e → Ahead t q s e i
   ahead {i} Star.none l n = closing (omega arith) (like-here l)
-  ahead {i} (Star.more {v} (Char.unescaped {x} u) d) l n =
+  ahead {i} (Star.more {v} (JsonChar.unescaped {x} u) d) l n =
       plain (λ k. rw (like-here l k) (unescaped-plain u)) (record { word = v; is = d; like = like-tail l; size = omega arith })
-  ahead {i} (Star.more {v} (Char.escape {x} u) d) l n =
+  ahead {i} (Star.more {v} (JsonChar.escape {x} u) d) l n =
       let two : i + 1 + 1 ≡ i + 2 = omega arith in
-      escaped (like-here l) (λ k. rw (like-here (like-tail l) k) u) (record { word = v; is = d; like = rw two at (like-tail (like-tail l)); size = omega arith })
-  ahead {i} (Star.more {v} (Char.unicode {a} {b} {c} {d} x y z o) r) l n =
+      escaped (like-here l) (λ k. rw (like-here (like-tail l) k) (_, u)) (record { word = v; is = d; like = rw two at (like-tail (like-tail l)); size = omega arith })
+  ahead {i} (Star.more {v} (JsonChar.unicode (four x y z o)) r) l n =
       let l1 = like-tail (like-tail l) in
       let l2 = like-tail l1 in
       let l3 = like-tail l2 in
       let l4 = like-tail l3 in
       let six : i + 1 + 1 + 1 + 1 + 1 + 1 ≡ i + 6 = omega arith in
       coded (like-here l) (like-here (like-tail l))
-      (λ j lo hi k. by-order j (i + 3) (λ h. hex-here j x l1 (omega arith) k)
-      (λ f. by-order j (i + 4) (λ h. hex-here j y l2 (omega arith) k)
-      (λ g. by-order j (i + 5) (λ h. hex-here j z l3 (omega arith) k) (λ h. hex-here j o l4 (omega arith) k))))
+      (λ j lo hi k. by-order j (i + 3) (λ h. hex-here j (_, x) l1 (omega arith) k)
+      (λ f. by-order j (i + 4) (λ h. hex-here j (_, y) l2 (omega arith) k)
+      (λ g. by-order j (i + 5) (λ h. hex-here j (_, z) l3 (omega arith) k) (λ h. hex-here j (_, o) l4 (omega arith) k))))
       (record { word = v; is = r; like = rw six at (like-tail l4); size = omega arith })
 
   next : {i : ℕ} → Rest t q s e i → Ahead t q s e i
@@ -298,10 +269,10 @@ module _ {t : List ℕ} {q : ℕ} {s : List ℕ} {e : ℕ} where
   over-letter {i} k m b n (coded c l d r) = absurd (n (l (m (omega (arith, r .size)))))
 
   over-digits : {i : ℕ} → i < q → (i + 1 ≤ e → i + 1 < q) → byteAt t i ≡ 92 → byteAt t (i + 1) ≡ 117 → Ahead t q s e i
-      → Rest t q s e (i + 6) × ((j : ℕ) → i + 2 ≤ j → j < i + 6 → j < q → HexDigit (byteAt t j))
+      → Rest t q s e (i + 6) × ((j : ℕ) → i + 2 ≤ j → j < i + 6 → j < q → Hexadecimal (byteAt t j))
   over-digits {i} k m b n (closing o c) = let h = c k in absurd (omega arith)
   over-digits {i} k m b n (plain c r) = absurd (c k .no-backslash b)
-  over-digits {i} k m b n (escaped c l r) = absurd (letter-not-u (l (m (omega (arith, r .size)))) n)
+  over-digits {i} k m b n (escaped c l r) = absurd (letter-not-u (l (m (omega (arith, r .size))) .1) n)
   over-digits {i} k m b n (coded c l d r) = (r, d)
 
   over-four : {i to v : ℕ} {w : List ℕ} → FourDigits w v → Stands t i to (92 ∷ 117 ∷ w) → Seen q e to → Rest t q s e i → Rest t q s e to
@@ -314,7 +285,7 @@ module _ {t : List ℕ} {q : ℕ} {s : List ℕ} {e : ℕ} where
   over-spelled (raw {c} g u) st k r = over-plains (utf8-plain c u) st k r
   over-spelled {i} (short m) (Stands.next a h (Stands.next b o Stands.done)) k r =
       let two : i + 2 ≡ i + 1 + 1 = omega arith in
-      rw two at (over-letter (k i (omega arith) (omega (arith, r .size))) (λ l. k (i + 1) (omega arith) l) a (λ z. letter-not-u (short-letter m) (sym b ∙ z)) (next r) .0)
+      rw two at (over-letter (k i (omega arith) (omega (arith, r .size))) (λ l. k (i + 1) (omega arith) l) a (λ z. letter-not-u m (sym b ∙ z)) (next r) .0)
   over-spelled (unit g d) st k r = over-four d st k r
   over-spelled (pair {v} d h f l g) st k r =
       let c = stands-split (92 ∷ 117 ∷ v) st in
@@ -346,15 +317,15 @@ module _ {t : List ℕ} {q : ℕ} {s : List ℕ} {e : ℕ} where
   at-cut {i} (control h) Stands.done k r = omega (arith, small-here (k i (omega arith) (omega (arith, r .size))) (next r))
   at-cut {i} (ended h) Stands.done k r = omega (arith, small-here (k i (omega arith) (omega (arith, r .size))) (next r))
   at-cut {i} (letter n m) (Stands.next a h Stands.done) k r =
-      let l = letter-short (over-letter (k i (omega arith) (omega (arith, r .size))) (λ o. k (i + 1) (omega arith) o) a n (next r) .1) in
+      let l = over-letter (k i (omega arith) (omega (arith, r .size))) (λ o. k (i + 1) (omega arith) o) a n (next r) .1 in
       m (l .0) (l .1)
   at-cut {i} {p} (digit d h n) (Stands.next a o (Stands.next b u st)) k r =
       let l = stands-to st in
       let c = over-digits (k i (omega arith) (omega (arith, r .size))) (λ o. k (i + 1) (omega arith) o) a b (next r) in
-      let g = digit-hex (c .1 p (omega arith) (omega arith) (k p (omega arith) (omega (arith, c .0 .size)))) in
+      let g = c .1 p (omega arith) (omega arith) (k p (omega arith) (omega (arith, c .0 .size))) in
       n (g .0) (g .1)
 
-string-follow : (t : List ℕ) (q at : ℕ) (w s : List ℕ) → String w → Like t q at (w ++ s) → Goes q (at + length w) (quotedAt t at)
+string-follow : (t : List ℕ) (q at : ℕ) (w s : List ℕ) → JsonString w → Like t q at (w ++ s) → Goes q (at + length w) (quotedAt t at)
 string-follow t q at w s (quoted {w = v} d) l =
     if-equal (Goes q (at + suc (length (v ++ 34 ∷ [])))) (byteAt t at) 34 (λ b. go (stringEnd t (at + 1)) (answers t (at + 1)))
     (λ b. let k = like-stuck l b in record { word = omega arith; answer = k })
@@ -392,7 +363,7 @@ string-follow t q at w s (quoted {w = v} d) l =
         (λ k. let r = over-spells (a .spells .spelled) (spelled-stands t (a .spells)) (λ j h m. omega arith) rest in inr (omega (arith, size, r .size)))
         (λ k. inl (omega (arith, size)))
 
-pub string-exact : (t : List ℕ) → Exact t String (λ z. Unit {0}) (quotedAt t)
+pub string-exact : (t : List ℕ) → Exact t JsonString (λ z. Unit {0}) (quotedAt t)
 string-exact t =
     record { some-word = 34 ∷ 34 ∷ []; has = quoted Star.none; told = λ at i. quoted-told t at i; follow = λ q at w s i d o l. string-follow t q at w s d l }
 
@@ -403,5 +374,5 @@ bad-later t at x =
     (λ b e. omega (arith, no3-ill t (at + 1) x e .spells .place))
     (λ b e. let z : _≡_ {A = ℕ} 0 1 = cc in absurd (omega arith))
 
-pub string-long : {w : List ℕ} → String w → 2 ≤ length w
+pub string-long : {w : List ℕ} → JsonString w → 2 ≤ length w
 string-long (quoted {w} d) = omega (arith, length-append w (34 ∷ []))

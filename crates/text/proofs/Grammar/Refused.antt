@@ -11,7 +11,6 @@ use borrow.Author.Tests.{lt-ltb}
 use lib.ListN.{length, take, drop, take-append-drop, length-append, List·getD-eq-default}
 use lib.Seq.{length-take-le, take-take}
 use Rattle.laws.specs.Bounds.{AllBelow}
-use Rattle.laws.proofs.Bounds.{below-at}
 use Rattle.laws.proofs.Branches.{if-less, if-equal}
 use Rattle.text.specs.Limits.{Limits}
 use Rattle.text.specs.Text.{byteAt}
@@ -24,7 +23,7 @@ use Rattle.text.specs.Whole.{endOf, readOf}
 use Rattle.text.specs.Grammar.{value}
 use Rattle.text.specs.Seats.{Seat, top}
 use Rattle.text.specs.Meaning.{Accepts}
-use Rattle.text.specs.Fault.{Begins, Broken, Violated, Fault, grammar, violated, InEach, First, Refuses}
+use Rattle.text.specs.Fault.{Begins, TreeBreaks, Violated, FaultAt, grammar, violated, InEach, FirstFault, Refuses}
 use Rattle.text.specs.declared.Refusal.{Refusal}
 use Rattle.text.specs.declared.Refusal.the-variants.{TooLong, Grammar, Character, Repeated, Deep, Many, Small}
 use Rattle.text.proofs.Induction.{read-accepted}
@@ -36,7 +35,7 @@ use Rattle.text.proofs.Grammar.Meets.{numberOf, numbered-has, Near, rea
 use Rattle.text.proofs.Grammar.Rules.{wrong-breaks, breaks-wrong, wrong-number}
 use Rattle.text.proofs.Grammar.Calm.{In-time, in-time}
 use Rattle.text.proofs.Grammar.Wholes.{root, root-told, self, other, other-calm, viable-begins, value-inside, read-inside, read-begins, read-text}
-use Rattle.text.proofs.Grammar.Accepted.{kept-accepts}
+use Rattle.text.proofs.Grammar.Accepted.{kept-accepts, at-end}
 
 -- a refusal that is in time
 time-bad : {m x : ℕ} {R : Read} {r : Refusal} → In-time m x R → R ≡ bad r → rank (numberOf r) (placeOf (bad r)) ≤ rank m x
@@ -50,7 +49,7 @@ module _ (L : Limits) (t : List ℕ) where
   near-good : {q end to : ℕ} {c : Seat} {f g : Forest} → Near L t q c g end (good f to) → (f ≡ g) × (to ≡ end)
   near-good read = (refl, refl)
 
-  near-bad : {q end : ℕ} {f : Forest} {r : Refusal} → Near L t q top f end (bad r) → (3 ≤ numberOf r) × Broken L t f (numberOf r) (placeOf (bad r))
+  near-bad : {q end : ℕ} {f : Forest} {r : Refusal} → Near L t q top f end (bad r) → (3 ≤ numberOf r) × TreeBreaks L t f (numberOf r) (placeOf (bad r))
   near-bad {r} (broken {d} {h} {m} {x} i w n) =
       let k = numbered-has n in
       let b : Wrong L t d h (numberOf r) (placeOf (bad r)) = rw (k .number, k .place) w in
@@ -67,7 +66,7 @@ module _ (L : Limits) (t : List ℕ) where
       record { rest = drop p (take q t) ++ b .rest; is = rw e at (b .is) }
 
   -- the numbers of faults are 2 to 6
-  fault-number : {m x : ℕ} → Fault L t m x → (2 ≤ m) × (m ≤ 6)
+  fault-number : {m x : ℕ} → FaultAt L t m x → (2 ≤ m) × (m ≤ 6)
   fault-number (grammar g) = omega arith
   fault-number (violated v) = let w = wrong-number L t (breaks-wrong L t (v .broken .breaks)) in omega arith
 
@@ -79,11 +78,11 @@ module _ (L : Limits) (t : List ℕ) where
 
   -- the first e bytes begin a text of the grammar, and no rule is broken before the number n at q; so there is no fault before
   module _ {n q e : ℕ} (b : Begins t e) (k : (m x : ℕ) → Violated L t m x → rank n q ≤ rank m x) (i : e ≤ length t) (l : q ≤ e) (far : 2 < n → q + 1 ≤ e) where
-    none-at : (m x : ℕ) → x + 1 ≤ e → rank m x < rank n q → Fault L t m x → ⊥
+    none-at : (m x : ℕ) → x + 1 ≤ e → rank m x < rank n q → FaultAt L t m x → ⊥
     none-at m x s o (grammar g) = g .no-further (omega arith) (shorter s b)
     none-at m x s o (violated v) = omega (arith, k m x v)
 
-    first-fault : Fault L t n q → First L t n q
+    first-fault : FaultAt L t n q → FirstFault L t n q
     first-fault g =
         record {
           fault = g;
@@ -98,7 +97,7 @@ module _ (L : Limits) (t : List ℕ) where
     no-rule-before m x v = time-bad (violated-time v) (sym e)
 
     -- 2: no text of the grammar goes on with the byte there
-    grammar-first : (p : ℕ) → r ≡ Grammar p → Viable L t value (skip t 0) p p → First L t 2 p
+    grammar-first : (p : ℕ) → r ≡ Grammar p → Viable L t value (skip t 0) p p → FirstFault L t 2 p
     grammar-first p k v =
         first-fault (viable-begins L t v) (λ m x w. rw k at (no-rule-before m x w)) (v .within) (le-refl p) (λ h. absurd (omega arith))
         (grammar (record {
@@ -115,7 +114,7 @@ module _ (L : Limits) (t : List ℕ) where
     rule-each : (n p : ℕ) → numberOf r ≡ n → placeOf (bad r) ≡ p → p < length t → InEach L t n p
     rule-each n p k o l u d = rw (k, o) at (near-bad (other L t (bad r) e p (omega arith) l u d .is) .1)
 
-    rule-first : (n p : ℕ) → numberOf r ≡ n → placeOf (bad r) ≡ p → Viable L t value (skip t 0) p (p + 1) → First L t n p
+    rule-first : (n p : ℕ) → numberOf r ≡ n → placeOf (bad r) ≡ p → Viable L t value (skip t 0) p (p + 1) → FirstFault L t n p
     rule-first n p k o v =
         let b = viable-begins L t v in
         let l : p < length t = omega (arith, v .within) in
@@ -127,7 +126,7 @@ module _ (L : Limits) (t : List ℕ) where
     n : ℕ
     p : ℕ
     is : refused r ≡ numbers n p 0
-    first : First L t n p
+    first : FirstFault L t n p
     each : 3 ≤ n → InEach L t n p
 
   rule-sheet : (r : Refusal) → bad r ≡ root L t → (n p : ℕ) → refused r ≡ numbers n p 0 → numberOf r ≡ n → placeOf (bad r) ≡ p → Viable L t value (skip t 0) p (p + 1) → On-sheet r
@@ -155,7 +154,7 @@ module _ (L : Limits) (t : List ℕ) where
     over : skip t to ≡ length t → ⊥
     over h = z (rw h (List·getD-eq-default t 256 (le-refl (length t))))
 
-    unended : First L t 2 (skip t to)
+    unended : FirstFault L t 2 (skip t to)
     unended =
         let i = read-inside L t p in
         let b = read-begins L t p in
@@ -179,15 +178,14 @@ means L t small short =
     go (good f to) e p =
         if-equal (Means L t) (byteAt t (skip t to)) 256
         (λ z.
-        let i = read-inside L t p in
-        let o : skip t to ≡ length t = by-order (skip t to) (length t) (λ l. absurd (omega (arith, below-at 256 t small (skip t to) 256 l))) (λ l. omega arith) in
+        let o = at-end L t small (skip t to) (read-inside L t p) z in
         let d = read-text L t p o in
         (kept-accepts L t short (p .kept) (d .0) (d .1), o))
         (λ z. record { n = 2; p = skip t to; is = refl; first = unended L t f to e p z; each = λ h. absurd (omega arith) })
 
 -- ---- an accepted text has no fault ----
 
-no-fault : (L : Limits) (t : List ℕ) (f : Forest) (to : ℕ) {m x : ℕ} → readOf L t ≡ good f to → Accepts L t f → Fault L t m x → ⊥
+no-fault : (L : Limits) (t : List ℕ) (f : Forest) (to : ℕ) {m x : ℕ} → readOf L t ≡ good f to → Accepts L t f → FaultAt L t m x → ⊥
 no-fault L t f to {m} {x} e a (grammar g) =
     by-order x (length t) (λ l. g .no-further l (record {
       rest =
@@ -199,7 +197,7 @@ no-fault L t f to {m} {x} e a (violated v) = time-good (violated-time L t v) (re
 -- ---- theorem: refused rightly ----
 
 -- two first faults are one
-one-first : (L : Limits) (t : List ℕ) {n p m q : ℕ} → First L t n p → First L t m q → (n ≡ m) × (p ≡ q)
+one-first : (L : Limits) (t : List ℕ) {n p m q : ℕ} → FirstFault L t n p → FirstFault L t m q → (n ≡ m) × (p ≡ q)
 one-first L t {n} {p} {m} {q} f g =
     by-order p q (λ l. absurd (g .no-earlier n p (f .fault) l))
     (λ l. by-order q p (λ k. absurd (f .no-earlier m q (g .fault) k))
@@ -208,7 +206,7 @@ one-first L t {n} {p} {m} {q} f g =
     by-order n m (λ h. absurd (g .no-smaller n (rw e at (f .fault)) h)) (λ h. by-order m n (λ o. absurd (f .no-smaller m (rw (← e) at (g .fault)) o)) (λ o. (omega arith, e)))))
 
 module _ (L : Limits) (t : List ℕ) (small : AllBelow 256 t) (short : length t ≤ L .bytes) (n p : ℕ) where
-  refused-first : Refuses L t n p → First L t n p
+  refused-first : Refuses L t n p → FirstFault L t n p
   refused-first r =
       let s : On-sheet L t (r .refusal) = rw (r .answer) at (means L t small short) in
       let e : numbers (s .n) (s .p) 0 ≡ numbers n p 0 = sym (s .is) ∙ r .sheet in
@@ -216,7 +214,7 @@ module _ (L : Limits) (t : List ℕ) (small : AllBelow 256 t) (short : length t 
       let y : s .p ≡ p = ap (λ (a : Paper). a .second) e in
       rw (x, y) at (s .first)
 
-  first-refused : First L t n p → Refuses L t n p
+  first-refused : FirstFault L t n p → Refuses L t n p
   first-refused f = go (readOf L t) refl (means L t small short)
     where
       go : (R : Read) → readOf L t ≡ R → Means L t R → Refuses L t n p
@@ -233,7 +231,7 @@ module _ (L : Limits) (t : List ℕ) (small : AllBelow 256 t) (short : length t 
       let y : s .p ≡ p = ap (λ (a : Paper). a .second) e in
       rw (x, y) at (s .each (omega arith))
 
-pub refuses : (L : Limits) (t : List ℕ) → AllBelow 256 t → length t ≤ L .bytes → (n p : ℕ) → Refuses L t n p ↔ First L t n p
+pub refuses : (L : Limits) (t : List ℕ) → AllBelow 256 t → length t ≤ L .bytes → (n p : ℕ) → Refuses L t n p ↔ FirstFault L t n p
 refuses L t small short n p = (refused-first L t small short n p, first-refused L t small short n p)
 
 -- where one of 3 to 6 is refused, each text of the grammar that goes on as the text does up to that place breaks the rule there

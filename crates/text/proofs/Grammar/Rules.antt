@@ -22,7 +22,7 @@ use Rattle.text.specs.Tree.{Forest, none, leaf, node}
 use Rattle.text.specs.Reader.{named}
 use Rattle.text.specs.Placed.{Quoted}
 use Rattle.text.specs.Seats.{Head, Seat, Named}
-use Rattle.text.specs.Fault.{Opening, Breaks}
+use Rattle.text.specs.Fault.{StringAt, ValueBreaks}
 use Rattle.text.specs.declared.Token.{Token}
 use Rattle.text.specs.declared.Token.the-variants.{End, No2, No3}
 use Rattle.text.proofs.TokenBytes.{string-quoted}
@@ -109,33 +109,33 @@ module _ (t wanted : List ℕ) where
 -- ---- one value ----
 
 module _ (L : Limits) (t : List ℕ) where
-  three-breaks : {d : Seat} {h : Head} {j x : ℕ} → Opening h j → quotedAt t j ≡ No3 x → Breaks L t d h 3 x
+  three-breaks : {d : Seat} {h : Head} {j x : ℕ} → StringAt h j → quotedAt t j ≡ No3 x → ValueBreaks L t d h 3 x
   three-breaks {j} {x} o z =
       let k = open-three t j z in
       let r = no3-ill t (j + 1) x (k .answer) in
       let l = ill-inside t x (r .ill) in
-      Breaks.character o (k .quote) (bad-later t j x z) (part-spells t (j + 1) x (omega arith) (r .spells)) (r .ill)
+      ValueBreaks.character o (k .quote) (bad-later t j x z) (part-spells t (j + 1) x (omega arith) (r .spells)) (r .ill)
 
-  pub wrong-breaks : {d : Seat} {h : Head} {m x : ℕ} → Wrong L t d h m x → Breaks L t d h m x
-  wrong-breaks (string k z) = three-breaks (Opening.value k) z
-  wrong-breaks (name j k z) = three-breaks (Opening.name k) z
-  wrong-breaks {d} {x} (again {e} u k z n) = Breaks.repeated u k (end-quoted t x z) (named-there t (nameOf t (x + 1) (e - 1)) (d .beside) n)
-  wrong-breaks (deep o k) = Breaks.deep o k
-  wrong-breaks (many k) = Breaks.many k
+  pub wrong-breaks : {d : Seat} {h : Head} {m x : ℕ} → Wrong L t d h m x → ValueBreaks L t d h m x
+  wrong-breaks (string k z) = three-breaks (StringAt.value k) z
+  wrong-breaks (name j k z) = three-breaks (StringAt.name k) z
+  wrong-breaks {d} {x} (again {e} u k z n) = ValueBreaks.repeated u k (end-quoted t x z) (named-there t (nameOf t (x + 1) (e - 1)) (d .beside) n)
+  wrong-breaks (deep o k) = ValueBreaks.deep o k
+  wrong-breaks (many k) = ValueBreaks.many k
 
-  opening-wrong : {d : Seat} {h : Head} {j x : ℕ} → Opening h j → quotedAt t j ≡ No3 x → Wrong L t d h 3 x
-  opening-wrong (Opening.value k) z = string k z
-  opening-wrong (Opening.name {j} k) z = name j k z
+  opening-wrong : {d : Seat} {h : Head} {j x : ℕ} → StringAt h j → quotedAt t j ≡ No3 x → Wrong L t d h 3 x
+  opening-wrong (StringAt.value k) z = string k z
+  opening-wrong (StringAt.name {j} k) z = name j k z
 
-  pub breaks-wrong : {d : Seat} {h : Head} {m x : ℕ} → Breaks L t d h m x → Wrong L t d h m x
-  breaks-wrong (Breaks.character {j} {p} o b l s i) =
+  pub breaks-wrong : {d : Seat} {h : Head} {m x : ℕ} → ValueBreaks L t d h m x → Wrong L t d h m x
+  breaks-wrong (ValueBreaks.character {j} {p} o b l s i) =
       let n = ill-inside t p i in
       opening-wrong o (quoted-open t j (No3 p) b (ill-no3 t (j + 1) p (record { spells = spells-part t (j + 1) p (omega arith) (omega arith) s; ill = i })))
-  breaks-wrong {d} (Breaks.repeated {p} {e} u k g n) =
+  breaks-wrong {d} (ValueBreaks.repeated {p} {e} u k g n) =
       let last : e + 1 - 1 ≡ e = omega arith in
       again u k (quoted-end t p g) (rw last (there-named t (nameOf t (p + 1) e) n))
-  breaks-wrong (Breaks.deep o k) = deep o k
-  breaks-wrong (Breaks.many k) = many k
+  breaks-wrong (ValueBreaks.deep o k) = deep o k
+  breaks-wrong (ValueBreaks.many k) = many k
 
   -- the numbers are 3 to 6
   pub wrong-number : {d : Seat} {h : Head} {m x : ℕ} → Wrong L t d h m x → (3 ≤ m) × (m ≤ 6)

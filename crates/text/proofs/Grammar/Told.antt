@@ -19,7 +19,7 @@ use Rattle.text.specs.Tokens.{skip, kindBy}
 use Rattle.text.specs.Tree.{Bracket, square, curly, Forest, none}
 use Rattle.text.specs.Reader.{Read, good, bad, Reader, ItemReader, scalarWith, scalarAt, deep, valueWith, named, colonAt, memberWith, memberOf, valueAt}
 use Rattle.text.specs.Abnf.{Star}
-use Rattle.text.specs.Grammar.{Ws, String, Simple, kindOf, Written, value, item, Is, simple, element, member, treeOf}
+use Rattle.text.specs.Grammar.{Ws, JsonString, Simple, simpleKind, IsSimple, value, item, Is, simple, element, member, treeOf}
 use Rattle.text.specs.Seats.{Seat}
 use Rattle.text.specs.declared.Token.{Token}
 use Rattle.text.specs.declared.Token.the-variants.{End, No2, No3}
@@ -51,8 +51,8 @@ same-three {k} {p} {x} e f = let z : No3 p ≡ No3 x = sym e ∙ f in cc
 module _ (L : Limits) (t : List ℕ) where
   -- ---- a value that holds no others ----
 
-  scalar-told : (k : Simple) (w : List ℕ) (depth : ℕ) (c : Seat) (ns ne at : ℕ) → byteAt t at < 256 → Written k (byteAt t at ∷ w) → Good-name L t (c .beside) ns ne → at ≤ length t
-      → Told (Parsed L t value depth c ns ne at) (Viable L t value at) (scalarAt L t (kindOf k) ns ne at (c .after))
+  scalar-told : (k : Simple) (w : List ℕ) (depth : ℕ) (c : Seat) (ns ne at : ℕ) → byteAt t at < 256 → IsSimple k (byteAt t at ∷ w) → Good-name L t (c .beside) ns ne → at ≤ length t
+      → Told (Parsed L t value depth c ns ne at) (Viable L t value at) (scalarAt L t (simpleKind k) ns ne at (c .after))
   unfolding scalarAt scalarWith treeOf
   scalar-told k w depth c ns ne at b d g i =
       if-most (Told (Parsed L t value depth c ns ne at) (Viable L t value at)) (L .values) (c .after)
@@ -65,8 +65,8 @@ module _ (L : Limits) (t : List ℕ) where
       })
       (λ m. rw (token-simple t k at (lead-opens k (byteAt t at) w d)) (go m (simpleOf t k at) refl (simple-exact t k .told at i)))
     where
-      go : c .after < L .values → (key : Token) → simpleOf t k at ≡ key → Said t (Written k) at key
-          → Told (Parsed L t value depth c ns ne at) (Viable L t value at) (scalarWith (kindOf k) ns ne at key)
+      go : c .after < L .values → (key : Token) → simpleOf t k at ≡ key → Said t (IsSimple k) at key
+          → Told (Parsed L t value depth c ns ne at) (Viable L t value at) (scalarWith (simpleKind k) ns ne at key)
       go m (End to) e s =
           record {
             word = s .word;
@@ -115,12 +115,12 @@ module _ (L : Limits) (t : List ℕ) where
   -- ---- a member ----
 
   -- the beginning of a member: the beginning of its name, or its name, and then what could follow
-  name-begun : {at q e : ℕ} → Begun t String at q e → Viable L t (item curly) at q e
+  name-begun : {at q e : ℕ} → Begun t JsonString at q e → Viable L t (item curly) at q e
   name-begun b =
       record { word = b .word ++ (58 ∷ 110 ∷ 117 ∷ 108 ∷ 108 ∷ []); is = member (b .is) Star.none Star.none null-value; like = like-more _ (b .like); later = b .later; within = b .within }
 
   -- a member whose name is read, up to its value
-  module _ (depth : ℕ) (c : Seat) (at end : ℕ) (i : at ≤ length t) (m : Standing t String at end) where
+  module _ (depth : ℕ) (c : Seat) (at end : ℕ) (i : at ≤ length t) (m : Standing t JsonString at end) where
     module _ (k : byteAt t (skip t end) ≡ 58) where
       s : Standing t Ws end (skip t end)
       s = skip-told t end
@@ -180,7 +180,7 @@ module _ (L : Limits) (t : List ℕ) where
 
   member-told : (read : Reader) (depth : ℕ) (c : Seat) (at : ℕ) → at ≤ length t
       → ((at : ℕ) (ns ne : ℕ) → Good-name L t (c .beside) ns ne → at ≤ length t → Told (Parsed L t value depth c ns ne at) (Viable L t value at) (read ns ne at (c .after)))
-      → (key : Token) → quotedAt t at ≡ key → Said t String at key
+      → (key : Token) → quotedAt t at ≡ key → Said t JsonString at key
       → Told (Parsed L t (item curly) depth c 0 0 at) (Viable L t (item curly) at) (memberWith L t read (c .beside) at (c .after) key)
   unfolding memberWith
   member-told read depth c at i told (No2 q) e b = name-begun b

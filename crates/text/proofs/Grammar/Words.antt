@@ -19,7 +19,7 @@ use Rattle.text.specs.Text.{byteAt, bytes}
 use Rattle.text.specs.Tokens.{isSpace, skip, isDigit, wordAt, numberAt, kindBy, tokenAt}
 use Rattle.text.specs.Tree.{Bracket, square, curly, kindIn, closing}
 use Rattle.text.specs.Abnf.{Byte, Between, Exactly, exactly, seq, Opt, this, that, Star}
-use Rattle.text.specs.Grammar.{Blank, Ws, Number, String, quoted, Simple, nothing, falsity, truth, numeral, text, kindOf, Written, opening}
+use Rattle.text.specs.Grammar.{Blank, Ws, Number, JsonString, quoted, Simple, nothing, falsity, truth, numeral, text, simpleKind, IsSimple, opening}
 use Rattle.text.specs.declared.Token.{Token}
 use Rattle.text.specs.declared.Token.the-variants.{End, No2, No3}
 use Rattle.text.proofs.Grammar.Stands.{Stands, Like, stands-to, stands-inside, one-stands, stands-join, like-none, like-tail, like-stuck}
@@ -129,7 +129,7 @@ simpleOf t truth = wordAt t (bytes "true")
 simpleOf t numeral = numberAt t
 simpleOf t text = quotedAt t
 
-pub simple-exact : (t : List ℕ) (k : Simple) → Exact t (Written k) Behind (simpleOf t k)
+pub simple-exact : (t : List ℕ) (k : Simple) → Exact t (IsSimple k) Behind (simpleOf t k)
 simple-exact t nothing = ends-exact Behind (λ z o. tt) (word-exact t (bytes "null") (omega arith))
 simple-exact t falsity = ends-exact Behind (λ z o. tt) (word-exact t (bytes "false") (omega arith))
 simple-exact t truth = ends-exact Behind (λ z o. tt) (word-exact t (bytes "true") (omega arith))
@@ -140,10 +140,10 @@ simple-exact t text = ends-exact Behind (λ z o. tt) (string-exact t)
 
 pub data Lead (b : ℕ) : (kind : ℕ) → Type 0 where
   no-value : Lead b 0
-  a-simple : (k : Simple) (w : List ℕ) → b < 256 → Written k (b ∷ w) → Lead b (kindOf k)
+  a-simple : (k : Simple) (w : List ℕ) → b < 256 → IsSimple k (b ∷ w) → Lead b (simpleKind k)
   a-bracket : (x : Bracket) → b ≡ opening x → Lead b (kindIn x)
 
-word-lead : (k : Simple) (v : List ℕ) (b x : ℕ) → x < 256 → Written k (x ∷ v) → b ≡ x → Lead b (kindOf k)
+word-lead : (k : Simple) (v : List ℕ) (b x : ℕ) → x < 256 → IsSimple k (x ∷ v) → b ≡ x → Lead b (simpleKind k)
 word-lead k v b x h d e = a-simple k v (omega arith) (rw e d)
 
 digit-lead : (b : ℕ) → isDigit b ≡ true → Lead b 4
@@ -180,17 +180,17 @@ Opens truth b = Unit {0}
 Opens numeral b = Unit {0}
 Opens text b = b ≡ 34
 
-first-quote : {b : ℕ} {w : List ℕ} → String (b ∷ w) → b ≡ 34
+first-quote : {b : ℕ} {w : List ℕ} → JsonString (b ∷ w) → b ≡ 34
 first-quote (quoted d) = refl
 
-pub lead-opens : (k : Simple) (b : ℕ) (w : List ℕ) → Written k (b ∷ w) → Opens k b
+pub lead-opens : (k : Simple) (b : ℕ) (w : List ℕ) → IsSimple k (b ∷ w) → Opens k b
 lead-opens nothing b w d = tt
 lead-opens falsity b w d = tt
 lead-opens truth b w d = tt
 lead-opens numeral b w d = tt
 lead-opens text b w d = first-quote d
 
-pub token-simple : (t : List ℕ) (k : Simple) (at : ℕ) → Opens k (byteAt t at) → tokenAt t (kindOf k) at ≡ simpleOf t k at
+pub token-simple : (t : List ℕ) (k : Simple) (at : ℕ) → Opens k (byteAt t at) → tokenAt t (simpleKind k) at ≡ simpleOf t k at
 unfolding tokenAt
 token-simple t nothing at o = refl
 token-simple t falsity at o = refl
@@ -198,7 +198,7 @@ token-simple t truth at o = refl
 token-simple t numeral at o = refl
 token-simple t text at o = rw o
 
-pub kind-text : (t : List ℕ) (k : Simple) (at : ℕ) → kindOf k ≡ 5 → simpleOf t k at ≡ quotedAt t at
+pub kind-text : (t : List ℕ) (k : Simple) (at : ℕ) → simpleKind k ≡ 5 → simpleOf t k at ≡ quotedAt t at
 kind-text t nothing at e = absurd (omega arith)
 kind-text t falsity at e = absurd (omega arith)
 kind-text t truth at e = absurd (omega arith)
@@ -206,7 +206,7 @@ kind-text t numeral at e = absurd (omega arith)
 kind-text t text at e = refl
 
 -- the kind of a value that holds no others is none of the other kinds
-pub kind-way : {A : Type 0} (k : Simple) (x y z s : A) → cond (eqb (kindOf k) 0) x (cond (eqb (kindOf k) 6) y (cond (eqb (kindOf k) 7) z s)) ≡ s
+pub kind-way : {A : Type 0} (k : Simple) (x y z s : A) → cond (eqb (simpleKind k) 0) x (cond (eqb (simpleKind k) 6) y (cond (eqb (simpleKind k) 7) z s)) ≡ s
 kind-way nothing x y z s = refl
 kind-way falsity x y z s = refl
 kind-way truth x y z s = refl
@@ -232,7 +232,7 @@ first-number w s (seq (seq (seq Opt.none (that (seq (Byte.byte {x} b) c))) f) g)
       digit-tells .back x (omega arith),
     )
 
-pub simple-first : (k : Simple) (w s : List ℕ) → Written k w → kindBy (byteAt (w ++ s) 0) ≡ kindOf k
+pub simple-first : (k : Simple) (w s : List ℕ) → IsSimple k w → kindBy (byteAt (w ++ s) 0) ≡ simpleKind k
 unfolding kindBy
 simple-first nothing w s exactly = refl
 simple-first falsity w s exactly = refl
@@ -240,7 +240,7 @@ simple-first truth w s exactly = refl
 simple-first numeral w s d = first-number w s d
 simple-first text w s (quoted d) = refl
 
-pub simple-opens : (k : Simple) (w s : List ℕ) → Written k w → Opens k (byteAt (w ++ s) 0)
+pub simple-opens : (k : Simple) (w s : List ℕ) → IsSimple k w → Opens k (byteAt (w ++ s) 0)
 simple-opens nothing w s d = tt
 simple-opens falsity w s d = tt
 simple-opens truth w s d = tt

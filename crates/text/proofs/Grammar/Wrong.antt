@@ -13,7 +13,7 @@ use Rattle.text.specs.Strings.{nameOf}
 use Rattle.text.specs.Tree.{Bracket, square, curly, kindIn, Forest, none, leaf, node, size, join}
 use Rattle.text.specs.Reader.{named}
 use Rattle.text.specs.Grammar.{depthOf}
-use Rattle.text.specs.Seats.{Head, Seat, under, behind, In}
+use Rattle.text.specs.Seats.{Head, Seat, under, behind, Sits}
 use Rattle.text.specs.declared.Token.the-variants.{End, No3}
 use Rattle.text.proofs.Grammar.Stands.{clash}
 use Rattle.text.proofs.Grammar.Quotes.{quotedAt}
@@ -64,9 +64,9 @@ module _ (L : Limits) (t : List ℕ) where
   pub record Kept (depth : ℕ) (c : Seat) (f : Forest) : Type 0 where
     pub shallow : depthOf f ≤ depth
     pub few : c .after + size f ≤ L .values
-    pub sane : (d : Seat) (h : Head) → In c f d h → Sane d h
+    pub sane : (d : Seat) (h : Head) → Sits c f d h → Sane d h
 
-  pub clean : {c d : Seat} {h : Head} {f : Forest} {m x : ℕ} (depth : ℕ) → c .inside + depth ≡ L .depth → Kept depth c f → In c f d h → Wrong d h m x → ⊥
+  pub clean : {c d : Seat} {h : Head} {f : Forest} {m x : ℕ} (depth : ℕ) → c .inside + depth ≡ L .depth → Kept depth c f → Sits c f d h → Wrong d h m x → ⊥
   clean {d} {h} depth e k i (string p b) = end-bad (h .from) (k .sane d h i .closed p) b
   clean {d} {h} depth e k i (name j p b) = end-bad j (k .sane d h i .names .closed j p) b
   clean {d} {h} {x} depth e k i (again u p c m) = name-new x (k .sane d h i .names) u p c m
@@ -90,8 +90,8 @@ module _ (L : Limits) (t : List ℕ) where
   unfolding depthOf size
   kept-leaf {depth} {c} {kind} {ns} {ne} {at} {to} g l s = record { shallow = omega arith; few = omega arith; sane = go }
     where
-      go : (d : Seat) (h : Head) → In c (leaf kind ns ne at to none) d h → Sane d h
-      go d h In.leaf-here = record { closed = s; names = g }
+      go : (d : Seat) (h : Head) → Sits c (leaf kind ns ne at to none) d h → Sane d h
+      go d h Sits.leaf-here = record { closed = s; names = g }
 
   pub kept-node : {depth : ℕ} {c : Seat} {ns ne at to : ℕ} {inner : Forest} (b : Bracket) → Good-name (c .beside) ns ne → c .after < L .values → Kept depth (under c) inner
       → Kept (suc depth) c (node b ns ne at to inner none)
@@ -99,9 +99,9 @@ module _ (L : Limits) (t : List ℕ) where
   kept-node {depth} {c} {ns} {ne} {at} {to} {inner} b g l k =
       record { shallow = omega (arith, k .shallow); few = omega (arith, k .few); sane = go }
     where
-      go : (d : Seat) (h : Head) → In c (node b ns ne at to inner none) d h → Sane d h
-      go d h (In.into i) = k .sane d h i
-      go d h In.node-here = record { closed = λ e. absurd (no-string b e); names = g }
+      go : (d : Seat) (h : Head) → Sits c (node b ns ne at to inner none) d h → Sane d h
+      go d h (Sits.into i) = k .sane d h i
+      go d h Sits.node-here = record { closed = λ e. absurd (no-string b e); names = g }
 
   pub kept-none : {depth : ℕ} {c : Seat} → c .after ≤ L .values → Kept depth c none
   unfolding depthOf size

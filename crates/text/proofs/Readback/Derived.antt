@@ -8,11 +8,11 @@ use Rattle.text.specs.Abnf.{Star, exactly}
 use Rattle.text.specs.Grammar.{quoted, nothing, falsity, truth, numeral, text, opening, value, item, items, Is, simple, element, one, JsonText, json-text}
 use Rattle.text.specs.Doc.{Name, Doc, scalar, array, object, Members, empty, member, boxed}
 use Rattle.text.specs.Writing.{written, writtenEntries, writtenMembers}
-use Rattle.text.specs.Labels.{Labelled, Every, LabelIn, EveryIn}
+use Rattle.text.specs.Labels.{Labelled, Every}
 use Rattle.text.specs.Writable.{Lexeme}
 use Rattle.text.proofs.Spelling.Decoded.{decode-spelled}
 use Rattle.text.proofs.Grammar.Quotes.{spells-chars}
-use Rattle.text.proofs.Labels.{every-parts}
+use Rattle.text.proofs.Labels.{LabelIn, EveryIn, every-parts}
 use Rattle.text.proofs.Readback.Says.{says, docBy, textDoc, says-value}
 
 -- ---- what is written, by its brackets ----

@@ -17,15 +17,15 @@ use Rattle.text.specs.Tree.{Bracket, square, curly, Forest}
 use Rattle.text.specs.Reader.{good}
 use Rattle.text.specs.Whole.{readOf}
 use Rattle.text.specs.Placed.{TokenIn, null, falsity, truth, number, string}
-use Rattle.text.specs.Grammar.{Number, String, Simple, nothing, numeral, text, kindOf, Written, Part, value, item, items, Is, simple, empty, full, element, member, one, comma}
+use Rattle.text.specs.Grammar.{Number, JsonString, Simple, nothing, numeral, text, simpleKind, IsSimple, Part, value, item, items, Is, simple, empty, full, element, member, one, comma}
 use Rattle.text.specs.Grammar as G
 use Rattle.text.specs.Doc.{Name, Doc, scalar, array, object, Members, docOf}
 use Rattle.text.specs.Writing.{written}
-use Rattle.text.specs.Labels.{Labelled, Every, EveryIn, LabelIn}
+use Rattle.text.specs.Labels.{Labelled, Every}
 use Rattle.text.specs.Writable.{Lexeme, Writable}
 use Rattle.text.specs.Seats.{top}
 use Rattle.text.proofs.Induction.{read-accepted}
-use Rattle.text.proofs.Labels.{quoted-part, labels-said, every-box, every-none, every-more, every-parts}
+use Rattle.text.proofs.Labels.{LabelIn, EveryIn, quoted-part, labels-said, every-box, every-none, every-more, every-parts}
 use Rattle.text.proofs.Promise.{promised}
 use Rattle.text.proofs.Grammar.Stands.{stands-to, stands-inside}
 use Rattle.text.proofs.Grammar.Prefixes.{stands-drop}
@@ -39,14 +39,14 @@ use Rattle.text.proofs.Readback.Shorter.{value-shorter}
 -- ---- something of every name and token of a derivation ----
 
 module _ (N : Name → List ℕ → Type 0) (T : ℕ → List ℕ → Type 0)
-    (named : (m : List ℕ) (g : String m) → N (decode (insideOf g)) m) (token : (w : List ℕ) (k : Simple) → Written k w → T (kindOf k) w) where
+    (named : (m : List ℕ) (g : JsonString m) → N (decode (insideOf g)) m) (token : (w : List ℕ) (k : Simple) → IsSimple k w → T (simpleKind k) w) where
   abbrev Built : Part → (Name → List ℕ → Members → Members) → Type 0
   Built value f = (b : Bracket) (n : Name) (label : List ℕ) (more : Members) → LabelIn N b n label → EveryIn N T b more → EveryIn N T b (f n label more)
   Built (item b) f = (n : Name) (label : List ℕ) (more : Members) → EveryIn N T b more → EveryIn N T b (f n label more)
   Built (items b) f = (n : Name) (label : List ℕ) (more : Members) → EveryIn N T b more → EveryIn N T b (f n label more)
 
   built : {a : Part} {w : List ℕ} (d : Is a w) → Built a (says d)
-  built (simple {w} k l) = λ b n label more h e. every-more N T b n label (scalar (kindOf k) w) more (h, token w k l, e)
+  built (simple {w} k l) = λ b n label more h e. every-more N T b n label (scalar (simpleKind k) w) more (h, token w k l, e)
   built (empty c p) = λ b n label more h e. every-more N T b n label _ more (h, every-box N T c Members.empty (every-none N T c), e)
   built (full c p d) =
       λ b n label more h e.
@@ -104,7 +104,7 @@ placed-token t (string {from} {to} q) =
     let part : partOf t from to ≡ 34 ∷ partOf t (from + 1) (to - 1) ++ (34 ∷ []) = rw (s, e) at (quoted-part t (from + 1) (to - 1) q) in
     λ k. rw part (Lexeme.string (q .spells))
 
-number-token : (w : List ℕ) (k : Simple) → Written k w → Number-token (kindOf k) w
+number-token : (w : List ℕ) (k : Simple) → IsSimple k w → Number-token (simpleKind k) w
 number-token w nothing l = λ e. absurd (omega arith)
 number-token w G.falsity l = λ e. absurd (omega arith)
 number-token w G.truth l = λ e. absurd (omega arith)

@@ -16,16 +16,16 @@ use Rattle.text.specs.Strings.{nameOf}
 use Rattle.text.specs.Reader.{named}
 use Rattle.text.specs.Tree.{Bracket, square, curly, Forest, leaf, node, join, size}
 use Rattle.text.specs.Tree as T
-use Rattle.text.specs.Seats.{Head, Seat, In, Named}
+use Rattle.text.specs.Seats.{Head, Seat, Sits, Named}
 use Rattle.text.specs.Placed.{Quoted}
 use Rattle.text.specs.Grammar.{Part, value, item, items, Is, simple, empty, full, element, member, one, comma, JsonText, json-text, treeOf, rootOf, depthOf}
 use Rattle.text.specs.Doc.{Name, Doc, Members, boxed, labelAt, membersOf, seek}
-use Rattle.text.specs.Distinct.{Distinct, DistinctIn}
-use Rattle.text.specs.Labels.{Labelled, EveryIn, LabelIn}
+use Rattle.text.specs.Distinct.{Distinct}
+use Rattle.text.specs.Labels.{Labelled}
 use Rattle.text.specs.Writable.{Lexeme, Writable}
 use Rattle.text.specs.Meaning.{Accepts}
-use Rattle.text.proofs.Labels.{every-inside, every-parts}
-use Rattle.text.proofs.Documents.{label-part, seek-name, seek-later}
+use Rattle.text.proofs.Labels.{EveryIn, LabelIn, every-inside, every-parts}
+use Rattle.text.proofs.Documents.{DistinctIn, label-part, seek-name, seek-later}
 use Rattle.text.proofs.Grammar.Stands.{clash}
 use Rattle.text.proofs.Grammar.Trees.{join-none, join-assoc}
 use Rattle.text.proofs.Grammar.Wrong.{no-string}
@@ -79,14 +79,14 @@ module _ (t : List ℕ) where
   token-quoted from to (Lexeme.number n) e k = absurd (omega arith)
   token-quoted from to (Lexeme.string {w} {codes} s) e k = part-quoted t from to w codes e s
 
-  strings-in : {c d : Seat} {h : Head} {f : Forest} (b : Bracket) → EveryIn Labelled Lexeme b (membersOf t f) → In c f d h → h .kind ≡ 5 → Quoted t (h .from + 1) (h .to - 1)
+  strings-in : {c d : Seat} {h : Head} {f : Forest} (b : Bracket) → EveryIn Labelled Lexeme b (membersOf t f) → Sits c f d h → h .kind ≡ 5 → Quoted t (h .from + 1) (h .to - 1)
   unfolding membersOf
-  strings-in b e (In.leaf-here {from = from} {to = to} {rest = rest}) k = token-quoted from to (every-parts Labelled Lexeme b _ _ _ (membersOf t rest) e .1) refl k
-  strings-in b e (In.node-here {b = c}) k = absurd (no-string c k)
-  strings-in b e (In.into {b = c} {inner = inner} {rest = rest} i) k =
+  strings-in b e (Sits.leaf-here {from = from} {to = to} {rest = rest}) k = token-quoted from to (every-parts Labelled Lexeme b _ _ _ (membersOf t rest) e .1) refl k
+  strings-in b e (Sits.node-here {b = c}) k = absurd (no-string c k)
+  strings-in b e (Sits.into {b = c} {inner = inner} {rest = rest} i) k =
       strings-in c (every-inside Labelled Lexeme c (membersOf t inner) (every-parts Labelled Lexeme b _ _ _ (membersOf t rest) e .1)) i k
-  strings-in b e (In.leaf-on {rest = rest} i) k = strings-in b (every-parts Labelled Lexeme b _ _ _ (membersOf t rest) e .2) i k
-  strings-in b e (In.node-on {rest = rest} i) k = strings-in b (every-parts Labelled Lexeme b _ _ _ (membersOf t rest) e .2) i k
+  strings-in b e (Sits.leaf-on {rest = rest} i) k = strings-in b (every-parts Labelled Lexeme b _ _ _ (membersOf t rest) e .2) i k
+  strings-in b e (Sits.node-on {rest = rest} i) k = strings-in b (every-parts Labelled Lexeme b _ _ _ (membersOf t rest) e .2) i k
 
   label-quoted : (ns ne : ℕ) → 0 < ns → Labelled (nameOf t ns ne) (labelAt t ns ne) → Quoted t ns ne
   label-quoted ns ne h l =
@@ -99,14 +99,14 @@ module _ (t : List ℕ) where
   name-quoted square ns ne n l h = absurd (omega arith)
   name-quoted curly ns ne n l h = label-quoted ns ne h l
 
-  names-in : {c d : Seat} {h : Head} {f : Forest} (b : Bracket) → NamelessIn b f → EveryIn Labelled Lexeme b (membersOf t f) → In c f d h → 0 < h .ns → Quoted t (h .ns) (h .ne)
+  names-in : {c d : Seat} {h : Head} {f : Forest} (b : Bracket) → NamelessIn b f → EveryIn Labelled Lexeme b (membersOf t f) → Sits c f d h → 0 < h .ns → Quoted t (h .ns) (h .ne)
   unfolding membersOf
-  names-in b n e (In.leaf-here {ns = ns} {ne = ne} {rest = rest}) k = name-quoted b ns ne (n .0) (every-parts Labelled Lexeme b _ _ _ (membersOf t rest) e .0) k
-  names-in b n e (In.node-here {ns = ns} {ne = ne} {rest = rest}) k = name-quoted b ns ne (n .0) (every-parts Labelled Lexeme b _ _ _ (membersOf t rest) e .0) k
-  names-in b n e (In.into {b = c} {inner = inner} {rest = rest} i) k =
+  names-in b n e (Sits.leaf-here {ns = ns} {ne = ne} {rest = rest}) k = name-quoted b ns ne (n .0) (every-parts Labelled Lexeme b _ _ _ (membersOf t rest) e .0) k
+  names-in b n e (Sits.node-here {ns = ns} {ne = ne} {rest = rest}) k = name-quoted b ns ne (n .0) (every-parts Labelled Lexeme b _ _ _ (membersOf t rest) e .0) k
+  names-in b n e (Sits.into {b = c} {inner = inner} {rest = rest} i) k =
       names-in c (n .1) (every-inside Labelled Lexeme c (membersOf t inner) (every-parts Labelled Lexeme b _ _ _ (membersOf t rest) e .1)) i k
-  names-in b n e (In.leaf-on {rest = rest} i) k = names-in b (n .1) (every-parts Labelled Lexeme b _ _ _ (membersOf t rest) e .2) i k
-  names-in b n e (In.node-on {rest = rest} i) k = names-in b (n .2) (every-parts Labelled Lexeme b _ _ _ (membersOf t rest) e .2) i k
+  names-in b n e (Sits.leaf-on {rest = rest} i) k = names-in b (n .1) (every-parts Labelled Lexeme b _ _ _ (membersOf t rest) e .2) i k
+  names-in b n e (Sits.node-on {rest = rest} i) k = names-in b (n .2) (every-parts Labelled Lexeme b _ _ _ (membersOf t rest) e .2) i k
 
   -- ---- names are new ----
 
@@ -163,18 +163,18 @@ module _ (t : List ℕ) where
   none-fresh curly ms = λ name h. named-none h
 
   new-in : {c d : Seat} {h : Head} {f : Forest} (b : Bracket) → NamelessIn b f → DistinctIn b (membersOf t f) → Fresh b (c .beside) (membersOf t f)
-      → In c f d h → 0 < h .ns → Named t (nameOf t (h .ns) (h .ne)) (d .beside) → ⊥
+      → Sits c f d h → 0 < h .ns → Named t (nameOf t (h .ns) (h .ne)) (d .beside) → ⊥
   unfolding membersOf
-  new-in {c} b n e f (In.leaf-here {ns = ns} {ne = ne} {rest = rest}) k m =
+  new-in {c} b n e f (Sits.leaf-here {ns = ns} {ne = ne} {rest = rest}) k m =
       fresh-not (nameOf t ns ne) (labelAt t ns ne) _ (membersOf t rest) b (c .beside) f ns (n .0) k m
-  new-in {c} b n e f (In.node-here {ns = ns} {ne = ne} {rest = rest}) k m =
+  new-in {c} b n e f (Sits.node-here {ns = ns} {ne = ne} {rest = rest}) k m =
       fresh-not (nameOf t ns ne) (labelAt t ns ne) _ (membersOf t rest) b (c .beside) f ns (n .0) k m
-  new-in b n e f (In.into {b = c} {ns = ns} {ne = ne} {inner = inner} {rest = rest} i) k m =
+  new-in b n e f (Sits.into {b = c} {ns = ns} {ne = ne} {inner = inner} {rest = rest} i) k m =
       new-in c (n .1) (box-distinct c (membersOf t inner) (distinct-first (nameOf t ns ne) (labelAt t ns ne) _ (membersOf t rest) b e)) (none-fresh c (membersOf t inner)) i k m
-  new-in {c} b n e f (In.leaf-on {kind = kind} {ns = ns} {ne = ne} {from = from} {to = to} {rest = rest} i) k m =
+  new-in {c} b n e f (Sits.leaf-on {kind = kind} {ns = ns} {ne = ne} {from = from} {to = to} {rest = rest} i) k m =
       new-in b (n .1) (distinct-rest (nameOf t ns ne) (labelAt t ns ne) _ (membersOf t rest) b e)
       (fresh-on (nameOf t ns ne) (labelAt t ns ne) _ (membersOf t rest) b (c .beside) (leaf kind ns ne from to T.none) (λ name x. leaf-named x) e f) i k m
-  new-in {c} b n e f (In.node-on {b = o} {ns = ns} {ne = ne} {from = from} {to = to} {inner = inner} {rest = rest} i) k m =
+  new-in {c} b n e f (Sits.node-on {b = o} {ns = ns} {ne = ne} {from = from} {to = to} {inner = inner} {rest = rest} i) k m =
       new-in b (n .2) (distinct-rest (nameOf t ns ne) (labelAt t ns ne) _ (membersOf t rest) b e)
       (fresh-on (nameOf t ns ne) (labelAt t ns ne) _ (membersOf t rest) b (c .beside) (node o ns ne from to inner T.none) (λ name x. node-named x) e f) i k m
 

@@ -9,7 +9,7 @@ use lib.Seq.{drop-append-seam}
 use borrow.Author.Tests.{ne-eqb}
 use Rattle.text.specs.Strings.{decode, nameOf}
 use Rattle.text.specs.Tree.{closing, Forest, none, leaf, node, join}
-use Rattle.text.specs.Grammar.{String, quoted, kindOf, opening, Part, value, Is, simple, empty, full, element, member, one, comma, JsonText, json-text, treeOf, rootOf}
+use Rattle.text.specs.Grammar.{JsonString, quoted, simpleKind, opening, Part, value, Is, simple, empty, full, element, member, one, comma, JsonText, json-text, treeOf, rootOf}
 use Rattle.text.specs.Doc.{Name, Doc, scalar, array, Members, boxed, labelAt, membersOf, docOf}
 use Rattle.text.proofs.Labels.{no-label}
 use Rattle.text.proofs.Readback.Runs.{At, at-left, at-right, at-behind, part-at}
@@ -17,12 +17,12 @@ use Rattle.text.proofs.Grammar.Trees.{join-none, join-assoc}
 
 -- ---- what a derivation says ----
 
-abbrev pub insideOf : {m : List ℕ} → String m → List ℕ
+abbrev pub insideOf : {m : List ℕ} → JsonString m → List ℕ
 insideOf (quoted {w} c) = w
 
 -- its values as members, and the members after them; a value that is no member has the name that is handed in
 abbrev pub says : {a : Part} {w : List ℕ} → Is a w → Name → (label : List ℕ) → Members → Members
-says (simple {w} k l) n label more = Members.member n label (scalar (kindOf k) w) more
+says (simple {w} k l) n label more = Members.member n label (scalar (simpleKind k) w) more
 says (empty b p) n label more = Members.member n label (boxed b Members.empty) more
 says (full b p d) n label more = Members.member n label (boxed b (says d [] [] Members.empty)) more
 says (element d) n label more = says d [] [] more
@@ -48,17 +48,17 @@ says-value (full b p d) n label more = refl
 
 -- ---- the same document ----
 
-some-quote : {m : List ℕ} → String m → 1 ≤ length m
+some-quote : {m : List ℕ} → JsonString m → 1 ≤ length m
 some-quote (quoted c) = omega arith
 
 module _ (t : List ℕ) where
   -- a name of the grammar
-  string-name : {m : List ℕ} (at : ℕ) (g : String m) → At t at m → nameOf t (at + 1) (at + length m - 1) ≡ decode (insideOf g)
+  string-name : {m : List ℕ} (at : ℕ) (g : JsonString m) → At t at m → nameOf t (at + 1) (at + length m - 1) ≡ decode (insideOf g)
   string-name at (quoted {w} c) a =
       let inner : At t (at + 1) (w ++ 34 ∷ []) = at-right (34 ∷ []) (w ++ 34 ∷ []) (at + 1) a refl in
       ap decode (part-at w (at + length (34 ∷ w ++ 34 ∷ []) - 1) (at-left w (34 ∷ []) inner) (omega (arith, length-append w (34 ∷ []))))
 
-  string-label : {m : List ℕ} (at : ℕ) → String m → At t at m → labelAt t (at + 1) (at + length m - 1) ≡ m
+  string-label : {m : List ℕ} (at : ℕ) → JsonString m → At t at m → labelAt t (at + 1) (at + length m - 1) ≡ m
   string-label {m} at g a =
       let s : at + 1 - 1 ≡ at = omega arith in
       let e : at + length m ≡ at + length m - 1 + 1 = omega (arith, some-quote g) in
@@ -75,7 +75,7 @@ module _ (t : List ℕ) where
       → membersOf t (join (treeOf d ns ne at) g) ≡ says d (nameOf t ns ne) (labelAt t ns ne) (membersOf t g)
   unfolding membersOf treeOf join
   said (simple {w} k l) ns ne at g a =
-      ap (λ (token : List ℕ). Members.member (nameOf t ns ne) (labelAt t ns ne) (scalar (kindOf k) token) (membersOf t g)) (part-at w (at + length w) a refl)
+      ap (λ (token : List ℕ). Members.member (nameOf t ns ne) (labelAt t ns ne) (scalar (simpleKind k) token) (membersOf t g)) (part-at w (at + length w) a refl)
   said (empty b p) ns ne at g a = refl
   said (full {s} {w} b p d) ns ne at g a =
       let to = at + 1 + length s in

@@ -15,7 +15,7 @@ use Rattle.laws.proofs.Splits.{first-there, beyond}
 use Rattle.text.specs.Text.{byteAt}
 use Rattle.text.specs.Chars.{escapeAt}
 use Rattle.text.specs.Strings.{stringEnd, utf8, stop, piece, pieceBy, decodeFrom, decode, nameOf}
-use Rattle.text.specs.Spelling.{Unescaped, Spell, raw, short, unit, pair, Spells, none, more, utf8s}
+use Rattle.text.specs.Spelling.{Bare, Spell, raw, short, unit, pair, Spells, none, more, utf8s}
 use Rattle.text.specs.declared.Step.the-variants.{Char}
 use Rattle.text.specs.declared.Token.the-variants.{End}
 use Rattle.text.proofs.Walks.{decode-at, past-piece}
@@ -42,7 +42,7 @@ abbrev Handed : List ℕ → Type 0
 Handed [] = Prim.Unit {0}
 Handed (b ∷ w) = (b ≡ 92 → ⊥) × (b < 256) × Handed w
 
-utf8-handed : (c : ℕ) → Unescaped c → Handed (utf8 c)
+utf8-handed : (c : ℕ) → Bare c → Handed (utf8 c)
 utf8-handed c u = let n = u .no-backslash in by-utf8 Handed c (λ h. omega arith) (λ h k. omega arith) (λ h k. omega arith) (λ h. omega arith)
 
 handed-on : (t : List ℕ) (i : ℕ) (w r : List ℕ) → Handed w → drop i t ≡ w ++ r → decodeFrom t i ≡ w ++ decodeFrom t (i + length w)

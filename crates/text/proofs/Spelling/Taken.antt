@@ -15,7 +15,7 @@ use Rattle.laws.proofs.Splits.{there, first-there, beyond}
 use Rattle.text.specs.Text.{byteAt}
 use Rattle.text.specs.Chars.{checkedAt, seq3, seq4, tailAt, rawAt, lowAt, pairAt, unitAt, onHex, escapeAt, stepBy, stepAt, hex4At}
 use Rattle.text.specs.Strings.{utf8}
-use Rattle.text.specs.Spelling.{Good, Unescaped, FourDigits, Short, Spell, raw, short, unit, pair}
+use Rattle.text.specs.Spelling.{Good, Bare, FourDigits, Short, Spell, raw, short, unit, pair}
 use Rattle.text.specs.declared.Hex.the-variants.{Unit}
 use Rattle.text.specs.declared.Step.the-variants.{Char}
 use Rattle.text.proofs.Spelling.Codes.{good-checked, by-utf8, tail-bits, joined2, joined3, joined4}
@@ -29,7 +29,7 @@ module _ (t : List ℕ) (i : ℕ) where
   unfolding stepBy
   high-step b p lo hi = simp (p, ne-eqb b 34 (omega arith), ne-eqb b 92 (omega arith), le-ltb b 32 (omega arith), le-ltb b 128 lo, lt-ltb b 256 hi)
 
-  raw-step : (c : ℕ) → Good c → Unescaped c → (r : List ℕ) → drop i t ≡ utf8 c ++ r → stepAt t i ≡ Char c (length (utf8 c))
+  raw-step : (c : ℕ) → Good c → Bare c → (r : List ℕ) → drop i t ≡ utf8 c ++ r → stepAt t i ≡ Char c (length (utf8 c))
   unfolding stepBy rawAt tailAt
   raw-step c g u r =
       by-utf8 (λ w. drop i t ≡ w ++ r → stepAt t i ≡ Char c (length w)) c

@@ -7,7 +7,7 @@ use denote.Ref.{now}
 use borrow.Author.Needs.{needs}
 use Rattle.text.specs.Strings.{conts}
 use Rattle.text.specs.Tree.{Forest}
-use Rattle.text.specs.Firsts.{Some, Kinds}
+use Rattle.text.specs.Firsts.{HasFirst, Kinds}
 use Rattle.text.specs.Standing.{Stands}
 use Rattle.text.specs.Doc.{docOf}
 use Rattle.card.specs.Entries.{worstWalk}
@@ -16,7 +16,7 @@ use Rattle.card.proofs.entries.worst_path.Statement.{statement}
 use Rattle.card.proofs.entries.worst_path.Tie as tie
 
 abbrev Inv-loop : tie.InvT-loop
-Inv-loop card card-table row text table rows n missing₀ i₀ missing i = (i ≤ n) × ((f : Forest) → Some f → Stands card-table row f → Kinds f → Walked text table rows 0 n (worst (docOf card f) false) (worst (docOf card f) missing) i)
+Inv-loop card card-table row text table rows n missing₀ i₀ missing i = (i ≤ n) × ((f : Forest) → HasFirst f → Stands card-table row f → Kinds f → Walked text table rows 0 n (worst (docOf card f) false) (worst (docOf card f) missing) i)
 
 abbrev μ-loop : tie.MeasureT-loop
 μ-loop card card-table row text table rows n missing₀ i₀ missing i = n - i

@@ -9,7 +9,7 @@ use borrow.Author.Needs.{needs}
 use Rattle.laws.specs.Order.{same}
 use Rattle.text.specs.Strings.{nameOf}
 use Rattle.text.specs.Tree.{Forest, none, leaf, node}
-use Rattle.text.specs.Firsts.{Some, nameStart, nameEnd, restAt}
+use Rattle.text.specs.Firsts.{HasFirst, nameStart, nameEnd, restAt}
 use Rattle.text.specs.Standing.{StandsTo}
 use Rattle.text.specs.Reader.{named}
 use Rattle.text.proofs.Standing.{row-at, Going, started, go-on, hit, ended}
@@ -17,7 +17,7 @@ use Rattle.json.specs.Rows.{nameStartIn, nameEndIn}
 use Rattle.json.proofs.members.named.Statement.{statement}
 use Rattle.json.proofs.members.named.Tie as tie
 
-first-named : (t name : List ℕ) (f : Forest) → Some f
+first-named : (t name : List ℕ) (f : Forest) → HasFirst f
     → named t name f ≡ cond (same (nameOf t (nameStart f) (nameEnd f)) name) true (named t name (restAt f))
 unfolding named
 first-named t name none s = absurd s
@@ -26,7 +26,7 @@ first-named t name (node b ns ne from to inside rest) s = refl
 
 -- the test of the value at a row
 tested : (t name table : List ℕ) (row end s e : ℕ) (r : Bool) → s ≡ nameStartIn table row → e ≡ nameEndIn table row → r ≡ same (nameOf t s e) name
-    → (f : Forest) → Some f → StandsTo table row end f → named t name f ≡ cond r true (named t name (restAt f))
+    → (f : Forest) → HasFirst f → StandsTo table row end f → named t name f ≡ cond r true (named t name (restAt f))
 tested t name table row end s e r hs he hr f z h =
     let at = row-at f z (h .stands) in
     let hs′ : s ≡ nameStart f = hs ∙ at .name-start in
