@@ -17,15 +17,14 @@ use Rattle.text.specs.Sheet.{numbers, paper}
 use Rattle.text.specs.Whole.{wholeOf, sheetOf, tableOf}
 use Rattle.text.specs.Doc.{Name, docOf}
 use Rattle.text.specs.Meaning.{Accepts}
-use Rattle.text.specs.Fault as Fault
+use Rattle.text.specs.Fault.{First}
 use Rattle.text.specs.Promised.{Filled}
 use Rattle.text.specs.declared.Reading.{Reading}
 use Rattle.contact.specs.Localize.{refusedLocal}
-use Rattle.contact.specs.Breaks.{Keeps}
-use Rattle.contact.specs.Breaks as Breaks
+use Rattle.contact.specs.Breaches.{Keeps, FirstBreach}
 use Rattle.contact.specs.Judging.{Judges}
-use Rattle.contact.specs.Conditions.{Broken, Smallest}
-use Rattle.contact.specs.Demand.{OrderOnly, PatchedText}
+use Rattle.contact.specs.Conditions.{BrokenCondition, Smallest}
+use Rattle.contact.specs.Patching.{OrderOnly, PatchedText}
 use Rattle.contact.specs.Contract.{Localizes}
 use Rattle.contact.specs.Readback.{PatchedRows}
 use Rattle.contact.specs.Services.{Call, read, judge, localize, wordsOf, roomOf, Left, leaves, served}
@@ -98,7 +97,7 @@ pub record Offends (L : Limits) (words : ℕ) (t : List ℕ) (n p : ℕ) : Type 
   pub tree : Forest
   pub readable : Readable L words t tree
   pub row : ℕ
-  pub first : Breaks.First (docOf t tree) row n
+  pub first : FirstBreach (docOf t tree) row n
   pub place : p ≡ getD (startsOf tree) row 0
 
 pub record ReadingAndJudging (L : Limits) : Type 0 where
@@ -113,7 +112,7 @@ pub record ReadingAndJudging (L : Limits) : Type 0 where
   pub too-long : (t : List ℕ) (words second : ℕ) → (served L (read t words) .answer ≡ numbers 1 second 0) ↔ ((L .bytes < length t) × (second ≡ 0))
   -- else by 2 to 6 if it has such a fault, by the one of smallest place and then of smallest number
   pub first-fault : (t : List ℕ) → Bytes t → length t ≤ L .bytes → (words n p : ℕ) → Within 2 6 n
-      → (served L (read t words) .answer ≡ numbers n p 0) ↔ Fault.First L t n p
+      → (served L (read t words) .answer ≡ numbers n p 0) ↔ First L t n p
   -- else by 7, with the rows needed
   pub rows-short : (t : List ℕ) → Bytes t → (words n : ℕ) → (served L (read t words) .answer ≡ numbers 7 n 0) ↔ RowsShort L words t n
   -- judging refuses as reading does what reading refuses
@@ -137,7 +136,7 @@ pub record Localization (L : Limits) (words room : ℕ) (t : List ℕ) (f : Fore
   pub left : served L (localize t lang words room) ≡ leaves (numbers 0 (size tree) (length text)) (filled words (rowsOf tree)) (filled room text)
   -- Set or removed one at a time, in any order, from the card without its localizations, each entry finds its parent, and the end is the written card,
   -- member order not counted. Each entry has its way; a property that no pointer names, enters or covers keeps its value; what is kept stays at its
-  -- place, and what is added follows in ascending order of name (`Patched`, specs/Demand.antt).
+  -- place, and what is added follows in ascending order of name (`Patched`, specs/Patching.antt).
   pub patched : PatchedText (docOf t f) lang text
   -- the written text is read back as the patched card; it is no longer than t and has no more values
   pub back : PatchedRows L t f lang text tree
@@ -156,7 +155,7 @@ pub record Localizing (L : Limits) : Type 0 where
       → Localization L words room t f lang
   -- it is accepted exactly when none of the conditions 21 to 28 is broken
   pub accepted : (t : List ℕ) (lang : Name) (words room : ℕ) (f : Forest) → CardText L words t f
-      → Passes L (localize t lang words room) ↔ ((n : ℕ) (r : LocalRefusal) → ¬ Broken L words room (docOf t f) lang n r)
+      → Passes L (localize t lang words room) ↔ ((n : ℕ) (r : LocalRefusal) → ¬ BrokenCondition L words room (docOf t f) lang n r)
   -- and else refused by the broken condition of smallest number
   pub refused : (t : List ℕ) (lang : Name) (words room : ℕ) (f : Forest) → CardText L words t f → (n second : ℕ) → 0 < n
       → (served L (localize t lang words room) .answer ≡ numbers n second 0)

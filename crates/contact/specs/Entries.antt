@@ -58,9 +58,9 @@ ParentsThere [] d = Unit {0}
 ParentsThere (entry p c ∷ es) d = (walk p d ≡ arrives) × ParentsThere es d
 
 -- one of the entries is p, with the change c
-pub data Has (p : Pointer) (c : Change) : List Entry → Type 0 where
-  now : {es : List Entry} → Has p c (entry p c ∷ es)
-  past : {e : Entry} {es : List Entry} → Has p c es → Has p c (e ∷ es)
+pub data HasEntry (p : Pointer) (c : Change) : List Entry → Type 0 where
+  now : {es : List Entry} → HasEntry p c (entry p c ∷ es)
+  past : {e : Entry} {es : List Entry} → HasEntry p c es → HasEntry p c (e ∷ es)
 
 -- the property n after its entry, if it was o: a name that was there stays as it is written
 abbrev pub labelOf : Name → Option Property → List ℕ

@@ -12,7 +12,7 @@ use Rattle.text.specs.Text.{bytes}
 use Rattle.text.specs.Doc.{Name, Doc, scalar, array, object, Members, empty, member, Property, property, seek}
 use Rattle.text.specs.Distinct.{Distinct, DistinctMembers}
 use Rattle.contact.specs.Pointer.{Pointer, last, down, find}
-use Rattle.contact.specs.Patch.{Change, remove, set, Entry, entry, changeOf, entriesOf, Walk, arrives, inArray, noObject, walk, write, without, put, alter, changed, whenArrived, andThen, run, mine, under, insert, fresh, added, keep, applied, kept}
+use Rattle.contact.specs.Patch.{Change, remove, set, Entry, entry, changeOf, entriesOf, Walk, arrives, inArray, noObject, walk, write, without, put, alter, changed, whenArrived, runOn, run, mine, under, insert, fresh, added, keep, applied, kept}
 use Rattle.contact.specs.Localize.{start}
 use Rattle.contact.specs.Entries.{NoClash, DistinctChange, DistinctValues, Perm, stay, skip, swap, then}
 use Rattle.contact.proofs.Patching.Names.{same-yes, same-no, byName}
@@ -59,7 +59,7 @@ pub distinct-run : (es : List Entry) (d e : Doc) → DistinctValues es → Disti
 distinct-run [] d e k h r = subst Distinct (Option·some-injective d e r) h
 distinct-run (entry p c ∷ es) d e k h r = go (walk p d) r (distinct-run es (changed p c d) e (k .1) (distinct-changed p c d (k .0) h))
   where
-    go : (w : Walk) → andThen (run es) (whenArrived w (changed p c d)) ≡ some e → (run es (changed p c d) ≡ some e → Distinct e) → Distinct e
+    go : (w : Walk) → runOn (run es) (whenArrived w (changed p c d)) ≡ some e → (run es (changed p c d) ≡ some e → Distinct e) → Distinct e
     go arrives q f = f q
     go inArray q f = absurd (Option·none-ne-some e q)
     go noObject q f = absurd (Option·none-ne-some e q)

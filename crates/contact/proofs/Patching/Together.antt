@@ -1,4 +1,4 @@
--- Demand 3, of the definitions (specs/Demand.antt), from the theorems of the files beside this one; and of two texts that pass: their order of
+-- Demand 3, of the definitions (specs/Patching.antt), from the theorems of the files beside this one; and of two texts that pass: their order of
 -- entries and their white space don't count (`order-of-texts`).
 -- Assumes nothing.
 use mathlib.Core.Bool.{Bool, false, _||_, true≢false}
@@ -20,7 +20,7 @@ use Rattle.contact.specs.Patch.{Entry, entriesOf, anyBadKey, anyClash, i
 use Rattle.contact.specs.Localize.{done, start, byEntries, inPatch, withPatch, localizedDoc, localizedOf}
 use Rattle.contact.specs.Entries.{Perm, stay, skip, swap, then, Shuffled, asIs, keepFirst, swapFirst, andOn, DistinctValues, NoClash, ParentsThere, Apart, ApartFrom}
 use Rattle.contact.specs.Conditions.{Accepted}
-use Rattle.contact.specs.Demand.{Rearranged, rearranged, AtMember, thisOne, laterOne, InMember, inMember, OrderOnly, Ends, Patched, PatchedText, Demand}
+use Rattle.contact.specs.Patching.{Rearranged, rearranged, AtMember, thisOne, laterOne, InMember, inMember, OrderOnly, RunsTo, Patched, PatchedText, Patching}
 use Rattle.contact.proofs.Patching.Names.{same-no, same-yes}
 use Rattle.contact.proofs.Patching.Order.{any-order}
 use Rattle.contact.proofs.Patching.Untouched.{untouched}
@@ -148,7 +148,7 @@ module _ (L : Limits) (words room : ℕ) where
   patched-so d ms nc pt =
       let es : List Entry = entriesOf ms in
       let x : Doc = applied d es in
-      let runs : (fs : List Entry) → Perm es fs → Ends fs d x = λ fs π. in-any-order es fs d π nc pt in
+      let runs : (fs : List Entry) → Perm es fs → RunsTo fs d x = λ fs π. in-any-order es fs d π nc pt in
       record {
         one-by-one = runs;
         reordered = λ h k fs π.
@@ -180,8 +180,8 @@ module _ (L : Limits) (words room : ℕ) where
             ∙ start-has-none card;
       }
 
-  pub demand : Demand L words room
-  demand = record {
+  pub patching : Patching L words room
+  patching = record {
     given = λ text lang. given-iff L words room text lang;
     passes = λ text lang. passed-so L words room text lang;
     order = card-order;
