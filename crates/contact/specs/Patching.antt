@@ -5,6 +5,7 @@ use mathlib.Core.Path.{_≡_}
 use mathlib.Core.Logic.{_≢_, _↔_}
 use mathlib.Core.List.{List}
 use mathlib.Core.Option.{none, some}
+use Rattle.laws.specs.Sorting.{Perm}
 use Rattle.text.specs.Limits.{Limits}
 use Rattle.text.specs.Text.{bytes}
 use Rattle.text.specs.Tree.{Forest}
@@ -16,7 +17,7 @@ use Rattle.contact.specs.Pointer.{Pointer, last, firstPart, lastPart, fi
 use Rattle.contact.specs.Patch.{Change, Entry, entriesOf, run}
 use Rattle.contact.specs.Localize.{refusedLocal, done, denied, start, localizedDoc, localizedOf}
 use Rattle.contact.specs.Likeness.{SameDoc, Reordered}
-use Rattle.contact.specs.Entries.{Perm, HasEntry, valued, Clear, Shuffled, Laid, NotOver, LaidAt}
+use Rattle.contact.specs.Entries.{HasEntry, valued, Clear, Shuffled, Laid, NotOver, LaidAt}
 use Rattle.contact.specs.Conditions.{PatchOf, Smallest, Accepted}
 use Rattle.contact.specs.declared.CardRefusal.{CardRefusal}
 use Rattle.contact.specs.declared.LocalRefusal.{LocalRefusal}

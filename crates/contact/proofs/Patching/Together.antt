@@ -7,6 +7,7 @@ use mathlib.Core.Option.{Option, none, some}
 use mathlib.Core.Logic.{_≢_}
 use mathlib.Core.Path.{_≡_, refl, sym, ap, _∙_}
 use Prim.Native.Nat.{ℕ}
+use Rattle.laws.specs.Sorting.{Perm, stay, skip, swap, andThen}
 use Rattle.laws.proofs.Bools.{byTest, or-false, swap-or}
 use Rattle.laws.proofs.Orders.{same-refl}
 use Rattle.laws.specs.Order.{same}
@@ -18,7 +19,7 @@ use Rattle.contact.specs.Verdict.{passed, judgedOf}
 use Rattle.contact.specs.Pointer.{last, badTilde, find, within, Pointer, down, firstPart}
 use Rattle.contact.specs.Patch.{Entry, entriesOf, anyBadKey, anyClash, isInArray, isNoObject, without, applied, entry, added, kept, anyOwn}
 use Rattle.contact.specs.Localize.{done, start, byEntries, inPatch, withPatch, localizedDoc, localizedOf}
-use Rattle.contact.specs.Entries.{Perm, stay, skip, swap, then, Shuffled, asIs, keepFirst, swapFirst, andOn, DistinctValues, NoClash, ParentsThere, Apart, ApartFrom}
+use Rattle.contact.specs.Entries.{Shuffled, asIs, keepFirst, swapFirst, andOn, DistinctValues, NoClash, ParentsThere, Apart, ApartFrom}
 use Rattle.contact.specs.Conditions.{Accepted}
 use Rattle.contact.specs.Patching.{Rearranged, rearranged, AtMember, thisOne, laterOne, InMember, inMember, OrderOnly, RunsTo, Patched, PatchedText, Patching}
 use Rattle.contact.proofs.Patching.Names.{same-no, same-yes}
@@ -41,7 +42,7 @@ pub shuffled-entries : {ms ns : Members} → Shuffled ms ns → Perm (entriesOf 
 shuffled-entries asIs = stay
 shuffled-entries (keepFirst σ) = skip (shuffled-entries σ)
 shuffled-entries swapFirst = swap
-shuffled-entries (andOn σ τ) = then (shuffled-entries σ) (shuffled-entries τ)
+shuffled-entries (andOn σ τ) = andThen (shuffled-entries σ) (shuffled-entries τ)
 
 shuffled-keys : {ms ns : Members} → Shuffled ms ns → anyBadKey ms ≡ anyBadKey ns
 shuffled-keys asIs = refl
