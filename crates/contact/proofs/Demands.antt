@@ -22,8 +22,8 @@ use Rattle.text.specs.Whole.{wholeOf, sheetOf, tableOf}
 use Rattle.text.specs.Doc.{Name, docOf}
 use Rattle.text.proofs.Outcomes.{paper-unique}
 use Rattle.text.proofs.Promise.{rows-length, whole-good}
-use Rattle.contact.specs.Verdict.{Judged, passed, failed, judgedOf, sheetOfJudged, tableOfJudged}
-use Rattle.contact.specs.Localize.{Outcome, done, denied, localizedOf, sheetOfOutcome, tableOfOutcome, outputOfOutcome}
+use Rattle.contact.specs.Verdict.{Judged, passed, failed, judgedOf, sheetOfJudged, tableOfJudged, paperOfVerdict}
+use Rattle.contact.specs.Localize.{Outcome, done, denied, localizedOf, sheetOfOutcome, tableOfOutcome, outputOfOutcome, answerOfOutcome, paperOfLocalized}
 use Rattle.contact.specs.Services.{Call, read, judge, localize, wordsOf, roomOf, leaves, served}
 use Rattle.contact.specs.Demands.{Lines, Ends, acceptance, refusal, Demands}
 use Rattle.contact.proofs.Judging.{judging}
@@ -54,7 +54,7 @@ module _ (L : Limits) (unique : L .unique ≡ true) (six : L .words ≡ rowWords
       go (good f to) e = acceptance (rowsOf f) [] (size f) (rows-length f) (rows-fit words f (whole-good L words t f to e .room)) (omega arith)
 
   judge-ends : (t : List ℕ) (words : ℕ) → Ends (judge t words) (served L (judge t words))
-  unfolding served sheetOfJudged tableOfJudged
+  unfolding served sheetOfJudged paperOfVerdict tableOfJudged
   judge-ends t words = go (judgedOf L words t) refl
     where
       go : (j : Judged) → judgedOf L words t ≡ j → Ends (judge t words) (leaves (sheetOfJudged j) (tableOfJudged words j) [])
@@ -64,7 +64,7 @@ module _ (L : Limits) (unique : L .unique ≡ true) (six : L .words ≡ rowWords
           acceptance (rowsOf f) [] (size f) (rows-length f) (rows-fit words f (whole-good L words t f to whole .room)) (omega arith)
 
   localize-ends : (t : List ℕ) (lang : Name) (words room : ℕ) → Ends (localize t lang words room) (served L (localize t lang words room))
-  unfolding served sheetOfOutcome tableOfOutcome outputOfOutcome
+  unfolding served sheetOfOutcome paperOfLocalized answerOfOutcome tableOfOutcome outputOfOutcome
   localize-ends t lang words room = go (localizedOf L words room t lang) refl
     where
       go : (o : Outcome) → localizedOf L words room t lang ≡ o

@@ -121,14 +121,14 @@ module _ (L : Limits) (words : ℕ) (t : List ℕ) where
   -- ---- the answer and the table
 
   sayings : {r : Read} {j : Judged} → Judgement t r j → wholeOf L words t ≡ r → Says L words t (sheetOfJudged j) (tableOfJudged words j)
-  unfolding sheetOfJudged tableOfJudged refusedCard
+  unfolding sheetOfJudged paperOfVerdict tableOfJudged refusedCard
   sayings not-read e = unread e
   sayings (kept k) e = passes e k
   sayings (broken {f = f} {row = row} h) e = rw (fault-number (getD (startsOf f) row 0) (h .broken .broken)) (breaks-first e h)
 
   said : {p : Paper} {table : List ℕ} → Says L words t p table
       → (p ≡ sheetOfJudged (judgedOf L words t)) × (table ≡ tableOfJudged words (judgedOf L words t))
-  unfolding judgedOf judgedRead byBreach sheetOfJudged tableOfJudged refusedCard
+  unfolding judgedOf judgedRead byBreach sheetOfJudged paperOfVerdict tableOfJudged refusedCard
   said (unread e) = (rw e, rw e)
   said (passes {f = f} e k) = let n = kept-none (first-breach (docOf t f)) k in (rw (e, n), rw (e, n))
   said (breaks-first {f = f} {row = row} e h) =
@@ -155,10 +155,10 @@ refusalOf n s =
     (cond (eqb n 7) (Text (Small s))
     (cond (eqb n 11) (Card (Kind s)) (cond (eqb n 12) (Card (Missing s)) (cond (eqb n 13) (Card (Value s)) (Card (Rule s)))))))))))
 
-abbrev verdictOf : Paper → Verdict
-verdictOf p = cond (eqb (p .number) 0) (Passed (p .second)) (Failed (refusalOf (p .number) (p .second)))
+abbrev verdictOn : Paper → Verdict
+verdictOn p = cond (eqb (p .number) 0) (Passed (p .second)) (Failed (refusalOf (p .number) (p .second)))
 
-answer-back : (a : Verdict) → verdictOf (paperOfVerdict a) ≡ a
+answer-back : (a : Verdict) → verdictOn (paperOfVerdict a) ≡ a
 unfolding paperOfVerdict refusedCard refusedFault refused
 answer-back (Passed n) = refl
 answer-back (Failed (Text TooLong)) = refl
@@ -174,7 +174,7 @@ answer-back (Failed (Card (Value p))) = refl
 answer-back (Failed (Card (Rule p))) = refl
 
 pub one-answer : (a b : Verdict) → paperOfVerdict a ≡ paperOfVerdict b → a ≡ b
-one-answer a b e = sym (answer-back a) ∙ ap verdictOf e ∙ answer-back b
+one-answer a b e = sym (answer-back a) ∙ ap verdictOn e ∙ answer-back b
 
 -- ---- all of it
 

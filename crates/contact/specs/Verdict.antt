@@ -60,10 +60,15 @@ judgedRead t (good f to) = byBreach f (cardBreach (docOf t f))
 unfoldable pub judgedOf : Limits → (words : ℕ) → List ℕ → Judged
 judgedOf L words t = judgedRead t (wholeOf L words t)
 
+-- ---- the answer and the whole table
+
+abbrev pub answerOfJudged : Judged → Verdict
+answerOfJudged (passed f) = Passed (size f)
+answerOfJudged (failed r) = Failed r
+
 -- the answer in the paper's numbers: 0 and the row count, or the refusal's two numbers; this is the line that the program prints
 unfoldable pub sheetOfJudged : Judged → Paper
-sheetOfJudged (passed f) = numbers 0 (size f) 0
-sheetOfJudged (failed r) = refusedCard r
+sheetOfJudged j = paperOfVerdict (answerOfJudged j)
 
 -- the whole table: the rows and zero after them; after a refusal zero
 unfoldable pub tableOfJudged : (words : ℕ) → Judged → List ℕ

@@ -14,8 +14,8 @@ use Rattle.text.specs.Whole.{readOf}
 use Rattle.text.specs.Doc.{Name, docOf}
 use Rattle.text.proofs.Promise.{whole-good}
 use Rattle.text.proofs.Grammar.Accepted.{accepts}
-use Rattle.contact.specs.Verdict.{Judged, passed, failed, judgedOf, sheetOfJudged}
-use Rattle.contact.specs.Localize.{refusedLocal, Outcome, done, denied, localizedDoc, localizedOf, sheetOfOutcome, tableOfOutcome, outputOfOutcome}
+use Rattle.contact.specs.Verdict.{Judged, passed, failed, judgedOf, sheetOfJudged, paperOfVerdict}
+use Rattle.contact.specs.Localize.{refusedLocal, Outcome, done, denied, localizedDoc, localizedOf, sheetOfOutcome, tableOfOutcome, outputOfOutcome, answerOfOutcome, paperOfLocalized}
 use Rattle.contact.specs.Conditions.{BrokenCondition, Smallest}
 use Rattle.contact.specs.Services.{judge, localize, served}
 use Rattle.contact.specs.Demands.{Passes, Within, CardText, Localization}
@@ -31,7 +31,7 @@ module _ (L : Limits) (unique : L .unique ≡ true) (words room : ℕ) (t : List
   outcome = localizedOf L words room t lang
 
   pub localize-own : ¬ Passes L (judge t words) → served L (localize t lang words room) .answer ≡ served L (judge t words) .answer
-  unfolding served sheetOfOutcome sheetOfJudged refusedLocal
+  unfolding served sheetOfOutcome paperOfLocalized answerOfOutcome sheetOfJudged paperOfVerdict refusedLocal
   localize-own not = go (judgedOf L words t) refl
     where
       go : (j : Judged) → judgedOf L words t ≡ j → sheetOfOutcome outcome ≡ sheetOfJudged (judgedOf L words t)
@@ -51,7 +51,7 @@ module _ (L : Limits) (unique : L .unique ≡ true) (words room : ℕ) (t : List
         record { readable = record { accepts = accepts L text g .0 back; enough = whole-good L words text g to whole .room }; keeps = keeps }
 
     localization : (text : List ℕ) (g : Forest) → outcome ≡ done text g → Localization L words room t f lang
-    unfolding served sheetOfOutcome tableOfOutcome outputOfOutcome
+    unfolding served sheetOfOutcome paperOfLocalized answerOfOutcome tableOfOutcome outputOfOutcome
     localization text g e =
         let (h, k, rows) = readback L words room unique .accepted t lang text g e in
         let tree : h ≡ f = cc in
@@ -65,7 +65,7 @@ module _ (L : Limits) (unique : L .unique ≡ true) (words room : ℕ) (t : List
         }
 
     pub localize-patched : Passes L (localize t lang words room) → Localization L words room t f lang
-    unfolding served sheetOfOutcome
+    unfolding served sheetOfOutcome paperOfLocalized answerOfOutcome
     localize-patched = go outcome refl
       where
         go : (o : Outcome) → outcome ≡ o → sheetOfOutcome o .number ≡ 0 → Localization L words room t f lang
@@ -73,7 +73,7 @@ module _ (L : Limits) (unique : L .unique ≡ true) (words room : ℕ) (t : List
         go (denied r) e z = absurd (omega (arith, local-some (refusedLocal r .number) (line-of (local-line r))))
 
     pub localize-accepted : Passes L (localize t lang words room) ↔ ((n : ℕ) (r : LocalRefusal) → ¬ BrokenCondition L words room (docOf t f) lang n r)
-    unfolding served sheetOfOutcome
+    unfolding served sheetOfOutcome paperOfLocalized answerOfOutcome
     localize-accepted = (λ z. unbroken outcome refl z, λ u. whole outcome refl u)
       where
         unbroken : (o : Outcome) → outcome ≡ o → sheetOfOutcome o .number ≡ 0 → (n : ℕ) (r : LocalRefusal) → ¬ BrokenCondition L words room (docOf t f) lang n r
@@ -87,7 +87,7 @@ module _ (L : Limits) (unique : L .unique ≡ true) (words room : ℕ) (t : List
     pub localize-refused : (n second : ℕ) → 0 < n
         → (served L (localize t lang words room) .answer ≡ numbers n second 0)
         ↔ ((r : LocalRefusal) × (refusedLocal r ≡ numbers n second 0) × Smallest L words room (docOf t f) lang n r)
-    unfolding served sheetOfOutcome
+    unfolding served sheetOfOutcome paperOfLocalized answerOfOutcome
     localize-refused n second some = (λ e. go outcome refl e, back)
       where
         go : (o : Outcome) → outcome ≡ o → sheetOfOutcome o ≡ numbers n second 0
@@ -103,7 +103,7 @@ module _ (L : Limits) (unique : L .unique ≡ true) (words room : ℕ) (t : List
   -- 27 and 28
   localize-late : (n second : ℕ) → 27 ≤ n → served L (localize t lang words room) .answer ≡ numbers n second 0
       → (r : LocalRefusal) × (outcome ≡ denied r) × (refusedLocal r ≡ numbers n second 0) × Late r
-  unfolding served sheetOfOutcome
+  unfolding served sheetOfOutcome paperOfLocalized answerOfOutcome
   localize-late n second w = go outcome refl
     where
       go : (o : Outcome) → outcome ≡ o → sheetOfOutcome o ≡ numbers n second 0 → (r : LocalRefusal) × (outcome ≡ denied r) × (refusedLocal r ≡ numbers n second 0) × Late r

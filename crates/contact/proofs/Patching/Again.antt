@@ -21,7 +21,7 @@ use Rattle.text.specs.Writable.{Lexeme}
 use Rattle.text.proofs.Promise.{Fits, whole-good, promised, count-root}
 use Rattle.text.proofs.Labels.{labels-said}
 use Rattle.text.proofs.Readback.Documents.{text-writable}
-use Rattle.contact.specs.Verdict.{passed, failed, byBreach, judgedOf}
+use Rattle.contact.specs.Verdict.{passed, failed, judgedOf}
 use Rattle.contact.specs.Patch.{entriesOf, applied}
 use Rattle.contact.specs.Localize.{refusedLocal, done, denied, start, patchAt, localizedOf}
 use Rattle.contact.specs.Entries.{NoClash, ParentsThere}

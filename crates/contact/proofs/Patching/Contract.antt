@@ -1,7 +1,6 @@
--- Two answers, tables and outputs that localizing's contract allows are equal: `one-outcome`. The paper's numbers are those of the answer:
--- `answer-paper`. What is written fits the output: `output-fits`.
+-- Two answers, tables and outputs that localizing's contract allows are equal: `one-outcome`. What is written fits the output: `output-fits`.
 -- Assumes nothing.
-use mathlib.Core.Path.{_≡_, refl, sym, ap, _∙_}
+use mathlib.Core.Path.{_≡_, sym, ap, _∙_}
 use mathlib.Core.List.{List}
 use Prim.Native.Nat.{ℕ, _≤_, _<_}
 use native.Mathlib.Decide.{decLe}
@@ -12,21 +11,17 @@ use Rattle.text.specs.Tree.{Forest}
 use Rattle.text.specs.Doc.{Name, Doc}
 use Rattle.text.specs.Writing.{written}
 use Rattle.contact.specs.Patch.{entriesOf, applied}
-use Rattle.contact.specs.Localize.{start, paperOfLocalized, Outcome, done, denied, localizedDoc, sheetOfOutcome, answerOfOutcome}
+use Rattle.contact.specs.Localize.{start, paperOfLocalized, Outcome, done, localizedDoc, sheetOfOutcome, answerOfOutcome}
 use Rattle.contact.specs.Contract.{Localizes}
 use Rattle.contact.specs.Conditions.{Accepted, short}
 use Rattle.contact.specs.declared.Localized.{Localized}
 use Rattle.contact.specs.declared.LocalRefusal.the-variants.{Short}
 use Rattle.contact.proofs.Patching.Refused.{accepted-iff}
 
-pub answer-paper : (o : Outcome) → sheetOfOutcome o ≡ paperOfLocalized (answerOfOutcome o)
-unfolding sheetOfOutcome paperOfLocalized answerOfOutcome
-answer-paper (done text f) = refl
-answer-paper (denied r) = refl
-
 -- it is enough to promise the answer: the numbers follow
 pub paper-follows : (o : Outcome) (r : Localized) → r ≡ answerOfOutcome o → paperOfLocalized r ≡ sheetOfOutcome o
-paper-follows o r e = rw e (sym (answer-paper o))
+unfolding sheetOfOutcome
+paper-follows o r e = ap paperOfLocalized e
 
 module _ {L : Limits} {words room : ℕ} {text : List ℕ} {lang : Name} where
   pub one-outcome : {r q : Localized} {table other output out : List ℕ}
