@@ -8,7 +8,6 @@ use mathlib.Core.List.{List, [], _∷_, _++_}
 use mathlib.Core.Option.{Option, none, some}
 use Rattle.laws.specs.Order.{before}
 use Rattle.text.specs.Doc.{Name, Doc, object, Members, empty, member, Property, property, seek}
-use Rattle.text.specs.Distinct.{Distinct}
 use Rattle.text.specs.Writing.{spelled}
 use Rattle.contact.specs.Pointer.{Pointer, last, down, parts, find}
 use Rattle.contact.specs.Patch.{Change, remove, set, Entry, entry, arrives, walk}
@@ -70,15 +69,6 @@ labelOf n (some s) = s .label
 abbrev pub valued : Name → Change → Option Property → Option Property
 valued n remove o = none
 valued n (set v) o = some (property (labelOf n o) v)
-
--- no value that is set has two members of one name in one object
-abbrev pub DistinctChange : Change → Type 0
-DistinctChange remove = Unit {0}
-DistinctChange (set v) = Distinct v
-
-abbrev pub DistinctValues : List Entry → Type 0
-DistinctValues [] = Unit {0}
-DistinctValues (entry p c ∷ es) = DistinctChange c × DistinctValues es
 
 -- ---- another order
 

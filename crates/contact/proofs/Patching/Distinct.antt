@@ -15,11 +15,20 @@ use Rattle.text.specs.Distinct.{Distinct, DistinctMembers}
 use Rattle.contact.specs.Pointer.{Pointer, last, down, find}
 use Rattle.contact.specs.Patch.{Change, remove, set, Entry, entry, changeOf, entriesOf, Walk, arrives, inArray, noObject, walk, write, without, put, alter, changed, whenArrived, runOn, run, mine, under, insert, fresh, added, keep, applied, kept}
 use Rattle.contact.specs.Localize.{start}
-use Rattle.contact.specs.Entries.{NoClash, DistinctChange, DistinctValues}
+use Rattle.contact.specs.Entries.{NoClash}
 use Rattle.contact.proofs.Patching.Names.{same-yes, same-no, byName}
 use Rattle.contact.proofs.Patching.Seek.{seek-write-other, seek-without-other, seek-alter-other, find-has}
 use Rattle.contact.proofs.Patching.Applied.{seek-insert-other, said, mine-none, added-old, added-new, orMore, seek-kept}
 use Rattle.contact.proofs.Patching.Entries.{under-noclash}
+
+-- no value that is set has two members of one name in one object
+abbrev DistinctChange : Change → Type 0
+DistinctChange remove = Unit {0}
+DistinctChange (set v) = Distinct v
+
+abbrev pub DistinctValues : List Entry → Type 0
+DistinctValues [] = Unit {0}
+DistinctValues (entry p c ∷ es) = DistinctChange c × DistinctValues es
 
 -- ---- one entry at a time
 

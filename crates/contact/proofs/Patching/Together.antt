@@ -19,7 +19,7 @@ use Rattle.contact.specs.Verdict.{passed, judgedOf}
 use Rattle.contact.specs.Pointer.{last, badTilde, find, within, Pointer, down, firstPart}
 use Rattle.contact.specs.Patch.{Entry, entriesOf, anyBadKey, anyClash, isInArray, isNoObject, without, applied, entry, added, kept, anyOwn}
 use Rattle.contact.specs.Localize.{done, start, byEntries, inPatch, withPatch, localizedDoc, localizedOf}
-use Rattle.contact.specs.Entries.{Shuffled, asIs, keepFirst, swapFirst, andOn, DistinctValues, NoClash, ParentsThere, Apart, ApartFrom}
+use Rattle.contact.specs.Entries.{Shuffled, asIs, keepFirst, swapFirst, andOn, NoClash, ParentsThere, Apart, ApartFrom}
 use Rattle.contact.specs.Conditions.{Accepted}
 use Rattle.contact.specs.Patching.{Rearranged, rearranged, AtMember, thisOne, laterOne, InMember, inMember, OrderOnly, RunsTo, Patched, PatchedText, Patching}
 use Rattle.contact.proofs.Patching.Names.{same-no, same-yes}
@@ -30,7 +30,7 @@ use Rattle.contact.proofs.Patching.Layout.{laid-root, laid-below}
 use Rattle.contact.proofs.Patching.Effect.{effect}
 use Rattle.contact.proofs.Patching.Single.{in-any-order}
 use Rattle.contact.proofs.Patching.Reorder.{same-reordered}
-use Rattle.contact.proofs.Patching.Distinct.{distinct-run, distinct-applied, perm-values, entries-values}
+use Rattle.contact.proofs.Patching.Distinct.{DistinctValues, distinct-run, distinct-applied, perm-values, entries-values}
 use Rattle.contact.proofs.Patching.Apart.{clear-apart, from-anyClash, perm-anyClash, perm-anyWalk, perm-anyOwn}
 use Rattle.contact.proofs.Patching.Fine.{Fine, fine}
 use Rattle.contact.proofs.Patching.Refused.{refused-iff, accepted-iff}

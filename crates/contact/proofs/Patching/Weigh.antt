@@ -16,13 +16,13 @@ use Rattle.contact.specs.Pointer.{Pointer, last, down, lastPart, pointer
 use Rattle.contact.specs.Patch.{Change, remove, set, Entry, entry, changeOf, entriesOf, Walk, arrives, inArray, noObject, walk, write, without, put, alter, changed, whenArrived, runOn, run, applied}
 use Rattle.contact.specs.Localize.{start, patchAt}
 use Rattle.contact.specs.Likeness.{Taken, atHead, inTail, Reordered, scalars, arrays, objects, Matched, nothing, match}
-use Rattle.contact.specs.Entries.{NoClash, ParentsThere, DistinctValues}
+use Rattle.contact.specs.Entries.{NoClash, ParentsThere}
 use Rattle.contact.specs.Conditions.{PatchOf}
 use Rattle.contact.specs.Patching.{RunsTo}
 use Rattle.contact.proofs.Patching.Names.{byName, same-yes, same-no}
 use Rattle.contact.proofs.Patching.Single.{one-at-a-time}
 use Rattle.contact.proofs.Patching.Reorder.{same-reordered}
-use Rattle.contact.proofs.Patching.Distinct.{distinct-run, distinct-applied, entries-values, distinct-start, find-distinct}
+use Rattle.contact.proofs.Patching.Distinct.{DistinctValues, distinct-run, distinct-applied, entries-values, distinct-start, find-distinct}
 
 -- what a value weighs that is no object, what a name weighs as it is written, and an object by what its members weigh
 pub record Scale : Type 0 where
