@@ -28,7 +28,7 @@ use Rattle.contact.specs.Services.{Call, read, judge, localize, wordsOf,
 use Rattle.contact.specs.Demands.{Lines, Ends, acceptance, refusal, Demands}
 use Rattle.contact.proofs.Judging.{judging}
 use Rattle.contact.proofs.Patching.Together.{patching}
-use Rattle.contact.proofs.Patching.Contract.{one-outcome, output-fits}
+use Rattle.contact.proofs.Patching.Contract.{one-outcome, one-order, output-fits}
 use Rattle.contact.proofs.Patching.Readback.{readback}
 use Rattle.contact.proofs.Demands.Sheet.{OnLine, on-line, text-line, card-line, local-line}
 use Rattle.contact.proofs.Demands.Reading.{card-passed, read-passes, read-rows, read-describes, read-long, read-fault, read-short, judge-unread, judge-passes, judge-rows, judge-offends, judge-offender}
@@ -109,6 +109,8 @@ module _ (L : Limits) (unique : L .unique ≡ true) (six : L .words ≡ rowWords
       own = λ t lang words room. localize-own L unique words room t lang;
       any-order = λ t u lang words room f g c d o.
           let e = patching L words room .order-of-texts t u lang f g (card-passed L words t f c) (card-passed L words u g d) o in rw e;
+      any-order-allowed = λ t u lang words room f g c d o a b x y n m.
+          one-order t u f g (card-passed L words t f c) (card-passed L words u g d) o;
       patched = λ t lang words room f c. localize-patched L unique words room t lang f (card-passed L words t f c);
       accepted = λ t lang words room f c. localize-accepted L unique words room t lang f (card-passed L words t f c);
       refused = λ t lang words room f c. localize-refused L unique words room t lang f (card-passed L words t f c);

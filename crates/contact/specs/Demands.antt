@@ -150,6 +150,10 @@ pub record Localizing (L : Limits) : Type 0 where
   -- the entries of the PatchObject in any order, white space aside: the same answer, table and output, refusals too
   pub any-order : (t u : List ℕ) (lang : Name) (words room : ℕ) (f g : Forest) → CardText L words t f → CardText L words u g
       → OrderOnly lang (docOf t f) (docOf u g) → served L (localize t lang words room) ≡ served L (localize u lang words room)
+  -- the same of what the contract allows: also the answer itself, with 28's inner place
+  pub any-order-allowed : (t u : List ℕ) (lang : Name) (words room : ℕ) (f g : Forest) → CardText L words t f → CardText L words u g
+      → OrderOnly lang (docOf t f) (docOf u g) → (a b : Localized) (x y o q : List ℕ)
+      → Localizes L words room t lang a x o → Localizes L words room u lang b y q → (a ≡ b) × (x ≡ y) × (o ≡ q)
   -- all patches or none: what is accepted is patched by all entries, as the set-or-remove definition says, and is judged as a whole
   pub patched : (t : List ℕ) (lang : Name) (words room : ℕ) (f : Forest) → CardText L words t f → Passes L (localize t lang words room)
       → Localization L words room t f lang

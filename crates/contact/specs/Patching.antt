@@ -13,12 +13,13 @@ use Rattle.text.specs.Doc.{Name, Doc, object, Members, member, property, docOf}
 use Rattle.text.specs.Distinct.{Distinct, DistinctMembers}
 use Rattle.text.specs.Writing.{written}
 use Rattle.contact.specs.Verdict.{passed, failed, judgedOf}
-use Rattle.contact.specs.Pointer.{Pointer, last, firstPart, lastPart, find}
+use Rattle.contact.specs.Pointer.{Pointer, last, pointerOf, firstPart, lastPart, find}
+use Rattle.contact.specs.PointerText.{PointerText}
 use Rattle.contact.specs.Patch.{Change, Entry, entriesOf, run}
 use Rattle.contact.specs.Localize.{refusedLocal, done, denied, start, localizedDoc, localizedOf}
 use Rattle.contact.specs.Likeness.{SameDoc, Reordered}
 use Rattle.contact.specs.Entries.{HasEntry, valued, Clear, Shuffled, Laid, NotOver, LaidAt}
-use Rattle.contact.specs.Conditions.{PatchOf, Smallest, Accepted}
+use Rattle.contact.specs.Conditions.{LooseTilde, PatchOf, Smallest, Accepted}
 use Rattle.contact.specs.declared.CardRefusal.{CardRefusal}
 use Rattle.contact.specs.declared.LocalRefusal.{LocalRefusal}
 use Rattle.contact.specs.declared.LocalRefusal.the-variants.{Given}
@@ -95,6 +96,8 @@ module _ (L : Limits) (words room : ℕ) where
         → (localizedDoc L words room card lang ≡ denied r) ↔ Smallest L words room card lang (refusedLocal r .number) r
     pub accepted : (card : Doc) (lang : Name) (text : List ℕ) (f : Forest)
         → (localizedDoc L words room card lang ≡ done text f) ↔ Accepted L words room card lang text f
+    -- the keys: each that has no loose `~` writes one pointer, the one that `pointerOf` finds, and any other writes none
+    pub keys : (key : Name) (p : Pointer) → PointerText key p ↔ ((¬ LooseTilde key) × (p ≡ pointerOf key))
     -- what an accepted localization has written
     pub written-so : (card : Doc) (lang : Name) (text : List ℕ) (f : Forest) → localizedDoc L words room card lang ≡ done text f
         → PatchedText card lang text

@@ -3,10 +3,10 @@
 -- Assumes nothing: these are definitions.
 use Prim.Native.Nat.{ℕ, _+_, _*_, _≤_, _<_}
 use Prim.Native.Char.{code}
-use mathlib.Core.Path.{_≡_}
 use mathlib.Core.List.{List, [], _∷_, _++_}
 use lib.ListN.{length}
 use Rattle.laws.specs.Each.{Each}
+use Rattle.laws.specs.Divides.{Divides}
 use Rattle.text.specs.Text.{bytes}
 use Rattle.text.specs.Abnf.{Between}
 
@@ -49,10 +49,6 @@ pub record UnsignedInt (low high : ℕ) (token : List ℕ) : Type 0 where
   pub upto : number ≤ high
 
 -- ---- days of the Gregorian calendar
-
-pub record Divides (n year : ℕ) : Type 0 where
-  pub times : ℕ
-  pub is : year ≡ n * times
 
 -- every fourth year, but of the full centuries only every fourth
 pub data Leap : (year : ℕ) → Type 0 where

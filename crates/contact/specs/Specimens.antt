@@ -7,6 +7,7 @@ use mathlib.Core.Path.{_≡_, refl}
 use mathlib.Core.List.{List, [], _∷_, _++_, map}
 use mathlib.Core.Bool.{true}
 use lib.ListN.{replicate}
+use Rattle.laws.specs.Tests.{every, anyMark, allMarks, adjacent}
 use Rattle.laws.specs.Lists.{filled, partOf}
 use Rattle.laws.specs.Scan.{scan}
 use Rattle.laws.specs.Order.{orderOf}
@@ -21,9 +22,9 @@ use Rattle.text.specs.Sheet.{numbers, refused}
 use Rattle.text.specs.Whole.{endOf, readOf, fitOf, wholeOf, sheetOf, tableOf}
 use Rattle.text.specs.Doc.{membersOf, docOf, countOf, countAll}
 use Rattle.contact.specs.Schema.{properties, typeIn}
-use Rattle.contact.specs.Values.{every, idByte, isId, valueFrom, isCount}
+use Rattle.contact.specs.Values.{idByte, isId, valueFrom, isCount}
 use Rattle.contact.specs.Dates.{monthLengths, isLeap, daysOf, isDay, shaped, fractionEnds, ends, inRange, isTime}
-use Rattle.contact.specs.Rules.{present, isString, isSeparator, marksOf, anyMark, allMarks, adjacent, breaksCard, breaksSeparators, breaksName}
+use Rattle.contact.specs.Rules.{present, isString, isSeparator, marksOf, breaksCard, breaksSeparators, breaksName}
 use Rattle.contact.specs.Judge.{lacking, rowNumber, breachOf, breachAmong}
 use Rattle.contact.specs.Verdict.{refusedFault, refusedCard, faultOf, byBreach, judgedRead, judgedOf, sheetOfJudged, tableOfJudged, paperOfVerdict}
 use Rattle.contact.specs.Localize.{refusedLocal, byJudge, byRoom, byEntries, inPatch, withPatch, localizedDoc, localizedJudged, localizedOf, sheetOfOutcome, tableOfOutcome, outputOfOutcome, answerOfOutcome, paperOfLocalized}

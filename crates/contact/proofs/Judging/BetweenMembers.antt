@@ -9,6 +9,7 @@ use mathlib.Core.Bool.{Bool, false, cond, _&&_, true≢false}
 use mathlib.Core.List.{List, [], _∷_}
 use mathlib.Core.Logic.{_⊎_, inl, inr, ⊎-elim}
 use mathlib.Core.Option.{Option, none, some}
+use Rattle.laws.specs.Tests.{anyMark, allMarks, adjacent}
 use Rattle.laws.specs.Each.{Each, Some, Neighbours}
 use Rattle.laws.specs.Each as E
 use Rattle.laws.proofs.Decides.{Decides, holds, fails, itself, swap, equal, bytes-same, both, either, unless, lets, not-both}
@@ -16,7 +17,7 @@ use Rattle.text.specs.Text.{bytes}
 use Rattle.text.specs.Strings.{contentOf}
 use Rattle.text.specs.Doc.{Name, Doc, scalar, array, object, Members, empty, member, kindOf, tokenOf, below, Property, property, seek, isThere}
 use Rattle.contact.specs.Schema.{ObjectType, card, name, nameComponent, address, addressComponent, emailAddress, phone, properties, typeIn}
-use Rattle.contact.specs.Rules.{ifFits, present, isTrue, isString, isThisString, hasKind, isSeparator, marksOf, marks, anyMark, allMarks, adjacent, breaksCard, breaksSeparators, breaksName, breaks}
+use Rattle.contact.specs.Rules.{ifFits, present, isTrue, isString, isThisString, hasKind, isSeparator, marksOf, marks, breaksCard, breaksSeparators, breaksName, breaks}
 use Rattle.contact.specs.AskedKinds.{Tabled}
 use Rattle.contact.specs.BetweenMembers.{HasMember, here, later, Counts, IsString, string, Separator, separator, elements, BreaksCard, no-group, BreaksSeparators, in-a-row, unordered, default-unordered, default-alone, BreaksName, nameless, only-separators, separators, BreaksBetween, of-card, of-name, of-address}
 use Rattle.contact.proofs.Judging.Table.{table-test}

@@ -1,20 +1,19 @@
 -- The tests on Ids and unsigned integers decide what specs/SimpleValues.antt says:
 --     digit-test    a byte from 0 to 9
---     each-test     a test on each byte
 --     id-test       Id
 --     count-test    UnsignedInt with its bounds
 -- Assumes nothing.
 use Prim.Native.Nat.{ℕ, _+_, _-_, _*_, _<_}
 use mathlib.Core.Path.{_≡_, refl, sym, subst, _∙_}
-use mathlib.Core.Bool.{Bool}
 use mathlib.Core.List.{List, [], _∷_, _++_, append-assoc, append-nil}
 use mathlib.Core.Logic.{_⊎_, inl, inr}
 use native.Mathlib.Omega.{arith}
 use lib.ListN.{length}
 use Rattle.laws.specs.Each.{Each, none, more}
-use Rattle.laws.proofs.Decides.{Decides, holds, swap, equal, below, upto, lets, bars, grants}
+use Rattle.laws.proofs.Tests.{each-test}
+use Rattle.laws.proofs.Decides.{Decides, swap, equal, below, upto, lets, bars, grants}
 use Rattle.text.specs.Tokens.{isDigit}
-use Rattle.contact.specs.Values.{every, idByte, isId, valueFrom, isCount}
+use Rattle.contact.specs.Values.{idByte, isId, valueFrom, isCount}
 use Rattle.contact.specs.SimpleValues.{DigitByte, IdByte, capital, small, digit, hyphen, underscore, Id, DigitValue, Denotes, UnsignedInt}
 use Rattle.contact.specs.SimpleValues as L
 
@@ -23,15 +22,6 @@ use Rattle.contact.specs.SimpleValues as L
 pub digit-test : (b : ℕ) → Decides (DigitByte b) (isDigit b)
 digit-test b =
     swap (λ h. record { from = omega arith; up-to = omega arith }) (λ h. ((λ k. omega arith), omega arith)) (bars (below b 48) (below b 58))
-
-module _ {P : ℕ → Type 0} (is : ℕ → Bool) (test : (b : ℕ) → Decides (P b) (is b)) where
-  pub each-test : (bs : List ℕ) → Decides (Each P bs) (every is bs)
-  unfolding every
-  each-test [] = holds none
-  each-test (b ∷ bs) = swap (λ h. more (h .0) (h .1)) parts (lets (test b) (each-test bs))
-    where
-      parts : Each P (b ∷ bs) → P b × Each P bs
-      parts (more p ps) = (p, ps)
 
 -- ---- Ids
 

@@ -22,6 +22,7 @@ use Rattle.contact.specs.Localize.{done, start, byEntries, inPatch, with
 use Rattle.contact.specs.Entries.{Shuffled, asIs, keepFirst, swapFirst, andOn, NoClash, ParentsThere, Apart, ApartFrom}
 use Rattle.contact.specs.Conditions.{Accepted}
 use Rattle.contact.specs.Patching.{Rearranged, rearranged, AtMember, thisOne, laterOne, InMember, inMember, OrderOnly, RunsTo, Patched, PatchedText, Patching}
+use Rattle.contact.proofs.Patching.Pointers.{key-iff}
 use Rattle.contact.proofs.Patching.Names.{same-no, same-yes}
 use Rattle.contact.proofs.Patching.Order.{any-order}
 use Rattle.contact.proofs.Patching.Untouched.{untouched}
@@ -189,5 +190,6 @@ module _ (L : Limits) (words room : ℕ) where
     order-of-texts = order-of-texts;
     refused = λ card lang. refused-iff L words room card lang;
     accepted = λ card lang. accepted-iff L words room card lang;
+    keys = λ key. key-iff key;
     written-so = written-so;
   }
