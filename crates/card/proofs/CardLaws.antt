@@ -20,7 +20,7 @@ use Rattle.text.specs.Whole.{readOf}
 use Rattle.text.specs.Promised.{Promised}
 use Rattle.text.proofs.Promise.{promised, whole-good, filled-stands, placed-kinds, doc-object}
 use Rattle.text.proofs.Readback.Documents.{text-shorter}
-use Rattle.contact.specs.Verdict.{Judged, passed, failed, judgedOf, tableOfJudged}
+use Rattle.contact.specs.Verdict.{Judged, passed, failed, judgedOf, answerOfJudged, tableOfJudged}
 use Rattle.contact.specs.Pointer.{find}
 use Rattle.contact.specs.Localize.{denied, patchAt, localizedDoc}
 use Rattle.contact.specs.Conditions.{PatchOf}
@@ -29,7 +29,7 @@ use Rattle.contact.specs.declared.Verdict.the-variants.{Passed, Failed}
 use Rattle.contact.specs.declared.LocalRefusal.the-variants.{NoLanguage}
 use Rattle.contact.proofs.Judging.{judging}
 use Rattle.contact.proofs.Patching.Again.{modest}
-use Rattle.contact.proofs.Patching.Steps.{verdictOf, judged-answer, no-patch, no-patch-object, patched-so}
+use Rattle.contact.proofs.Patching.Steps.{judged-answer, no-patch, no-patch-object, patched-so}
 use Rattle.json.specs.Rows.{kindIn}
 use Rattle.card.specs.Members.{firstMember}
 use Rattle.card.specs.Language.{Held, At, Leads}
@@ -126,6 +126,6 @@ module _ {t lent table : List ℕ} {n : ℕ} (j : Judges base t lent (Passed n) 
       go : (o : Judged) → judgedOf base (length lent) t ≡ o → (f : Forest) × CardIn t table f
       go (passed f) e = (f, record { passes = rw long e; rows = rw long (j .table ∙ ap (tableOfJudged (length lent)) e) })
       go (failed r) e =
-          let answer : Passed n ≡ Failed r = judged-answer (Passed n) (judgedOf base (length lent) t) (j .answered) ∙ ap verdictOf e in
+          let answer : Passed n ≡ Failed r = judged-answer (Passed n) (judgedOf base (length lent) t) (j .answered) ∙ ap answerOfJudged e in
           let z : _≡_ {A = ℕ} 0 1 = cc in
           absurd (omega arith)

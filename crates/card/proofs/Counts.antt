@@ -10,8 +10,9 @@ use native.Mathlib.Decide.{decLe}
 use native.Mathlib.Numerals.{add-one}
 use lib.ListN.{length, getD, drop}
 use lib.Seq.{drop-cons}
+use Rattle.laws.specs.Tests.{every}
 use Rattle.text.specs.Tokens.{isDigit}
-use Rattle.contact.specs.Values.{every, valueFrom, isCount}
+use Rattle.contact.specs.Values.{valueFrom, isCount}
 
 -- a digit as a number
 pub record Digit (b : ℕ) : Type 0 where

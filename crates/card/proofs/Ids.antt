@@ -9,7 +9,8 @@ use native.Mathlib.Omega.{arith}
 use lib.ListN.{length}
 use lib.Dec.{ltb}
 use borrow.Author.Tests.{lt-ltb, le-ltb}
-use Rattle.contact.specs.Values.{every, idByte, isId}
+use Rattle.laws.specs.Tests.{every}
+use Rattle.contact.specs.Values.{idByte, isId}
 
 pub idAfter : (passed : ℕ) → List ℕ → Bool
 idAfter n l = cond (ltb (n + length l) 1) false (cond (ltb 255 (n + length l)) false (every idByte l))

@@ -14,7 +14,7 @@ use borrow.Rule.Slice.PartMut.{midOf, putMid, mid-len, post-is}
 use Rattle.text.specs.Limits.{base}
 use Rattle.text.specs.Tree.{Forest}
 use Rattle.text.specs.Doc.{Name, docOf}
-use Rattle.contact.specs.Verdict.{Judged, passed, failed, judgedOf, tableOfJudged}
+use Rattle.contact.specs.Verdict.{Judged, passed, failed, judgedOf, answerOfJudged, tableOfJudged}
 use Rattle.contact.specs.Localize.{Outcome, done, denied, byJudge, localizedDoc, localizedOf, answerOfOutcome, tableOfOutcome, outputOfOutcome}
 use Rattle.contact.specs.Judging.{Judges}
 use Rattle.contact.specs.Contract.{Localizes}
@@ -26,7 +26,7 @@ use Rattle.contact.specs.declared.Localized.{Localized}
 use Rattle.contact.specs.declared.Localized.the-variants.{Written, Denied}
 use Rattle.contact.proofs.Patching.Public.{given-iff, passed-so}
 use Rattle.contact.proofs.Patching.Contract.{paper-follows}
-use Rattle.contact.proofs.Patching.Steps.{verdictOf, judged-answer}
+use Rattle.contact.proofs.Patching.Steps.{judged-answer}
 use Rattle.card.specs.Localizing.{CardIn, judgedOutcome, Composed, MakesFor, Rejudged, Left, Answers, usedBy}
 use Rattle.card.specs.declared.compose.Attempt.the-variants.{Bytes, Refused}
 use Rattle.card.proofs.CardLaws.{card-there}
@@ -39,7 +39,7 @@ module _ {t lent table : List ℕ} (room : ℕ) where
   judged-passed {rows} {n} j long =
       go (judgedOf base (length lent) t) (judged-answer (Passed rows) (judgedOf base (length lent) t) (j .answered)) (j .table)
     where
-      go : (o : Judged) → Passed rows ≡ verdictOf o → table ≡ tableOfJudged (length lent) o
+      go : (o : Judged) → Passed rows ≡ answerOfJudged o → table ≡ tableOfJudged (length lent) o
           → Rejudged (length lent) (byJudge base (length lent) room t o) (Written rows n) table
       go (passed f) e k = record { answer = cc; rows = k }
       go (failed r) e k = let z : _≡_ {A = ℕ} 0 1 = cc in absurd (omega arith)
@@ -49,7 +49,7 @@ module _ {t lent table : List ℕ} (room : ℕ) where
   judged-failed {r} j =
       go (judgedOf base (length lent) t) (judged-answer (Failed r) (judgedOf base (length lent) t) (j .answered)) (j .table)
     where
-      go : (o : Judged) → Failed r ≡ verdictOf o → table ≡ tableOfJudged (length lent) o
+      go : (o : Judged) → Failed r ≡ answerOfJudged o → table ≡ tableOfJudged (length lent) o
           → Rejudged (length lent) (byJudge base (length lent) room t o) (Denied (Inner r)) table
       go (passed f) e k = let z : _≡_ {A = ℕ} 0 1 = cc in absurd (omega arith)
       go (failed q) e k = record { answer = cc; rows = k }
@@ -64,7 +64,7 @@ pub given-so : {t lent table : List ℕ} (lang : Name) (out : List ℕ) {r : Car
     → Answers (length lent) (localizedOf base (length lent) (length out) t lang) (Denied (Given r)) table out
 given-so {t} {lent} {table} lang out {r} j = denied-so table out (given-iff base (length lent) (length out) t lang r .1 (go (judgedOf base (length lent) t) (judged-answer (Failed r) (judgedOf base (length lent) t) (j .answered))))
   where
-    go : (o : Judged) → Failed r ≡ verdictOf o → o ≡ failed r
+    go : (o : Judged) → Failed r ≡ answerOfJudged o → o ≡ failed r
     go (passed f) e = let z : _≡_ {A = ℕ} 0 1 = cc in absurd (omega arith)
     go (failed q) e = cc
 

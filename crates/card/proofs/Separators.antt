@@ -7,6 +7,7 @@ use mathlib.Core.Option.{Option, none, some}
 use Prim.Native.Nat.{ℕ}
 use lib.Dec.{eqb}
 use borrow.Author.Tests.{eqb-true}
+use Rattle.laws.specs.Tests.{anyMark, allMarks, adjacent}
 use Rattle.laws.specs.Order.{orderOf}
 use Rattle.text.specs.Text.{bytes}
 use Rattle.text.specs.Tree.{Forest}
@@ -15,7 +16,7 @@ use Rattle.text.specs.Firsts.{restAt}
 use Rattle.text.specs.Doc.{Name, Members, Property, docOf, membersOf, kindOf, seek, isThere}
 use Rattle.text.proofs.Promise.{members-first, members-none}
 use Rattle.contact.specs.Schema.{name, address, Ty, simple, flag, string, keySet, listOf, objectOf, nameComponent, addressComponent, properties, typeIn, fits}
-use Rattle.contact.specs.Rules.{ifFits, present, isTrue, isString, isThisString, hasKind, isSeparator, marksOf, marks, anyMark, allMarks, adjacent, breaksCard, breaksSeparators, breaksName}
+use Rattle.contact.specs.Rules.{ifFits, present, isTrue, isString, isThisString, hasKind, isSeparator, marksOf, marks, breaksCard, breaksSeparators, breaksName}
 use Rattle.card.specs.Rows.{ValueAt, ofKind}
 use Rattle.card.specs.Marks.{marks as kept, fresh, markOn, tally, marksIn, listIn, fullIn, separatorsBreak, separatorsRule}
 use Rattle.card.specs.declared.rules.Marks.{Marks}

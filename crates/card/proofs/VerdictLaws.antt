@@ -22,7 +22,7 @@ use Rattle.text.specs.declared.Reading.the-variants.{Rows, Refused}
 use Rattle.text.proofs.Promise.{placed-kinds, start-at, rows-tree, refusal-is}
 use Rattle.json.specs.Rows.{startIn}
 use Rattle.contact.specs.Judge.{Breach, nothing, found, cardBreach}
-use Rattle.contact.specs.Verdict.{faultOf, placed, judgedRead, judgedOf, paperOfVerdict, sheetOfJudged, tableOfJudged}
+use Rattle.contact.specs.Verdict.{faultOf, byBreach, judgedRead, judgedOf, paperOfVerdict, sheetOfJudged, tableOfJudged}
 use Rattle.contact.specs.Judging.{Judges}
 use Rattle.contact.specs.declared.CardRefusal.the-variants.{Text, Card}
 use Rattle.contact.specs.declared.Verdict.{Verdict}
@@ -65,12 +65,12 @@ read-into t lent table n l e is =
 module _ (t lent new : List ℕ) where
   passes : (n : ℕ) (f : Forest) (to : ℕ) (r : Verdict) → wholeOf base (length lent) t ≡ good f to → size f ≡ n → cardBreach (docOf t f) ≡ nothing
       → r ≡ Passed n → new ≡ tableOf (length lent) (good f to) → Judges base t lent r new
-  unfolding judgedOf judgedRead placed paperOfVerdict sheetOfJudged tableOfJudged tableOf
+  unfolding judgedOf judgedRead byBreach paperOfVerdict sheetOfJudged tableOfJudged tableOf
   passes n f to r w c e p q = record { answered = rw (p, w, e, c); table = rw (w, e) q }
 
   fails : (f : Forest) (to row number : ℕ) (r : Verdict) → wholeOf base (length lent) t ≡ good f to → cardBreach (docOf t f) ≡ found row number
       → r ≡ Failed (Card (faultOf number (getD (startsOf f) row 0))) → new ≡ replicate (length lent) 0 → Judges base t lent r new
-  unfolding judgedOf judgedRead placed paperOfVerdict sheetOfJudged tableOfJudged
+  unfolding judgedOf judgedRead byBreach paperOfVerdict sheetOfJudged tableOfJudged
   fails f to row number r w e p q = record { answered = rw (p, w, e); table = rw (w, e, sub-zero) q }
 
   pub text-refused : (r : Refusal) → paper (Refused r) ≡ sheetOf (wholeOf base (length lent) t) → new ≡ tableOf (length lent) (wholeOf base (length lent) t) → Judges base t lent (Failed (Text r)) new

@@ -17,7 +17,7 @@ use Rattle.text.specs.Firsts.{HasFirst, Kinds, kindAt, startAt, endAt, nameStar
 use Rattle.text.specs.Standing.{StandsTo}
 use Rattle.text.specs.Doc.{Name, Doc, scalar, array, object, Members, membersOf, docOf, kindOf, tokenOf, below, countOf}
 use Rattle.text.proofs.Promise.{row-at, inside, after, within, some-at, none-at, doc-kind, doc-token, doc-below, members-first, members-none, count-doc}
-use Rattle.contact.specs.Schema.{ObjectType, Simple, anyString, exactly, flag, yes, count, time, Ty, any, simple, objectOf, listOf, mapOf, fits, fitsSimple}
+use Rattle.contact.specs.Schema.{ObjectType, SimpleType, anyString, exactly, flag, yes, count, time, Ty, any, simple, objectOf, listOf, mapOf, fits, fitsSimple}
 use Rattle.contact.specs.Judge.{allowed, memberType, keyFits, rowNumber, Breach, nothing, found, onRow, orElse, breachOf, breachAmong}
 use Rattle.json.specs.Rows.{nameStartIn, nameEndIn, belowIn}
 use Rattle.card.specs.Types.{NotObject}
@@ -36,7 +36,7 @@ flag-kind : (kind : ℕ) (b : Bool) → eqb kind 2 ≡ b → cond b true (eqb ki
 flag-kind kind true q e = omega (arith, eqb-true kind 2 q)
 flag-kind kind false q e = omega (arith, eqb-true kind 3 e)
 
-scalar-kind : (l : Simple) (kind : ℕ) → fitsSimple l kind ≡ true → kind < 6
+scalar-kind : (l : SimpleType) (kind : ℕ) → fitsSimple l kind ≡ true → kind < 6
 scalar-kind anyString kind e = omega (arith, eqb-true kind 5 e)
 scalar-kind (exactly n) kind e = omega (arith, eqb-true kind 5 e)
 scalar-kind flag kind e = flag-kind kind (eqb kind 2) refl e

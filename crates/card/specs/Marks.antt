@@ -3,9 +3,10 @@
 use mathlib.Core.List.{List, [], _∷_}
 use mathlib.Core.Bool.{Bool, true, false, not, _&&_, _||_}
 use mathlib.Core.Option.{Option, none, some}
+use Rattle.laws.specs.Tests.{anyMark, adjacent}
 use Rattle.text.specs.Text.{bytes}
 use Rattle.text.specs.Doc.{Members, Property, below, seek, isThere}
-use Rattle.contact.specs.Rules.{marksOf, anyMark, adjacent}
+use Rattle.contact.specs.Rules.{marksOf}
 use Rattle.card.specs.Rows.{ofKind}
 use Rattle.card.specs.declared.rules.Marks.{Marks}
 

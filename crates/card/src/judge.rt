@@ -4,8 +4,8 @@ use crate::types::Object;
 use crate::types::Ty;
 use crate::walk::Breach;
 use crate::walk::breach_at;
+use contact::CardFault;
 use contact::CardRefusal;
-use contact::Fault;
 use contact::Verdict;
 use json::read::read;
 use json::rows::value_start;
@@ -21,19 +21,19 @@ ghost use Rattle.contact.specs.Judging.{Judges};
 ghost use Rattle.card.specs.Judged.{ReadInto, JudgedRows};
 
 // The line of the sheet that a number from 11 to 14 names, at a place.
-fn fault_of(number: usize, place: usize) -> Fault
+fn fault_of(number: usize, place: usize) -> CardFault
     ensures { λ r. ⌜ r ≡ faultOf number place ⌝ }
 {
     if number == 11 {
-        return Fault::Kind(place);
+        return CardFault::Kind(place);
     }
     if number == 12 {
-        return Fault::Missing(place);
+        return CardFault::Missing(place);
     }
     if number == 13 {
-        return Fault::Value(place);
+        return CardFault::Value(place);
     }
-    Fault::Rule(place)
+    CardFault::Rule(place)
 }
 
 // The verdict on the n rows of a text that was read; where it fails, the table is cleared.

@@ -1,6 +1,6 @@
 // The answers of judging and localizing in the refusal sheet's numbers.
+use contact::CardFault;
 use contact::CardRefusal;
-use contact::Fault;
 use contact::LocalRefusal;
 use contact::Localized;
 use contact::Verdict;
@@ -21,14 +21,14 @@ fn line(number: u64, second: usize, written: usize) -> Paper
     }
 }
 
-fn fault_on_paper(f: Fault) -> Paper
+fn fault_on_paper(f: CardFault) -> Paper
     ensures { λ p. ⌜ p ≡ refusedFault f ⌝ }
 {
     match f {
-        Fault::Kind(p) => line(11, p, 0),
-        Fault::Missing(p) => line(12, p, 0),
-        Fault::Value(p) => line(13, p, 0),
-        Fault::Rule(p) => line(14, p, 0),
+        CardFault::Kind(p) => line(11, p, 0),
+        CardFault::Missing(p) => line(12, p, 0),
+        CardFault::Value(p) => line(13, p, 0),
+        CardFault::Rule(p) => line(14, p, 0),
     }
 }
 

@@ -1,12 +1,12 @@
 -- `Judging` (specs/Judging.antt) holds: the theorems of judging put together.
---     Leaves, Times     the tests of single values
---     Table, Between    kinds and types by the table; the rules between members
+--     SimpleValues, Times      the tests of single values
+--     Table, BetweenMembers    kinds and types by the table; the rules between members
 --     Rows, Breaches    the number of one row; the first breach of a card
 -- Assumes nothing.
-pub mod Leaves
+pub mod SimpleValues
 pub mod Times
 pub mod Table
-pub mod Between
+pub mod BetweenMembers
 pub mod Rows
 pub mod Breaches
 use Prim.Native.Nat.{ℕ, _≤_, _<_}
@@ -28,18 +28,18 @@ use Rattle.text.specs.Doc.{Doc, docOf}
 use Rattle.text.specs.declared.Refusal.{Refusal}
 use Rattle.text.specs.declared.Refusal.the-variants.{TooLong, Grammar, Character, Repeated, Deep, Many, Small}
 use Rattle.contact.specs.Judge.{Breach, nothing, found, cardBreach}
-use Rattle.contact.specs.Verdict.{refusedFault, refusedCard, paperOfVerdict, Judged, passed, failed, faultOf, placed, judgedRead, judgedOf, sheetOfJudged, tableOfJudged}
-use Rattle.contact.specs.Breaks.{Breaks, RowBreaks, Keeps, First}
-use Rattle.contact.specs.Breaks as B
+use Rattle.contact.specs.Verdict.{refusedFault, refusedCard, paperOfVerdict, Judged, passed, failed, faultOf, byBreach, judgedRead, judgedOf, sheetOfJudged, tableOfJudged}
+use Rattle.contact.specs.Breaches.{BreaksLine, RowBreaks, Keeps, FirstBreach}
+use Rattle.contact.specs.Breaches as B
 use Rattle.contact.specs.Judging.{Says, unread, passes, breaks-first, Judging}
-use Rattle.contact.specs.declared.Fault.the-variants.{Kind, Missing, Value, Rule}
+use Rattle.contact.specs.declared.CardFault.the-variants.{Kind, Missing, Value, Rule}
 use Rattle.contact.specs.declared.CardRefusal.{CardRefusal}
 use Rattle.contact.specs.declared.CardRefusal.the-variants.{Text, Card}
 use Rattle.contact.specs.declared.Verdict.{Verdict}
 use Rattle.contact.specs.declared.Verdict.the-variants.{Passed, Failed}
-use Rattle.contact.proofs.Judging.Leaves.{id-test, count-test}
+use Rattle.contact.proofs.Judging.SimpleValues.{id-test, count-test}
 use Rattle.contact.proofs.Judging.Times.{leap-test, day-test, time-test}
-use Rattle.contact.proofs.Judging.Between.{between-test}
+use Rattle.contact.proofs.Judging.BetweenMembers.{between-test}
 use Rattle.contact.proofs.Judging.Breaches.{broken-row, Least, unbroken, at-first, first-breach}
 
 -- ---- what the search of a card finds
@@ -54,15 +54,15 @@ module _ {whole : Doc} where
   kept-none (unbroken f) k = refl
   kept-none (at-first x h) k = absurd (k _ _ x)
 
-  found-first : {b : Breach} {row n : ℕ} → Least (RowBreaks whole) b → b ≡ found row n → First whole row n
+  found-first : {b : Breach} {row n : ℕ} → Least (RowBreaks whole) b → b ≡ found row n → FirstBreach whole row n
   found-first (unbroken f) e = let z : _≡_ {A = ℕ} 0 1 = cc in absurd (omega arith)
   found-first {row = row} {n = n} (at-first {r = r} {n = m} x h) e =
       let same-row : r ≡ row = cc in
       let same-number : m ≡ n = cc in
-      subst₂ (First whole) same-row same-number
+      subst₂ (FirstBreach whole) same-row same-number
       (record { broken = x; earliest = λ q l y. h q l y .0; smallest = λ l y. h r l y .1 refl })
 
-  first-found : {b : Breach} {row n : ℕ} → Least (RowBreaks whole) b → First whole row n → b ≡ found row n
+  first-found : {b : Breach} {row n : ℕ} → Least (RowBreaks whole) b → FirstBreach whole row n → b ≡ found row n
   first-found (unbroken f) k = absurd (f _ _ (k .broken))
   first-found {row = row} {n = n} (at-first {r = r} {n = m} x h) k =
       let up = h row n (k .broken) in
@@ -76,7 +76,7 @@ module _ {whole : Doc} where
 -- ---- what judging a text answers
 
 -- the sheet's number of a line that is broken is its own
-fault-number : {n : ℕ} {ty : _} {u : _} {v : Doc} (p : ℕ) → Breaks n ty u v → refusedFault (faultOf n p) ≡ numbers n p 0
+fault-number : {n : ℕ} {ty : _} {u : _} {v : Doc} (p : ℕ) → BreaksLine n ty u v → refusedFault (faultOf n p) ≡ numbers n p 0
 unfolding refusedFault faultOf
 fault-number p (B.kind _) = refl
 fault-number p (B.missing _ _) = refl
@@ -88,14 +88,14 @@ fault-number p (B.rule _ _) = refl
 data Judgement (t : List ℕ) : Read → Judged → Type 0 where
   not-read : {r : Refusal} → Judgement t (bad r) (failed (Text r))
   kept : {f : Forest} {to : ℕ} → Keeps (docOf t f) → Judgement t (good f to) (passed f)
-  broken : {f : Forest} {to row n : ℕ} → First (docOf t f) row n → Judgement t (good f to) (failed (Card (faultOf n (getD (startsOf f) row 0))))
+  broken : {f : Forest} {to row n : ℕ} → FirstBreach (docOf t f) row n → Judgement t (good f to) (failed (Card (faultOf n (getD (startsOf f) row 0))))
 
 judgement : (t : List ℕ) (r : Read) → Judgement t r (judgedRead t r)
-unfolding judgedRead placed
+unfolding judgedRead byBreach
 judgement t (bad r) = not-read
 judgement t (good f to) = go (cardBreach (docOf t f)) refl (first-breach (docOf t f))
   where
-    go : (b : Breach) → cardBreach (docOf t f) ≡ b → Least (RowBreaks (docOf t f)) (cardBreach (docOf t f)) → Judgement t (good f to) (placed f b)
+    go : (b : Breach) → cardBreach (docOf t f) ≡ b → Least (RowBreaks (docOf t f)) (cardBreach (docOf t f)) → Judgement t (good f to) (byBreach f b)
     go nothing e l = kept (none-kept l e)
     go (found row n) e l = broken (found-first l e)
 
@@ -115,20 +115,20 @@ module _ (L : Limits) (words : ℕ) (t : List ℕ) where
   passed-kept (broken h) e q = let z : _≡_ {A = ℕ} 0 1 = cc in absurd (omega arith)
 
   kept-passed : {f : Forest} {to : ℕ} → wholeOf L words t ≡ good f to → Keeps (docOf t f) → judgedOf L words t ≡ passed f
-  unfolding judgedOf judgedRead placed
+  unfolding judgedOf judgedRead byBreach
   kept-passed {f} e k = rw (e, kept-none (first-breach (docOf t f)) k)
 
   -- ---- the answer and the table
 
   sayings : {r : Read} {j : Judged} → Judgement t r j → wholeOf L words t ≡ r → Says L words t (sheetOfJudged j) (tableOfJudged words j)
-  unfolding sheetOfJudged tableOfJudged refusedCard
+  unfolding sheetOfJudged paperOfVerdict tableOfJudged refusedCard
   sayings not-read e = unread e
   sayings (kept k) e = passes e k
   sayings (broken {f = f} {row = row} h) e = rw (fault-number (getD (startsOf f) row 0) (h .broken .broken)) (breaks-first e h)
 
   said : {p : Paper} {table : List ℕ} → Says L words t p table
       → (p ≡ sheetOfJudged (judgedOf L words t)) × (table ≡ tableOfJudged words (judgedOf L words t))
-  unfolding judgedOf judgedRead placed sheetOfJudged tableOfJudged refusedCard
+  unfolding judgedOf judgedRead byBreach sheetOfJudged paperOfVerdict tableOfJudged refusedCard
   said (unread e) = (rw e, rw e)
   said (passes {f = f} e k) = let n = kept-none (first-breach (docOf t f)) k in (rw (e, n), rw (e, n))
   said (breaks-first {f = f} {row = row} e h) =
@@ -137,7 +137,7 @@ module _ (L : Limits) (words : ℕ) (t : List ℕ) where
 
   -- ---- the row of a refusal
 
-  its-row : {f : Forest} {to row n : ℕ} → wholeOf L words t ≡ good f to → First (docOf t f) row n → row < size f
+  its-row : {f : Forest} {to row n : ℕ} → wholeOf L words t ≡ good f to → FirstBreach (docOf t f) row n → row < size f
   its-row {f} {to} e h =
       let p = promised L t f to (whole-good L words t f to e .read) in omega (arith, count-root t f (p .some) (p .alone), broken-row (h .broken))
 
@@ -155,10 +155,10 @@ refusalOf n s =
     (cond (eqb n 7) (Text (Small s))
     (cond (eqb n 11) (Card (Kind s)) (cond (eqb n 12) (Card (Missing s)) (cond (eqb n 13) (Card (Value s)) (Card (Rule s)))))))))))
 
-abbrev verdictOf : Paper → Verdict
-verdictOf p = cond (eqb (p .number) 0) (Passed (p .second)) (Failed (refusalOf (p .number) (p .second)))
+abbrev verdictOn : Paper → Verdict
+verdictOn p = cond (eqb (p .number) 0) (Passed (p .second)) (Failed (refusalOf (p .number) (p .second)))
 
-answer-back : (a : Verdict) → verdictOf (paperOfVerdict a) ≡ a
+answer-back : (a : Verdict) → verdictOn (paperOfVerdict a) ≡ a
 unfolding paperOfVerdict refusedCard refusedFault refused
 answer-back (Passed n) = refl
 answer-back (Failed (Text TooLong)) = refl
@@ -174,7 +174,7 @@ answer-back (Failed (Card (Value p))) = refl
 answer-back (Failed (Card (Rule p))) = refl
 
 pub one-answer : (a b : Verdict) → paperOfVerdict a ≡ paperOfVerdict b → a ≡ b
-one-answer a b e = sym (answer-back a) ∙ ap verdictOf e ∙ answer-back b
+one-answer a b e = sym (answer-back a) ∙ ap verdictOn e ∙ answer-back b
 
 -- ---- all of it
 

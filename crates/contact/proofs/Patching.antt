@@ -21,7 +21,7 @@ pub mod Refused
 pub mod Public
 pub mod Steps
 pub mod Fine
-pub mod Demand
+pub mod Together
 pub mod Weigh
 pub mod Parts
 pub mod Every

@@ -61,7 +61,7 @@ pub data EntersArray (p : Pointer) (d : Doc) : Type 0 where
 -- part which is not the last
 pub data LosesWay (p : Pointer) (d : Doc) : Type 0 where
   atScalar : {kind : ℕ} {token : List ℕ} {n : Name} {left : List Name} → Reaches p d (scalar kind token) n left → LosesWay p d
-  lacking : {ms : Members} {n m : Name} {left : List Name} → Reaches p d (object ms) n (m ∷ left) → seek n ms ≡ none → LosesWay p d
+  noMember : {ms : Members} {n m : Name} {left : List Name} → Reaches p d (object ms) n (m ∷ left) → seek n ms ≡ none → LosesWay p d
 
 -- ---- the conditions
 
@@ -72,31 +72,31 @@ pub record PatchOf (card : Doc) (lang : Name) (ms : Members) : Type 0 where
 
 module _ (L : Limits) (words room : ℕ) (card : Doc) (lang : Name) where
   -- the condition of this number is broken, and calls for this refusal
-  pub data Broken : ℕ → LocalRefusal → Type 0 where
-    noLanguage : ((ms : Members) → ¬ PatchOf card lang ms) → Broken 21 NoLanguage
-    badKey : {ms : Members} {key : Name} → PatchOf card lang ms → HasKey key ms → LooseTilde key → Broken 22 BadKey
+  pub data BrokenCondition : ℕ → LocalRefusal → Type 0 where
+    noLanguage : ((ms : Members) → ¬ PatchOf card lang ms) → BrokenCondition 21 NoLanguage
+    badKey : {ms : Members} {key : Name} → PatchOf card lang ms → HasKey key ms → LooseTilde key → BrokenCondition 22 BadKey
     ownLocalizations : {ms : Members} {key : Name} → PatchOf card lang ms → HasKey key ms
-        → firstPart (pointerOf key) ≡ bytes "localizations" → Broken 23 OwnLocalizations
+        → firstPart (pointerOf key) ≡ bytes "localizations" → BrokenCondition 23 OwnLocalizations
     clashing : {ms : Members} {key other : Name} → PatchOf card lang ms → HasKeys key other ms
-        → Prefix (pointerOf key) (pointerOf other) ⊎ Prefix (pointerOf other) (pointerOf key) → Broken 24 Clash
+        → Prefix (pointerOf key) (pointerOf other) ⊎ Prefix (pointerOf other) (pointerOf key) → BrokenCondition 24 Clash
     enteringArray : {ms : Members} {key : Name} → PatchOf card lang ms → HasKey key ms
-        → EntersArray (pointerOf key) (start card) → Broken 25 InArray
+        → EntersArray (pointerOf key) (start card) → BrokenCondition 25 InArray
     losingWay : {ms : Members} {key : Name} → PatchOf card lang ms → HasKey key ms
-        → LosesWay (pointerOf key) (start card) → Broken 26 NoObject
+        → LosesWay (pointerOf key) (start card) → BrokenCondition 26 NoObject
     short : {ms : Members} → PatchOf card lang ms → room < length (written (applied (start card) (entriesOf ms)))
-        → Broken 27 (Short (length (written (applied (start card) (entriesOf ms)))))
+        → BrokenCondition 27 (Short (length (written (applied (start card) (entriesOf ms)))))
     unfit : {ms : Members} {r : CardRefusal} → PatchOf card lang ms
-        → judgedOf L words (written (applied (start card) (entriesOf ms))) ≡ failed r → Broken 28 (Inner r)
+        → judgedOf L words (written (applied (start card) (entriesOf ms))) ≡ failed r → BrokenCondition 28 (Inner r)
 
   -- the refusal of the smallest number whose condition is broken
   pub record Smallest (number : ℕ) (r : LocalRefusal) : Type 0 where
-    pub broken : Broken number r
-    pub least : (m : ℕ) (q : LocalRefusal) → Broken m q → number ≤ m
+    pub broken : BrokenCondition number r
+    pub least : (m : ℕ) (q : LocalRefusal) → BrokenCondition m q → number ≤ m
 
   -- nothing is broken, and the text is that of the card as the entries leave it, with its tree
   pub record Accepted (text : List ℕ) (f : Forest) : Type 0 where
     pub members : Members
     pub patch : PatchOf card lang members
-    pub unbroken : (m : ℕ) (q : LocalRefusal) → ¬ Broken m q
+    pub unbroken : (m : ℕ) (q : LocalRefusal) → ¬ BrokenCondition m q
     pub writes : text ≡ written (applied (start card) (entriesOf members))
     pub reads : judgedOf L words text ≡ passed f

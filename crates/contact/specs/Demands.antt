@@ -21,11 +21,10 @@ use Rattle.text.specs.Fault.{FirstFault}
 use Rattle.text.specs.Promised.{Filled}
 use Rattle.text.specs.declared.Reading.{Reading}
 use Rattle.contact.specs.Localize.{refusedLocal}
-use Rattle.contact.specs.Breaks.{Keeps}
-use Rattle.contact.specs.Breaks as Breaks
+use Rattle.contact.specs.Breaches.{Keeps, FirstBreach}
 use Rattle.contact.specs.Judging.{Judges}
-use Rattle.contact.specs.Conditions.{Broken, Smallest}
-use Rattle.contact.specs.Demand.{OrderOnly, PatchedText}
+use Rattle.contact.specs.Conditions.{BrokenCondition, Smallest}
+use Rattle.contact.specs.Patching.{OrderOnly, PatchedText}
 use Rattle.contact.specs.Contract.{Localizes}
 use Rattle.contact.specs.Readback.{PatchedRows}
 use Rattle.contact.specs.Services.{Call, read, judge, localize, wordsOf, roomOf, Left, leaves, served}
@@ -98,7 +97,7 @@ pub record Offends (L : Limits) (words : ℕ) (t : List ℕ) (n p : ℕ) : Type 
   pub tree : Forest
   pub readable : Readable L words t tree
   pub row : ℕ
-  pub first : Breaks.First (docOf t tree) row n
+  pub first : FirstBreach (docOf t tree) row n
   pub place : p ≡ getD (startsOf tree) row 0
 
 pub record ReadingAndJudging (L : Limits) : Type 0 where
@@ -137,7 +136,7 @@ pub record Localization (L : Limits) (words room : ℕ) (t : List ℕ) (f : Fore
   pub left : served L (localize t lang words room) ≡ leaves (numbers 0 (size tree) (length text)) (filled words (rowsOf tree)) (filled room text)
   -- Set or removed one at a time, in any order, from the card without its localizations, each entry finds its parent, and the end is the written card,
   -- member order not counted. Each entry has its way; a property that no pointer names, enters or covers keeps its value; what is kept stays at its
-  -- place, and what is added follows in ascending order of name (`Patched`, specs/Demand.antt).
+  -- place, and what is added follows in ascending order of name (`Patched`, specs/Patching.antt).
   pub patched : PatchedText (docOf t f) lang text
   -- the written text is read back as the patched card; it is no longer than t and has no more values
   pub back : PatchedRows L t f lang text tree
@@ -151,12 +150,16 @@ pub record Localizing (L : Limits) : Type 0 where
   -- the entries of the PatchObject in any order, white space aside: the same answer, table and output, refusals too
   pub any-order : (t u : List ℕ) (lang : Name) (words room : ℕ) (f g : Forest) → CardText L words t f → CardText L words u g
       → OrderOnly lang (docOf t f) (docOf u g) → served L (localize t lang words room) ≡ served L (localize u lang words room)
+  -- the same of what the contract allows: also the answer itself, with 28's inner place
+  pub any-order-allowed : (t u : List ℕ) (lang : Name) (words room : ℕ) (f g : Forest) → CardText L words t f → CardText L words u g
+      → OrderOnly lang (docOf t f) (docOf u g) → (a b : Localized) (x y o q : List ℕ)
+      → Localizes L words room t lang a x o → Localizes L words room u lang b y q → (a ≡ b) × (x ≡ y) × (o ≡ q)
   -- all patches or none: what is accepted is patched by all entries, as the set-or-remove definition says, and is judged as a whole
   pub patched : (t : List ℕ) (lang : Name) (words room : ℕ) (f : Forest) → CardText L words t f → Passes L (localize t lang words room)
       → Localization L words room t f lang
   -- it is accepted exactly when none of the conditions 21 to 28 is broken
   pub accepted : (t : List ℕ) (lang : Name) (words room : ℕ) (f : Forest) → CardText L words t f
-      → Passes L (localize t lang words room) ↔ ((n : ℕ) (r : LocalRefusal) → ¬ Broken L words room (docOf t f) lang n r)
+      → Passes L (localize t lang words room) ↔ ((n : ℕ) (r : LocalRefusal) → ¬ BrokenCondition L words room (docOf t f) lang n r)
   -- and else refused by the broken condition of smallest number
   pub refused : (t : List ℕ) (lang : Name) (words room : ℕ) (f : Forest) → CardText L words t f → (n second : ℕ) → 0 < n
       → (served L (localize t lang words room) .answer ≡ numbers n second 0)

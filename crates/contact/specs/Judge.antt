@@ -8,7 +8,7 @@ use lib.Dec.{eqb}
 use Rattle.laws.specs.Order.{same}
 use Rattle.text.specs.Strings.{contentOf}
 use Rattle.text.specs.Doc.{Name, Doc, scalar, array, object, Members, empty, member, kindOf, tokenOf, below, countOf, seek, isThere}
-use Rattle.contact.specs.Schema.{Simple, anyString, exactly, flag, yes, count, time, Keys, free, ids, Ty, any, simple, objectOf, listOf, mapOf, card, Known, properties, typeIn, fits}
+use Rattle.contact.specs.Schema.{SimpleType, anyString, exactly, flag, yes, count, time, Keys, free, ids, Ty, any, simple, objectOf, listOf, mapOf, card, Known, properties, typeIn, fits}
 use Rattle.contact.specs.Values.{isId, isCount}
 use Rattle.contact.specs.Dates.{isTime}
 use Rattle.contact.specs.Rules.{breaks}
@@ -28,7 +28,7 @@ lacks (listOf ty) ms = false
 lacks (mapOf keys ty) ms = false
 
 -- 13: a value that isn't allowed
-abbrev pub allowedSimple : Simple → (kind : ℕ) → (token : List ℕ) → Bool
+abbrev pub allowedSimple : SimpleType → (kind : ℕ) → (token : List ℕ) → Bool
 allowedSimple anyString kind token = true
 allowedSimple (exactly n) kind token = same (contentOf token) n
 allowedSimple flag kind token = true

@@ -21,9 +21,9 @@ use Rattle.contact.specs.Dates.{isLeap, isDay, isTime}
 use Rattle.contact.specs.Rules.{breaks}
 use Rattle.contact.specs.Judge.{nothing, found, cardBreach}
 use Rattle.contact.specs.Verdict.{passed, paperOfVerdict, judgedOf, sheetOfJudged, tableOfJudged}
-use Rattle.contact.specs.Leaves.{Id, Count, Leap, Day, UTCDateTime}
-use Rattle.contact.specs.Between.{BreaksBetween}
-use Rattle.contact.specs.Breaks.{Keeps, First}
+use Rattle.contact.specs.SimpleValues.{Id, UnsignedInt, Leap, Day, UTCDateTime}
+use Rattle.contact.specs.BetweenMembers.{BreaksBetween}
+use Rattle.contact.specs.Breaches.{Keeps, FirstBreach}
 use Rattle.contact.specs.declared.Verdict.{Verdict}
 
 -- What the papers say of a text as a card, for a lent table of so many words: the answer on paper, and the whole table after it.
@@ -34,7 +34,7 @@ pub data Says (L : Limits) (words : ℕ) (text : List ℕ) : (answer : Paper) �
   passes : {f : Forest} {to : ℕ} → wholeOf L words text ≡ good f to → Keeps (docOf text f)
       → Says L words text (numbers 0 (size f) 0) (filled words (rowsOf f))
   -- and any other is refused by the first line that is broken, at the first byte of that row's value
-  breaks-first : {f : Forest} {to row number : ℕ} → wholeOf L words text ≡ good f to → First (docOf text f) row number
+  breaks-first : {f : Forest} {to row number : ℕ} → wholeOf L words text ≡ good f to → FirstBreach (docOf text f) row number
       → Says L words text (numbers number (getD (startsOf f) row 0) 0) (filled words [])
 
 -- what the contract of `judge` says of an answer and of what is left in a lent table
@@ -43,17 +43,17 @@ pub record Judges (L : Limits) (text lent : List ℕ) (answer : Verdict) (left :
   pub table : left ≡ tableOfJudged (length lent) (judgedOf L (length lent) text)
 
 pub record Judging : Type 0 where
-  -- the tests of single values tell just what specs/Leaves.antt says
+  -- the tests of single values tell just what specs/SimpleValues.antt says
   pub ids : (n : Name) → (isId n ≡ true) ↔ Id n
-  pub counts : (low high : ℕ) (token : List ℕ) → (isCount low high token ≡ true) ↔ Count low high token
+  pub counts : (low high : ℕ) (token : List ℕ) → (isCount low high token ≡ true) ↔ UnsignedInt low high token
   pub leap-years : (y : ℕ) → (isLeap y ≡ true) ↔ Leap y
   pub days : (y m d : ℕ) → (isDay y m d ≡ true) ↔ Day y m d
   pub times : (t : List ℕ) → (isTime t ≡ true) ↔ UTCDateTime t
-  -- and those of the rules between members what specs/Between.antt says
+  -- and those of the rules between members what specs/BetweenMembers.antt says
   pub rules : (o : ObjectType) (ms : Members) → (breaks o ms ≡ true) ↔ BreaksBetween o ms
   -- the search of a document finds nothing just if nothing is broken, and a row and a number just if they are the first
   pub keeps : (d : Doc) → (cardBreach d ≡ nothing) ↔ Keeps d
-  pub first : (d : Doc) (row number : ℕ) → (cardBreach d ≡ found row number) ↔ First d row number
+  pub first : (d : Doc) (row number : ℕ) → (cardBreach d ≡ found row number) ↔ FirstBreach d row number
   -- a text passes, with its tree, just if reading accepts it with that tree and it keeps all rules
   pub accepted : (L : Limits) (words : ℕ) (t : List ℕ) (f : Forest)
       → (judgedOf L words t ≡ passed f) ↔ ((to : ℕ) × (wholeOf L words t ≡ good f to) × Keeps (docOf t f))
@@ -62,7 +62,7 @@ pub record Judging : Type 0 where
       → ((p ≡ sheetOfJudged (judgedOf L words t)) × (table ≡ tableOfJudged words (judgedOf L words t))) ↔ Says L words t p table
   -- the row of a refusal is one of the text's rows, so that its place is where a value starts
   pub place : (L : Limits) (words : ℕ) (t : List ℕ) (f : Forest) (to row number : ℕ) → wholeOf L words t ≡ good f to
-      → First (docOf t f) row number → row < size f
+      → FirstBreach (docOf t f) row number → row < size f
   -- an answer's numbers tell the answer
   pub one-answer : (a b : Verdict) → paperOfVerdict a ≡ paperOfVerdict b → a ≡ b
   -- two outcomes that the contract allows are equal

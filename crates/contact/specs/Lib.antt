@@ -1,12 +1,12 @@
 pub mod Schema
 pub mod Values
-pub mod Leaves
+pub mod SimpleValues
 pub mod Dates
-pub mod Kinds
+pub mod AskedKinds
 pub mod Rules
-pub mod Between
+pub mod BetweenMembers
 pub mod Judge
-pub mod Breaks
+pub mod Breaches
 pub mod Verdict
 pub mod Judging
 pub mod Pointer
@@ -16,7 +16,7 @@ pub mod Localize
 pub mod Entries
 pub mod Conditions
 pub mod Likeness
-pub mod Demand
+pub mod Patching
 pub mod Readback
 pub mod Contract
 pub mod Services

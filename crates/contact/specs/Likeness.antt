@@ -1,4 +1,4 @@
--- When two documents are the same but for the order of members: by looking (`Same`), and by matching members (`Reordered`). Of documents with
+-- When two documents are the same but for the order of members: by looking (`SameDoc`), and by matching members (`Reordered`). Of documents with
 -- distinct names the two are one (proofs/Patching/Reorder.antt).
 -- Assumes nothing: these are definitions.
 use Prim.Native.Nat.{ℕ}
@@ -33,7 +33,7 @@ abbrev pub look : Pointer → Doc → Look
 look p d = seen (find p d)
 
 -- the same, member order not counted
-pub record Same (d e : Doc) : Type 0 where
+pub record SameDoc (d e : Doc) : Type 0 where
   pub root : shape d ≡ shape e
   pub below : (p : Pointer) → look p d ≡ look p e
 

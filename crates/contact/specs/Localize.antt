@@ -107,8 +107,7 @@ answerOfOutcome (denied r) = Denied r
 
 -- in the paper's numbers: 0, the row count and the output's length; or the refusal's number and its second number
 unfoldable pub sheetOfOutcome : Outcome → Paper
-sheetOfOutcome (done text f) = numbers 0 (size f) (length text)
-sheetOfOutcome (denied r) = refusedLocal r
+sheetOfOutcome o = paperOfLocalized (answerOfOutcome o)
 
 unfoldable pub tableOfOutcome : (words : ℕ) → Outcome → List ℕ
 tableOfOutcome words (done text f) = filled words (rowsOf f)

@@ -127,14 +127,14 @@ whenArrived noObject d = none
 abbrev pub step : Entry → Doc → Option Doc
 step (entry p c) d = whenArrived (walk p d) (changed p c d)
 
-abbrev pub andThen : (Doc → Option Doc) → Option Doc → Option Doc
-andThen f none = none
-andThen f (some d) = f d
+abbrev pub runOn : (Doc → Option Doc) → Option Doc → Option Doc
+runOn f none = none
+runOn f (some d) = f d
 
 -- the entries one at a time, in the order of the list
 abbrev pub run : List Entry → Doc → Option Doc
 run [] d = some d
-run (e ∷ es) d = andThen (run es) (step e d)
+run (e ∷ es) d = runOn (run es) (step e d)
 
 -- ---- all entries at once
 

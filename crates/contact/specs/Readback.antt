@@ -16,11 +16,11 @@ use Rattle.text.specs.Writing.{written}
 use Rattle.text.specs.Writable.{depthIn, ReadsBack}
 use Rattle.text.specs.declared.Refusal.the-variants.{Deep}
 use Rattle.contact.specs.Judge.{cardBreach}
-use Rattle.contact.specs.Verdict.{refusedCard, passed, failed, placed, judgedOf}
+use Rattle.contact.specs.Verdict.{refusedCard, passed, failed, byBreach, judgedOf}
 use Rattle.contact.specs.Patch.{entriesOf, applied}
 use Rattle.contact.specs.Localize.{done, denied, start, localizedOf}
-use Rattle.contact.specs.Conditions.{PatchOf, Broken}
-use Rattle.contact.specs.declared.Fault.{Fault}
+use Rattle.contact.specs.Conditions.{PatchOf, BrokenCondition}
+use Rattle.contact.specs.declared.CardFault.{CardFault}
 use Rattle.contact.specs.declared.CardRefusal.{CardRefusal}
 use Rattle.contact.specs.declared.CardRefusal.the-variants.{Text, Card}
 use Rattle.contact.specs.declared.LocalRefusal.{LocalRefusal}
@@ -36,7 +36,7 @@ pub record WrittenCard (L : Limits) (words : ℕ) (t : List ℕ) (f : Forest) (x
   pub shorter : length (written x) ≤ length t
   pub fewer : countOf x ≤ size f
   -- within the depth only the rules of cards are left to break; deeper, it is refused for that
-  pub judged : depthIn x ≤ L .depth → judgedOf L words (written x) ≡ placed (rootOf (back .derives)) (cardBreach x)
+  pub judged : depthIn x ≤ L .depth → judgedOf L words (written x) ≡ byBreach (rootOf (back .derives)) (cardBreach x)
   pub deeper : L .depth < depthIn x → (p : ℕ) × (judgedOf L words (written x) ≡ failed (Text (Deep p)))
 
 -- what an accepted localization of the card text t, of which f is the tree, has written, and the tree of its rows
@@ -56,13 +56,13 @@ pub record PatchedRows (L : Limits) (t : List ℕ) (f : Forest) (lang : Name) (t
 -- 5, or one of 11 to 14
 pub data OnlyInner : CardRefusal → Type 0 where
   deep : {p : ℕ} → OnlyInner (Text (Deep p))
-  fault : {f : Fault} → OnlyInner (Card f)
+  fault : {f : CardFault} → OnlyInner (Card f)
 
 module _ (L : Limits) (words room : ℕ) where
   pub record Readback : Type 0 where
     -- of a text that passes, if none of 21 to 26 is broken
     pub written-card : (t : List ℕ) (f : Forest) (lang : Name) (ms : Members) → judgedOf L words t ≡ passed f → PatchOf (docOf t f) lang ms
-        → ((m : ℕ) (q : LocalRefusal) → m < 27 → ¬ Broken L words room (docOf t f) lang m q) → WrittenCard L words t f (patchedDoc (docOf t f) ms)
+        → ((m : ℕ) (q : LocalRefusal) → m < 27 → ¬ BrokenCondition L words room (docOf t f) lang m q) → WrittenCard L words t f (patchedDoc (docOf t f) ms)
     pub accepted : (t : List ℕ) (lang : Name) (text : List ℕ) (g : Forest) → localizedOf L words room t lang ≡ done text g
         → (f : Forest) × (judgedOf L words t ≡ passed f) × PatchedRows L t f lang text g
     -- 27 never asks for more bytes than the card's text has

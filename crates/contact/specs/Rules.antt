@@ -1,11 +1,12 @@
 -- Rules between members (refusal 14), by object type. A member of the wrong kind counts as absent.
 -- Assumes nothing: these are definitions.
 use mathlib.Core.List.{List, [], _∷_}
-use mathlib.Core.Bool.{Bool, true, false, not, cond, _&&_, _||_}
+use mathlib.Core.Bool.{Bool, false, not, cond, _&&_, _||_}
 use mathlib.Core.Option.{Option, none, some}
 use lib.Dec.{eqb}
 use Rattle.text.specs.Text.{bytes}
 use Rattle.laws.specs.Order.{same}
+use Rattle.laws.specs.Tests.{anyMark, allMarks, adjacent}
 use Rattle.text.specs.Strings.{contentOf}
 use Rattle.text.specs.Doc.{Name, Doc, Members, empty, member, kindOf, tokenOf, below, Property, seek, isThere}
 use Rattle.contact.specs.Schema.{ObjectType, card, name, nameComponent, address, addressComponent, emailAddress, phone, Ty, properties, typeIn, fits}
@@ -51,20 +52,6 @@ marksOf (member n label d ms) = isSeparator d ∷ marksOf ms
 abbrev pub marks : Option Doc → List Bool
 marks none = []
 marks (some list) = marksOf (below list)
-
-unfoldable pub anyMark : List Bool → Bool
-anyMark [] = false
-anyMark (m ∷ ms) = m || anyMark ms
-
-unfoldable pub allMarks : List Bool → Bool
-allMarks [] = true
-allMarks (m ∷ ms) = m && allMarks ms
-
--- two in a row
-unfoldable pub adjacent : List Bool → Bool
-adjacent [] = false
-adjacent (m ∷ []) = false
-adjacent (m ∷ k ∷ ms) = (m && k) || adjacent (k ∷ ms)
 
 -- ---- the rules
 

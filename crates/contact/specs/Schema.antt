@@ -16,19 +16,19 @@ pub data ObjectType : Type 0 where
   card name nameComponent address addressComponent emailAddress phone : ObjectType
 
 -- what a value may be that holds no others
-pub data Simple : Type 0 where
+pub data SimpleType : Type 0 where
   -- String
-  anyString : Simple
+  anyString : SimpleType
   -- a String with just that content, as `@type` and `version`
-  exactly : Name → Simple
+  exactly : Name → SimpleType
   -- Boolean
-  flag : Simple
+  flag : SimpleType
   -- a value of a set: true
-  yes : Simple
+  yes : SimpleType
   -- UnsignedInt from low to high
-  count : (low high : ℕ) → Simple
+  count : (low high : ℕ) → SimpleType
   -- UTCDateTime
-  time : Simple
+  time : SimpleType
 
 -- the keys of a map: any, or Ids
 pub data Keys : Type 0 where
@@ -37,7 +37,7 @@ pub data Keys : Type 0 where
 pub data Ty : Type 0 where
   -- of an unknown property, and of what stands below it: nothing is judged
   any : Ty
-  simple : Simple → Ty
+  simple : SimpleType → Ty
   objectOf : ObjectType → Ty
   -- an array of such values
   listOf : Ty → Ty
@@ -137,7 +137,7 @@ typeIn (k ∷ ks) n = let more = typeIn ks n in cond (same n (k .spelling)) (k .
 
 -- ---- the JSON kinds of a type: 1 null, 2 false, 3 true, 4 number, 5 string, 6 array, 7 object. Null fits no listed type
 
-abbrev pub fitsSimple : Simple → ℕ → Bool
+abbrev pub fitsSimple : SimpleType → ℕ → Bool
 fitsSimple anyString kind = eqb kind 5
 fitsSimple (exactly n) kind = eqb kind 5
 fitsSimple flag kind = cond (eqb kind 2) true (eqb kind 3)

@@ -5,12 +5,8 @@ use mathlib.Core.List.{List, [], _∷_}
 use mathlib.Core.Bool.{Bool, true, false, cond}
 use lib.ListN.{length}
 use lib.Dec.{ltb, leb, eqb}
+use Rattle.laws.specs.Tests.{every}
 use Rattle.text.specs.Tokens.{isDigit}
-
--- every byte passes the test
-unfoldable pub every : (ℕ → Bool) → List ℕ → Bool
-every is [] = true
-every is (b ∷ bs) = let more = every is bs in cond (is b) more false
 
 -- A-Z a-z 0-9 - _
 unfoldable pub idByte : ℕ → Bool

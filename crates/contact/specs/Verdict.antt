@@ -14,8 +14,8 @@ use Rattle.text.specs.Sheet.{numbers, refused}
 use Rattle.text.specs.Whole.{wholeOf}
 use Rattle.text.specs.Doc.{docOf}
 use Rattle.contact.specs.Judge.{Breach, nothing, found, cardBreach}
-use Rattle.contact.specs.declared.Fault.{Fault}
-use Rattle.contact.specs.declared.Fault.the-variants.{Kind, Missing, Value, Rule}
+use Rattle.contact.specs.declared.CardFault.{CardFault}
+use Rattle.contact.specs.declared.CardFault.the-variants.{Kind, Missing, Value, Rule}
 use Rattle.contact.specs.declared.CardRefusal.{CardRefusal}
 use Rattle.contact.specs.declared.CardRefusal.the-variants.{Text, Card}
 use Rattle.contact.specs.declared.Verdict.{Verdict}
@@ -23,7 +23,7 @@ use Rattle.contact.specs.declared.Verdict.the-variants.{Passed, Failed}
 
 -- ---- the sheet's lines 11 to 14
 
-unfoldable pub refusedFault : Fault → Paper
+unfoldable pub refusedFault : CardFault → Paper
 refusedFault (Kind p) = numbers 11 p 0
 refusedFault (Missing p) = numbers 12 p 0
 refusedFault (Value p) = numbers 13 p 0
@@ -44,26 +44,31 @@ pub data Judged : Type 0 where
   passed : Forest → Judged
   failed : CardRefusal → Judged
 
-unfoldable pub faultOf : (number place : ℕ) → Fault
+unfoldable pub faultOf : (number place : ℕ) → CardFault
 faultOf number p = cond (eqb number 11) (Kind p) (cond (eqb number 12) (Missing p) (cond (eqb number 13) (Value p) (Rule p)))
 
 -- the place of a breach is where the value of its row starts
-unfoldable pub placed : Forest → Breach → Judged
-placed f nothing = passed f
-placed f (found row number) = failed (Card (faultOf number (getD (startsOf f) row 0)))
+unfoldable pub byBreach : Forest → Breach → Judged
+byBreach f nothing = passed f
+byBreach f (found row number) = failed (Card (faultOf number (getD (startsOf f) row 0)))
 
 unfoldable pub judgedRead : List ℕ → Read → Judged
 judgedRead t (bad r) = failed (Text r)
-judgedRead t (good f to) = placed f (cardBreach (docOf t f))
+judgedRead t (good f to) = byBreach f (cardBreach (docOf t f))
 
 -- a text judged for a table of so many words: 1 to 7 come first, then 11 to 14
 unfoldable pub judgedOf : Limits → (words : ℕ) → List ℕ → Judged
 judgedOf L words t = judgedRead t (wholeOf L words t)
 
+-- ---- the answer and the whole table
+
+abbrev pub answerOfJudged : Judged → Verdict
+answerOfJudged (passed f) = Passed (size f)
+answerOfJudged (failed r) = Failed r
+
 -- the answer in the paper's numbers: 0 and the row count, or the refusal's two numbers; this is the line that the program prints
 unfoldable pub sheetOfJudged : Judged → Paper
-sheetOfJudged (passed f) = numbers 0 (size f) 0
-sheetOfJudged (failed r) = refusedCard r
+sheetOfJudged j = paperOfVerdict (answerOfJudged j)
 
 -- the whole table: the rows and zero after them; after a refusal zero
 unfoldable pub tableOfJudged : (words : ℕ) → Judged → List ℕ

@@ -3,7 +3,7 @@
 use text::Refusal;
 
 // What is wrong with a card: numbers 11 to 14 of the refusal sheet, in its order, with the place of the value or object.
-pub enum Fault {
+pub enum CardFault {
     Kind(usize),
     Missing(usize),
     Value(usize),
@@ -13,7 +13,7 @@ pub enum Fault {
 // Why a card is refused: by reading, or by the card rules.
 pub enum CardRefusal {
     Text(Refusal),
-    Card(Fault),
+    Card(CardFault),
 }
 
 // What judging answers: the number of the card's rows, or the refusal.

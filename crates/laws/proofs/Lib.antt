@@ -12,6 +12,7 @@ pub mod Outcomes
 pub mod Parts
 pub mod Cleared
 pub mod Decides
+pub mod Tests
 pub mod Bools
 pub mod Sets
 pub mod Sorting

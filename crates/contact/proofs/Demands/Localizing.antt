@@ -1,4 +1,4 @@
--- Demand 3, of what localizing leaves, from `demand` and `readback`. Assumes nothing.
+-- Demand 3, of what localizing leaves, from `patching` and `readback`. Assumes nothing.
 use Prim.Native.Nat.{ℕ, _≤_, _<_}
 use native.Mathlib.Omega.{arith}
 use mathlib.Core.Path.{_≡_, refl, sym, _∙_}
@@ -14,15 +14,15 @@ use Rattle.text.specs.Whole.{readOf}
 use Rattle.text.specs.Doc.{Name, docOf}
 use Rattle.text.proofs.Promise.{whole-good}
 use Rattle.text.proofs.Grammar.Accepted.{accepts}
-use Rattle.contact.specs.Verdict.{Judged, passed, failed, judgedOf, sheetOfJudged}
-use Rattle.contact.specs.Localize.{refusedLocal, Outcome, done, denied, localizedDoc, localizedOf, sheetOfOutcome, tableOfOutcome, outputOfOutcome}
-use Rattle.contact.specs.Conditions.{Broken, Smallest}
+use Rattle.contact.specs.Verdict.{Judged, passed, failed, judgedOf, sheetOfJudged, paperOfVerdict}
+use Rattle.contact.specs.Localize.{refusedLocal, Outcome, done, denied, localizedDoc, localizedOf, sheetOfOutcome, tableOfOutcome, outputOfOutcome, answerOfOutcome, paperOfLocalized}
+use Rattle.contact.specs.Conditions.{BrokenCondition, Smallest}
 use Rattle.contact.specs.Services.{judge, localize, served}
 use Rattle.contact.specs.Demands.{Passes, Within, CardText, Localization}
 use Rattle.contact.specs.declared.LocalRefusal.{LocalRefusal}
 use Rattle.contact.proofs.Judging.{judging}
 use Rattle.contact.proofs.Patching.Public.{passed-so, failed-so}
-use Rattle.contact.proofs.Patching.Demand.{demand}
+use Rattle.contact.proofs.Patching.Together.{patching}
 use Rattle.contact.proofs.Patching.Readback.{readback}
 use Rattle.contact.proofs.Demands.Sheet.{line-of, local-line, local-some, Late, early, late-short, late-inner, late, same-number, same-second}
 
@@ -31,7 +31,7 @@ module _ (L : Limits) (unique : L .unique ≡ true) (words room : ℕ) (t : List
   outcome = localizedOf L words room t lang
 
   pub localize-own : ¬ Passes L (judge t words) → served L (localize t lang words room) .answer ≡ served L (judge t words) .answer
-  unfolding served sheetOfOutcome sheetOfJudged refusedLocal
+  unfolding served sheetOfOutcome paperOfLocalized answerOfOutcome sheetOfJudged paperOfVerdict refusedLocal
   localize-own not = go (judgedOf L words t) refl
     where
       go : (j : Judged) → judgedOf L words t ≡ j → sheetOfOutcome outcome ≡ sheetOfJudged (judgedOf L words t)
@@ -46,12 +46,12 @@ module _ (L : Limits) (unique : L .unique ≡ true) (words room : ℕ) (t : List
     -- the written text is a card
     pub card-written : (text : List ℕ) (g : Forest) → outcome ≡ done text g → readOf L text ≡ good g (length text) → CardText L words text g
     card-written text g e back =
-        let a = demand L words room .accepted (docOf t f) lang text g .0 (of-doc (done text g) e) in
+        let a = patching L words room .accepted (docOf t f) lang text g .0 (of-doc (done text g) e) in
         let (to, whole, keeps) = judging .accepted L words text g .0 (a .reads) in
         record { readable = record { accepts = accepts L text g .0 back; enough = whole-good L words text g to whole .room }; keeps = keeps }
 
     localization : (text : List ℕ) (g : Forest) → outcome ≡ done text g → Localization L words room t f lang
-    unfolding served sheetOfOutcome tableOfOutcome outputOfOutcome
+    unfolding served sheetOfOutcome paperOfLocalized answerOfOutcome tableOfOutcome outputOfOutcome
     localization text g e =
         let (h, k, rows) = readback L words room unique .accepted t lang text g e in
         let tree : h ≡ f = cc in
@@ -59,51 +59,51 @@ module _ (L : Limits) (unique : L .unique ≡ true) (words room : ℕ) (t : List
           text = text;
           tree = g;
           left = rw e;
-          patched = demand L words room .written-so (docOf t f) lang text g (of-doc (done text g) e);
+          patched = patching L words room .written-so (docOf t f) lang text g (of-doc (done text g) e);
           back = rw tree at rows;
           card = card-written text g e (rows .reads);
         }
 
     pub localize-patched : Passes L (localize t lang words room) → Localization L words room t f lang
-    unfolding served sheetOfOutcome
+    unfolding served sheetOfOutcome paperOfLocalized answerOfOutcome
     localize-patched = go outcome refl
       where
         go : (o : Outcome) → outcome ≡ o → sheetOfOutcome o .number ≡ 0 → Localization L words room t f lang
         go (done text g) e z = localization text g e
         go (denied r) e z = absurd (omega (arith, local-some (refusedLocal r .number) (line-of (local-line r))))
 
-    pub localize-accepted : Passes L (localize t lang words room) ↔ ((n : ℕ) (r : LocalRefusal) → ¬ Broken L words room (docOf t f) lang n r)
-    unfolding served sheetOfOutcome
+    pub localize-accepted : Passes L (localize t lang words room) ↔ ((n : ℕ) (r : LocalRefusal) → ¬ BrokenCondition L words room (docOf t f) lang n r)
+    unfolding served sheetOfOutcome paperOfLocalized answerOfOutcome
     localize-accepted = (λ z. unbroken outcome refl z, λ u. whole outcome refl u)
       where
-        unbroken : (o : Outcome) → outcome ≡ o → sheetOfOutcome o .number ≡ 0 → (n : ℕ) (r : LocalRefusal) → ¬ Broken L words room (docOf t f) lang n r
-        unbroken (done text g) e z = demand L words room .accepted (docOf t f) lang text g .0 (of-doc (done text g) e) .unbroken
+        unbroken : (o : Outcome) → outcome ≡ o → sheetOfOutcome o .number ≡ 0 → (n : ℕ) (r : LocalRefusal) → ¬ BrokenCondition L words room (docOf t f) lang n r
+        unbroken (done text g) e z = patching L words room .accepted (docOf t f) lang text g .0 (of-doc (done text g) e) .unbroken
         unbroken (denied r) e z = absurd (omega (arith, local-some (refusedLocal r .number) (line-of (local-line r))))
 
-        whole : (o : Outcome) → outcome ≡ o → ((n : ℕ) (r : LocalRefusal) → ¬ Broken L words room (docOf t f) lang n r) → sheetOfOutcome outcome .number ≡ 0
+        whole : (o : Outcome) → outcome ≡ o → ((n : ℕ) (r : LocalRefusal) → ¬ BrokenCondition L words room (docOf t f) lang n r) → sheetOfOutcome outcome .number ≡ 0
         whole (done text g) e u = rw e
-        whole (denied r) e u = absurd (u (refusedLocal r .number) r (demand L words room .refused (docOf t f) lang r .0 (of-doc (denied r) e) .broken))
+        whole (denied r) e u = absurd (u (refusedLocal r .number) r (patching L words room .refused (docOf t f) lang r .0 (of-doc (denied r) e) .broken))
 
     pub localize-refused : (n second : ℕ) → 0 < n
         → (served L (localize t lang words room) .answer ≡ numbers n second 0)
         ↔ ((r : LocalRefusal) × (refusedLocal r ≡ numbers n second 0) × Smallest L words room (docOf t f) lang n r)
-    unfolding served sheetOfOutcome
+    unfolding served sheetOfOutcome paperOfLocalized answerOfOutcome
     localize-refused n second some = (λ e. go outcome refl e, back)
       where
         go : (o : Outcome) → outcome ≡ o → sheetOfOutcome o ≡ numbers n second 0
             → (r : LocalRefusal) × (refusedLocal r ≡ numbers n second 0) × Smallest L words room (docOf t f) lang n r
         go (done text g) e q = absurd (omega (arith, same-number q))
-        go (denied r) e q = (r, q, rw (same-number q) at (demand L words room .refused (docOf t f) lang r .0 (of-doc (denied r) e)))
+        go (denied r) e q = (r, q, rw (same-number q) at (patching L words room .refused (docOf t f) lang r .0 (of-doc (denied r) e)))
 
         back : (r : LocalRefusal) × (refusedLocal r ≡ numbers n second 0) × Smallest L words room (docOf t f) lang n r → sheetOfOutcome outcome ≡ numbers n second 0
         back (r, q, s) =
-            let e = demand L words room .refused (docOf t f) lang r .1 (rw (sym (same-number q)) at s) in
+            let e = patching L words room .refused (docOf t f) lang r .1 (rw (sym (same-number q)) at s) in
             rw (passed-so L words room t lang f pass, e) q
 
   -- 27 and 28
   localize-late : (n second : ℕ) → 27 ≤ n → served L (localize t lang words room) .answer ≡ numbers n second 0
       → (r : LocalRefusal) × (outcome ≡ denied r) × (refusedLocal r ≡ numbers n second 0) × Late r
-  unfolding served sheetOfOutcome
+  unfolding served sheetOfOutcome paperOfLocalized answerOfOutcome
   localize-late n second w = go outcome refl
     where
       go : (o : Outcome) → outcome ≡ o → sheetOfOutcome o ≡ numbers n second 0 → (r : LocalRefusal) × (outcome ≡ denied r) × (refusedLocal r ≡ numbers n second 0) × Late r

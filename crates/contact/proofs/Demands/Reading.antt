@@ -32,7 +32,7 @@ use Rattle.text.proofs.Grammar.Rules.{wrong-number, breaks-wrong}
 use Rattle.text.proofs.Grammar.Wholes.{root-told, read-inside}
 use Rattle.text.proofs.Grammar.Accepted.{accepts}
 use Rattle.text.proofs.Grammar.Refused.{refuses, too-long}
-use Rattle.contact.specs.Verdict.{refusedCard, Judged, passed, failed, judgedRead, judgedOf, sheetOfJudged, tableOfJudged}
+use Rattle.contact.specs.Verdict.{refusedCard, Judged, passed, failed, judgedRead, judgedOf, sheetOfJudged, tableOfJudged, paperOfVerdict}
 use Rattle.contact.specs.Judging.{Says, unread, passes, breaks-first}
 use Rattle.contact.specs.Services.{read, judge, leaves, served}
 use Rattle.contact.specs.Demands.{Bytes, Passes, Within, Readable, CardText, RowsShort, Offends}
@@ -161,7 +161,7 @@ module _ (L : Limits) (words : ℕ) (t : List ℕ) where
   -- ---- judging
 
   pub judge-unread : ¬ Passes L (read t words) → served L (judge t words) ≡ served L (read t words)
-  unfolding served judgedOf judgedRead sheetOf tableOf sheetOfJudged tableOfJudged refusedCard
+  unfolding served judgedOf judgedRead sheetOf tableOf sheetOfJudged paperOfVerdict tableOfJudged refusedCard
   judge-unread not = go (wholeOf L words t) refl
     where
       go : (R : Read) → wholeOf L words t ≡ R → served L (judge t words) ≡ served L (read t words)
@@ -172,7 +172,7 @@ module _ (L : Limits) (words : ℕ) (t : List ℕ) where
   card-passed f c = judging .accepted L words t f .1 (length t, readable-good f (c .readable), c .keeps)
 
   pub judge-passes : Bytes t → Passes L (judge t words) ↔ ((f : Forest) × CardText L words t f)
-  unfolding served sheetOfJudged
+  unfolding served sheetOfJudged paperOfVerdict
   judge-passes small = (λ e. go (judgedOf L words t) refl e, λ (f, c). rw (card-passed f c))
     where
       go : (j : Judged) → judgedOf L words t ≡ j → sheetOfJudged j .number ≡ 0 → (f : Forest) × CardText L words t f
@@ -182,7 +182,7 @@ module _ (L : Limits) (words : ℕ) (t : List ℕ) where
           (f, record { readable = good-readable small f to whole; keeps = keeps })
 
   pub judge-rows : (f : Forest) → CardText L words t f → served L (judge t words) ≡ served L (read t words)
-  unfolding served sheetOf tableOf sheetOfJudged tableOfJudged
+  unfolding served sheetOf tableOf sheetOfJudged paperOfVerdict tableOfJudged
   judge-rows f c = rw (card-passed f c, readable-good f (c .readable))
 
   pub judge-offends : Bytes t → (n p : ℕ) → Passes L (read t words) → 0 < n → (served L (judge t words) .answer ≡ numbers n p 0) ↔ Offends L words t n p

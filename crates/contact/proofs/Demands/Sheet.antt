@@ -10,7 +10,7 @@ use Rattle.text.specs.declared.Refusal.the-variants.{TooLong, Grammar, Characte
 use Rattle.contact.specs.Verdict.{refusedFault, refusedCard}
 use Rattle.contact.specs.Localize.{refusedLocal}
 use Rattle.contact.specs.Demands.{Within}
-use Rattle.contact.specs.declared.Fault.the-variants.{Kind, Missing, Value, Rule}
+use Rattle.contact.specs.declared.CardFault.the-variants.{Kind, Missing, Value, Rule}
 use Rattle.contact.specs.declared.CardRefusal.{CardRefusal}
 use Rattle.contact.specs.declared.CardRefusal.the-variants.{Text, Card}
 use Rattle.contact.specs.declared.LocalRefusal.{LocalRefusal}

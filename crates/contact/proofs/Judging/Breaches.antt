@@ -1,4 +1,4 @@
--- The search of a card finds what specs/Breaks.antt says:
+-- The search of a card finds what specs/Breaches.antt says:
 --     first-breach    nothing, where nothing is broken; else the first row that breaks a line, with its smallest
 -- Assumes nothing.
 use Prim.Native.Nat.{ℕ, zero, suc, _+_, _≤_, _<_}
@@ -11,10 +11,10 @@ use Rattle.laws.proofs.Decides.{Decides, fails, swap, unless}
 use Rattle.text.specs.Doc.{Name, Doc, scalar, array, object, Members, empty, member, kindOf, below, countOf, countAll}
 use Rattle.contact.specs.Schema.{ObjectType, Known, Keys, free, ids, Ty, any, simple, objectOf, listOf, mapOf, card, properties}
 use Rattle.contact.specs.Judge.{memberType, keyIn, keyFits, Breach, nothing, found, onRow, orElse, breachOf, breachAmong, cardBreach}
-use Rattle.contact.specs.Kinds.{Suits, unknown}
-use Rattle.contact.specs.Breaks.{Under, key, Gives, property, element, entry, Among, first, later, At, root, inside, BadKey, no-id, Breaks, RowBreaks}
-use Rattle.contact.specs.Breaks as B
-use Rattle.contact.proofs.Judging.Leaves.{id-test}
+use Rattle.contact.specs.AskedKinds.{Suits, unknown}
+use Rattle.contact.specs.Breaches.{Under, key, Gives, of-object, of-list, of-map, Among, first, later, At, root, inside, UnallowedKey, no-id, BreaksLine, RowBreaks}
+use Rattle.contact.specs.Breaches as B
+use Rattle.contact.proofs.Judging.SimpleValues.{id-test}
 use Rattle.contact.proofs.Judging.Table.{Typed, line, no-line, type-in, line-of}
 use Rattle.contact.proofs.Judging.Rows.{RowSays, clean, worst, row-says}
 
@@ -34,7 +34,7 @@ deeper : {ty ty₁ ty₂ : Ty} {u u₁ u₂ : Under} {row r k : ℕ} {d v e : Do
 deeper self s a g = down s a g self
 deeper (down s₁ a₁ g₁ i) s a g = down s₁ a₁ g₁ (deeper i s a g)
 
-at-inside : {whole v : Doc} {row : ℕ} {ty : Ty} {u : Under} → At whole row ty u v → Inside row ty u v (objectOf card) B.nothing 0 whole
+at-inside : {whole v : Doc} {row : ℕ} {ty : Ty} {u : Under} → At whole row ty u v → Inside row ty u v (objectOf card) B.unkeyed 0 whole
 at-inside root = self
 at-inside (inside a s b g) = deeper (at-inside a) s b g
 
@@ -87,7 +87,7 @@ record Broken (ty : Ty) (u : Under) (row : ℕ) (d : Doc) (r m : ℕ) : Type 0 w
   under : Under
   value : Doc
   within : Inside r type under value ty u row d
-  breaks : Breaks m type under value
+  breaks : BreaksLine m type under value
 
 record HeadBroken (ty : Ty) (passed : List Name) (n : Name) (row : ℕ) (d : Doc) (r m : ℕ) : Type 0 where
   type : Ty
@@ -144,60 +144,60 @@ module _ {ty : Ty} {row r m : ℕ} where
 
 -- the definition's type and key of a member are those that the table gives; of an unknown property nothing is asked
 data Given (ty : Ty) (passed : List Name) (n : Name) : Ty → (key : Bool) → Type 0 where
-  given : {ty₁ : Ty} {u₁ : Under} {k : Bool} → Gives ty passed n ty₁ u₁ → Decides (BadKey u₁) (not k)
+  given : {ty₁ : Ty} {u₁ : Under} {k : Bool} → Gives ty passed n ty₁ u₁ → Decides (UnallowedKey u₁) (not k)
       → ((ty₂ : Ty) (u₂ : Under) → Gives ty passed n ty₂ u₂ → (ty₂ ≡ ty₁) × (u₂ ≡ u₁)) → Given ty passed n ty₁ k
   not-given : ((ty₂ : Ty) (u₂ : Under) → ¬ Gives ty passed n ty₂ u₂) → Given ty passed n any true
 
 gives-line : {o : ObjectType} {passed : List Name} {n : Name} {ty : Ty} {u : Under} → Gives (objectOf o) passed n ty u
-    → (k : Known) × In k (properties o) × (k .spelling ≡ n) × (ty ≡ k .type) × (u ≡ B.nothing)
-gives-line (property {k = k} i) = (k, i, refl, refl, refl)
+    → (k : Known) × In k (properties o) × (k .spelling ≡ n) × (ty ≡ k .type) × (u ≡ B.unkeyed)
+gives-line (of-object {k = k} i) = (k, i, refl, refl, refl)
 
 property-given : (o : ObjectType) (passed : List Name) (n : Name) {ty : Ty} → Typed (properties o) n ty → Given (objectOf o) passed n ty true
 property-given o passed n (line k i e) =
     given
-    (subst (λ (x : Name). Gives (objectOf o) passed x (k .type) B.nothing) e (property i))
+    (subst (λ (x : Name). Gives (objectOf o) passed x (k .type) B.unkeyed) e (of-object i))
     (fails (λ h. elim h [ ]))
     (λ ty₂ u₂ g. let l = gives-line g in (l .3 ∙ sym (line-of o (line k i e) (l .0) (l .1) (l .2)), l .4))
 property-given o passed n (no-line f) = not-given (λ ty₂ u₂ g. let l = gives-line g in f (l .0) (l .1) (l .2))
 
-key-test : (keys : Keys) (passed : List Name) (n : Name) → Decides (BadKey (key keys passed n)) (not (keyIn keys passed n))
+key-test : (keys : Keys) (passed : List Name) (n : Name) → Decides (UnallowedKey (key keys passed n)) (not (keyIn keys passed n))
 key-test free passed n = fails (λ h. elim h [ ])
 key-test ids passed n = swap no-id (λ h. elim h [ no-id f ↦ f ]) (unless (id-test n))
 
-gives-element : {ty ty₂ : Ty} {passed : List Name} {n : Name} {u : Under} → Gives (listOf ty) passed n ty₂ u → (ty₂ ≡ ty) × (u ≡ B.nothing)
-gives-element element = (refl, refl)
+gives-element : {ty ty₂ : Ty} {passed : List Name} {n : Name} {u : Under} → Gives (listOf ty) passed n ty₂ u → (ty₂ ≡ ty) × (u ≡ B.unkeyed)
+gives-element of-list = (refl, refl)
 
 gives-entry : {keys : Keys} {ty ty₂ : Ty} {passed : List Name} {n : Name} {u : Under} → Gives (mapOf keys ty) passed n ty₂ u
     → (ty₂ ≡ ty) × (u ≡ key keys passed n)
-gives-entry entry = (refl, refl)
+gives-entry of-map = (refl, refl)
 
 given-by : (ty : Ty) (passed : List Name) (n : Name) → Given ty passed n (memberType ty n) (keyFits ty passed n)
 given-by any passed n = not-given (λ ty₂ u₂ g. elim g [ ])
 given-by (simple l) passed n = not-given (λ ty₂ u₂ g. elim g [ ])
 given-by (objectOf o) passed n = property-given o passed n (type-in (properties o) n)
-given-by (listOf ty) passed n = given element (fails (λ h. elim h [ ])) (λ ty₂ u₂ g. gives-element g)
-given-by (mapOf keys ty) passed n = given entry (key-test keys passed n) (λ ty₂ u₂ g. gives-entry g)
+given-by (listOf ty) passed n = given of-list (fails (λ h. elim h [ ])) (λ ty₂ u₂ g. gives-element g)
+given-by (mapOf keys ty) passed n = given of-map (key-test keys passed n) (λ ty₂ u₂ g. gives-entry g)
 
 -- ---- the search
 
 -- of an unknown property nothing is broken
-nothing-asked : {row r m : ℕ} {d : Doc} → ¬ Broken any B.nothing row d r m
+nothing-asked : {row r m : ℕ} {d : Doc} → ¬ Broken any B.unkeyed row d r m
 nothing-asked b = go (b .within) (b .breaks)
   where
-    clean-any : {m : ℕ} {v : Doc} → ¬ Breaks m any B.nothing v
+    clean-any : {m : ℕ} {v : Doc} → ¬ BreaksLine m any B.unkeyed v
     clean-any (B.kind f) = f unknown
     clean-any (B.missing _ l) = elim l [ ]
     clean-any (B.value _ a) = elim a [ ]
     clean-any (B.badly-keyed _ k) = elim k [ ]
     clean-any (B.rule _ h) = elim h [ ]
 
-    go : {row r m : ℕ} {ty : Ty} {u : Under} {d v : Doc} → Inside r ty u v any B.nothing row d → Breaks m ty u v → ⊥
+    go : {row r m : ℕ} {ty : Ty} {u : Under} {d v : Doc} → Inside r ty u v any B.unkeyed row d → BreaksLine m ty u v → ⊥
     go self h = clean-any h
     go (down s a g i) h = elim g [ ]
 
 -- a member's breach is that of the type that is asked of it
 head-least : {ty ty₁ : Ty} {passed : List Name} {n : Name} {k : Bool} {row : ℕ} {d : Doc} {b : Breach} → Given ty passed n ty₁ k
-    → ((u : Under) → Decides (BadKey u) (not k) → Least (Broken ty₁ u row d) b) → Least (HeadBroken ty passed n row d) b
+    → ((u : Under) → Decides (UnallowedKey u) (not k) → Least (Broken ty₁ u row d) b) → Least (HeadBroken ty passed n row d) b
 head-least {ty₁ = ty₁} {row = row} {d = d} (given {u₁ = u₁} g bk same) least =
     least-as
     (λ r m h. record { type = _; under = _; gives = g; broken = h })
@@ -209,15 +209,15 @@ head-least (not-given f) least =
     least-as
     (λ r m h. absurd (nothing-asked h))
     (λ r m h. absurd (f (h .type) (h .under) (h .gives)))
-    (least B.nothing (fails (λ h. elim h [ ])))
+    (least B.unkeyed (fails (λ h. elim h [ ])))
 
 on-row : (n row : ℕ) (b : Breach) → 1 ≤ n → onRow n row b ≡ found row n
 on-row zero row b h = absurd (omega arith)
 on-row (suc n) row b h = refl
 
 -- on its own row a value's own lines alone are broken
-own-row : {ty ty₁ : Ty} {u u₁ : Under} {row r m n : ℕ} {d v : Doc} → ((l : ℕ) → Breaks l ty u d → n ≤ l) → Inside r ty₁ u₁ v ty u row d
-    → Breaks m ty₁ u₁ v → r ≡ row → n ≤ m
+own-row : {ty ty₁ : Ty} {u u₁ : Under} {row r m n : ℕ} {d v : Doc} → ((l : ℕ) → BreaksLine l ty u d → n ≤ l) → Inside r ty₁ u₁ v ty u row d
+    → BreaksLine m ty₁ u₁ v → r ≡ row → n ≤ m
 own-row least self h e = least _ h
 own-row least (down s a g i) h e = absurd (omega (arith, inside-rows i .0))
 
@@ -232,7 +232,7 @@ row-least {ty} {u} {row} {d = d} (clean s f) least = least-as enter leave least
         let x = h .broken in
         record { type = x .type; under = x .under; value = x .value; within = down s (a .among) (h .gives) (x .within); breaks = x .breaks }
 
-    go : {r m : ℕ} {ty₁ : Ty} {u₁ : Under} {v : Doc} → Inside r ty₁ u₁ v ty u row d → Breaks m ty₁ u₁ v → AmongBroken ty [] (row + 1) (below d) r m
+    go : {r m : ℕ} {ty₁ : Ty} {u₁ : Under} {v : Doc} → Inside r ty₁ u₁ v ty u row d → BreaksLine m ty₁ u₁ v → AmongBroken ty [] (row + 1) (below d) r m
     go self h = absurd (f _ h)
     go (down _ a g i) h =
         record {
@@ -261,7 +261,7 @@ rows-rise h b = let x = broken-rows (h .broken) in let y = broken-rows (b .broke
 mutual
   unfolding breachOf breachAmong
 
-  value-least : (ty : Ty) (u : Under) (k : Bool) (row : ℕ) (d : Doc) → Decides (BadKey u) (not k) → Least (Broken ty u row d) (breachOf ty k row d)
+  value-least : (ty : Ty) (u : Under) (k : Bool) (row : ℕ) (d : Doc) → Decides (UnallowedKey u) (not k) → Least (Broken ty u row d) (breachOf ty k row d)
   value-least ty u k row (scalar kind token) bk = row-least (row-says ty u k (scalar kind token) bk) none-among
   value-least ty u k row (array ms) bk = row-least (row-says ty u k (array ms) bk) (members-least ty [] (row + 1) ms)
   value-least ty u k row (object ms) bk = row-least (row-says ty u k (object ms) bk) (members-least ty [] (row + 1) ms)
@@ -281,7 +281,7 @@ first-breach whole =
     least-as
     (λ r m b. record { type = b .type; under = b .under; value = b .value; stands = inside-at (b .within) root; broken = b .breaks })
     (λ r m b. record { type = b .type; under = b .under; value = b .value; within = at-inside (b .stands); breaks = b .broken })
-    (value-least (objectOf card) B.nothing true 0 whole (fails (λ h. elim h [ ])))
+    (value-least (objectOf card) B.unkeyed true 0 whole (fails (λ h. elim h [ ])))
 
 -- a row that breaks something is a row of the document
 pub broken-row : {whole : Doc} {row number : ℕ} → RowBreaks whole row number → row < countOf whole

@@ -13,14 +13,14 @@ use Rattle.text.specs.Strings.{contentOf}
 use Rattle.text.specs.Doc.{Doc, Members, kindOf, tokenOf, below}
 use Rattle.contact.specs.Schema.{anyString, exactly, flag, yes, count, time, Ty, any, simple, objectOf, listOf, mapOf, Known, properties}
 use Rattle.contact.specs.Judge.{lacking, lacks, allowed, breaksRule, rowNumber}
-use Rattle.contact.specs.Kinds.{Suits}
-use Rattle.contact.specs.Between.{Has}
-use Rattle.contact.specs.Breaks.{Under, Lacks, Unallowed, other-string, not-true, no-count, no-time, BadKey, Unruly, between, Breaks, kind, missing, value, badly-keyed, rule}
-use Rattle.contact.specs.Breaks as B
-use Rattle.contact.proofs.Judging.Leaves.{count-test}
+use Rattle.contact.specs.AskedKinds.{Suits}
+use Rattle.contact.specs.BetweenMembers.{HasMember}
+use Rattle.contact.specs.Breaches.{Under, Lacks, Unallowed, other-string, not-true, no-count, no-time, UnallowedKey, Unruly, between, BreaksLine, kind, missing, value, badly-keyed, rule}
+use Rattle.contact.specs.Breaches as B
+use Rattle.contact.proofs.Judging.SimpleValues.{count-test}
 use Rattle.contact.proofs.Judging.Times.{time-test}
 use Rattle.contact.proofs.Judging.Table.{fits-test}
-use Rattle.contact.proofs.Judging.Between.{there-test, between-test}
+use Rattle.contact.proofs.Judging.BetweenMembers.{there-test, between-test}
 
 -- ---- 12
 
@@ -28,7 +28,7 @@ record Missing (ks : List Known) (ms : Members) : Type 0 where
   line : Known
   listed : In line ks
   mandatory : line .mandatory ≡ true
-  nowhere : (d : Doc) → ¬ Has ms (line .spelling) d
+  nowhere : (d : Doc) → ¬ HasMember ms (line .spelling) d
 
 lacking-test : (ks : List Known) (ms : Members) → Decides (Missing ks ms) (lacking ks ms)
 unfolding lacking
@@ -36,18 +36,18 @@ lacking-test [] ms = fails (λ h. not-nil (h .listed))
 lacking-test (k ∷ ks) ms =
     swap (⊎-elim now further) parts (grants (both (itself (k .mandatory)) (unless (there-test (k .spelling) ms))) (lacking-test ks ms))
   where
-    now : (k .mandatory ≡ true) × (((d : Doc) × Has ms (k .spelling) d) → ⊥) → Missing (k ∷ ks) ms
+    now : (k .mandatory ≡ true) × (((d : Doc) × HasMember ms (k .spelling) d) → ⊥) → Missing (k ∷ ks) ms
     now h = record { line = k; listed = head refl; mandatory = h .0; nowhere = λ d x. h .1 (d, x) }
 
     further : Missing ks ms → Missing (k ∷ ks) ms
     further h = record { line = h .line; listed = tail (h .listed); mandatory = h .mandatory; nowhere = h .nowhere }
 
-    parts : Missing (k ∷ ks) ms → ((k .mandatory ≡ true) × (((d : Doc) × Has ms (k .spelling) d) → ⊥)) ⊎ Missing ks ms
+    parts : Missing (k ∷ ks) ms → ((k .mandatory ≡ true) × (((d : Doc) × HasMember ms (k .spelling) d) → ⊥)) ⊎ Missing ks ms
     parts h =
         ⊎-elim
         (λ (e : h .line ≡ k). inl (
           subst (λ (x : Known). x .mandatory ≡ true) e (h .mandatory),
-          subst (λ (x : Known). ((d : Doc) × Has ms (x .spelling) d) → ⊥) e (λ x. h .nowhere (x .0) (x .1)),
+          subst (λ (x : Known). ((d : Doc) × HasMember ms (x .spelling) d) → ⊥) e (λ x. h .nowhere (x .0) (x .1)),
         ))
         (λ (i : In (h .line) ks). inr (record { line = h .line; listed = i; mandatory = h .mandatory; nowhere = h .nowhere }))
         (cases (h .listed))
@@ -91,40 +91,40 @@ unruly-test (mapOf keys ty) ms = fails (λ h. elim h [ ])
 -- ---- the row's number
 
 pub data RowSays (ty : Ty) (u : Under) (v : Doc) : (number : ℕ) → Type 0 where
-  clean : Suits ty (kindOf v) → ((m : ℕ) → ¬ Breaks m ty u v) → RowSays ty u v 0
-  worst : {n : ℕ} → 1 ≤ n → Breaks n ty u v → ((m : ℕ) → Breaks m ty u v → n ≤ m) → RowSays ty u v n
+  clean : Suits ty (kindOf v) → ((m : ℕ) → ¬ BreaksLine m ty u v) → RowSays ty u v 0
+  worst : {n : ℕ} → 1 ≤ n → BreaksLine n ty u v → ((m : ℕ) → BreaksLine m ty u v → n ≤ m) → RowSays ty u v n
 
 module _ {ty : Ty} {u : Under} {v : Doc} where
   -- what is left to break, as the numbers rise
-  kind-only : ¬ Suits ty (kindOf v) → (m : ℕ) → Breaks m ty u v → m ≡ 11
+  kind-only : ¬ Suits ty (kindOf v) → (m : ℕ) → BreaksLine m ty u v → m ≡ 11
   kind-only f m (kind _) = refl
   kind-only f m (missing s _) = absurd (f s)
   kind-only f m (value s _) = absurd (f s)
   kind-only f m (badly-keyed s _) = absurd (f s)
   kind-only f m (rule s _) = absurd (f s)
 
-  from-12 : Suits ty (kindOf v) → (m : ℕ) → Breaks m ty u v → 12 ≤ m
+  from-12 : Suits ty (kindOf v) → (m : ℕ) → BreaksLine m ty u v → 12 ≤ m
   from-12 s m (kind f) = absurd (f s)
   from-12 s m (missing _ _) = lit≤ tt
   from-12 s m (value _ _) = lit≤ tt
   from-12 s m (badly-keyed _ _) = lit≤ tt
   from-12 s m (rule _ _) = lit≤ tt
 
-  from-13 : Suits ty (kindOf v) → ¬ Lacks ty (below v) → (m : ℕ) → Breaks m ty u v → 13 ≤ m
+  from-13 : Suits ty (kindOf v) → ¬ Lacks ty (below v) → (m : ℕ) → BreaksLine m ty u v → 13 ≤ m
   from-13 s l m (kind f) = absurd (f s)
   from-13 s l m (missing _ h) = absurd (l h)
   from-13 s l m (value _ _) = lit≤ tt
   from-13 s l m (badly-keyed _ _) = lit≤ tt
   from-13 s l m (rule _ _) = lit≤ tt
 
-  rule-only : Suits ty (kindOf v) → ¬ Lacks ty (below v) → ¬ BadKey u → ¬ Unallowed ty v → (m : ℕ) → Breaks m ty u v → (m ≡ 14) × Unruly ty (below v)
+  rule-only : Suits ty (kindOf v) → ¬ Lacks ty (below v) → ¬ UnallowedKey u → ¬ Unallowed ty v → (m : ℕ) → BreaksLine m ty u v → (m ≡ 14) × Unruly ty (below v)
   rule-only s l k a m (kind f) = absurd (f s)
   rule-only s l k a m (missing _ h) = absurd (l h)
   rule-only s l k a m (value _ h) = absurd (a h)
   rule-only s l k a m (badly-keyed _ h) = absurd (k h)
   rule-only s l k a m (rule _ h) = (refl, h)
 
-  says : {f l r : Bool} (k a : Bool) → Decides (Suits ty (kindOf v)) f → Decides (Lacks ty (below v)) l → Decides (BadKey u) (not k)
+  says : {f l r : Bool} (k a : Bool) → Decides (Suits ty (kindOf v)) f → Decides (Lacks ty (below v)) l → Decides (UnallowedKey u) (not k)
       → Decides (Unallowed ty v) (not a) → Decides (Unruly ty (below v)) r → RowSays ty u v (cond f (cond l 12 (cond (k && a) (cond r 14 0) 13)) 11)
   says k a (fails f) l bk ua r = worst (lit≤ tt) (kind f) (λ m b. omega (arith, kind-only f m b))
   says k a (holds s) (holds l) bk ua r = worst (lit≤ tt) (missing s l) (from-12 s)
@@ -135,7 +135,7 @@ module _ {ty : Ty} {u : Under} {v : Doc} where
   says true true (holds s) (fails l) bk ua (fails r) = clean s (λ m b. r (rule-only s l (denied bk refl) (denied ua refl) m b .1))
 
 -- the key is allowed by the test just if it isn't bad
-pub row-says : (ty : Ty) (u : Under) (key : Bool) (v : Doc) → Decides (BadKey u) (not key) → RowSays ty u v (rowNumber ty key v)
+pub row-says : (ty : Ty) (u : Under) (key : Bool) (v : Doc) → Decides (UnallowedKey u) (not key) → RowSays ty u v (rowNumber ty key v)
 unfolding rowNumber
 row-says ty u key v k =
     says key (allowed ty (kindOf v) (tokenOf v)) (fits-test ty (kindOf v)) (lacks-test ty (below v)) k (unallowed-test ty v) (unruly-test ty (below v))

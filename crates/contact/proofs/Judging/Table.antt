@@ -13,7 +13,7 @@ use Rattle.laws.specs.Order.{orderOf, same}
 use Rattle.laws.proofs.Decides.{Decides, holds, fails, told, itself, swap, equal, bytes-same, both, unless, grants}
 use Rattle.text.specs.Doc.{Name}
 use Rattle.contact.specs.Schema.{ObjectType, card, name, nameComponent, address, addressComponent, emailAddress, phone, anyString, exactly, flag, yes, count, time, Ty, any, simple, objectOf, listOf, mapOf, Known, properties, typeIn, fits}
-use Rattle.contact.specs.Kinds.{Suits, Tabled, unknown, string, fixed, utc, integer, off, on, out, within, list, typed, map}
+use Rattle.contact.specs.AskedKinds.{Suits, Tabled, unknown, string, fixed, utc, integer, off, on, out, within, list, typed, map}
 
 -- ---- kinds
 

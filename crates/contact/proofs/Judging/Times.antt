@@ -1,4 +1,4 @@
--- The test on times decides what specs/Leaves.antt says:
+-- The test on times decides what specs/SimpleValues.antt says:
 --     leap-test     leap years
 --     month-days    the table of month lengths, with February: its rule, for all twelve
 --     day-test      days of the Gregorian calendar
@@ -17,8 +17,8 @@ use Rattle.laws.proofs.Decides.{Decides, holds, fails, told, itself, test-true,
 use Rattle.contact.specs.Dates.{monthLengths, isLeap, daysOf, isDay, shaped, fractionEnds, twoAt, ends, inRange, isTime}
 use Rattle.text.specs.Text.{bytes}
 use Rattle.text.specs.Tokens.{isDigit}
-use Rattle.contact.proofs.Judging.Leaves.{digit-test, digit-of, digit-byte}
-use Rattle.contact.specs.Leaves.{Between, Leap, fourth, century, MonthDays, january, february, leap-february, march, april, may, june, july, august, september, october, november, december, Day, digit, Two, two, Four, four, Fraction, fraction, Zone, utc, after, UTCDateTime, moment}
+use Rattle.contact.proofs.Judging.SimpleValues.{digit-test, digit-of, digit-byte}
+use Rattle.contact.specs.SimpleValues.{DigitByte, Leap, fourth, century, MonthDays, january, february, leap-february, march, april, may, june, july, august, september, october, november, december, Day, digit, Two, two, Four, four, Fraction, fraction, Zone, utc, after, UTCDateTime, moment}
 
 -- ---- leap years
 
@@ -117,7 +117,7 @@ day-test y m d =
 -- digits and then Z, where the last digit, or the byte before if there is none, isn't 0
 data Ended : (last : ℕ) → (digits : List ℕ) → Type 0 where
   here : {l : ℕ} → ¬ (l ≡ 48) → Ended l []
-  on : {l d : ℕ} {ds : List ℕ} → Between "0" "9" d → Ended d ds → Ended l (d ∷ ds)
+  on : {l d : ℕ} {ds : List ℕ} → DigitByte d → Ended d ds → Ended l (d ∷ ds)
 
 record Ending (last : ℕ) (bs : List ℕ) : Type 0 where
   digits : List ℕ
@@ -141,10 +141,10 @@ fraction-true (on {d = d} r (here f)) = rw (test-true (digit-test d) r) (fractio
 fraction-true (on {d = d} r (on q e)) = rw (test-true (digit-test d) r) (fraction-true (on q e))
 
 -- digits that end so are a fraction; and a fraction ends so, whatever stands before it
-longer : {d : ℕ} {ds : List ℕ} → Between "0" "9" d → (ds ≡ [] × ¬ (d ≡ 48)) ⊎ Fraction ds → Fraction (d ∷ ds)
+longer : {d : ℕ} {ds : List ℕ} → DigitByte d → (ds ≡ [] × ¬ (d ≡ 48)) ⊎ Fraction ds → Fraction (d ∷ ds)
 longer {d} r (inl h) = rw (h .0) (fraction none (digit-of d r) (positive d r (h .1)))
   where
-    positive : (d : ℕ) → Between "0" "9" d → ¬ (d ≡ 48) → 1 ≤ d - 48
+    positive : (d : ℕ) → DigitByte d → ¬ (d ≡ 48) → 1 ≤ d - 48
     positive d r f = omega arith
 longer r (inr (fraction rs b k)) = fraction (more r rs) b k
 
@@ -152,7 +152,7 @@ ended-fraction : {l : ℕ} {ds : List ℕ} → Ended l ds → (ds ≡ [] × ¬ (
 ended-fraction (here f) = inl (refl, f)
 ended-fraction (on r e) = inr (longer r (ended-fraction e))
 
-digits-ended : {l v : ℕ} {ds : List ℕ} → Each (Between "0" "9") ds → v < 10 → 1 ≤ v → Ended l (ds ++ (48 + v) ∷ [])
+digits-ended : {l v : ℕ} {ds : List ℕ} → Each DigitByte ds → v < 10 → 1 ≤ v → Ended l (ds ++ (48 + v) ∷ [])
 digits-ended {v = v} none h k = on (digit-byte (digit h)) (here (λ (e : 48 + v ≡ 48). omega arith))
 digits-ended (more r rs) h k = on r (digits-ended rs h k)
 

@@ -21,11 +21,11 @@ use Rattle.text.specs.Writable.{Lexeme}
 use Rattle.text.proofs.Promise.{Fits, whole-good, promised, count-root}
 use Rattle.text.proofs.Labels.{labels-said}
 use Rattle.text.proofs.Readback.Documents.{text-writable}
-use Rattle.contact.specs.Verdict.{passed, failed, placed, judgedOf}
+use Rattle.contact.specs.Verdict.{passed, failed, judgedOf}
 use Rattle.contact.specs.Patch.{entriesOf, applied}
 use Rattle.contact.specs.Localize.{refusedLocal, done, denied, start, patchAt, localizedOf}
 use Rattle.contact.specs.Entries.{NoClash, ParentsThere}
-use Rattle.contact.specs.Conditions.{PatchOf, Broken, unfit, Smallest, Accepted}
+use Rattle.contact.specs.Conditions.{PatchOf, BrokenCondition, unfit, Smallest, Accepted}
 use Rattle.contact.specs.declared.CardRefusal.{CardRefusal}
 use Rattle.contact.specs.declared.LocalRefusal.the-variants.{Inner}
 use Rattle.contact.proofs.Judging.{judging}
@@ -109,7 +109,7 @@ module _ (L : Limits) (words : ℕ) (t : List ℕ) (f : Forest) (unique : L .uni
       refused-iff L words room card lang (Inner r) .0 (sym (passed-so L words room t lang f pass) ∙ e) in
       go (refusedLocal (Inner r) .number) s (s .broken)
     where
-      go : (n : ℕ) → Smallest L words room card lang n (Inner r) → Broken L words room card lang n (Inner r) → InnerOf L words t f lang r
+      go : (n : ℕ) → Smallest L words room card lang n (Inner r) → BrokenCondition L words room card lang n (Inner r) → InnerOf L words t f lang r
       go n s (unfit {ms = ms} patch k) =
           let h : Fine card ms =
           fine L words room card lang ms patch (λ m q l b. let i : 28 ≤ m = s .least m q b in omega arith) in

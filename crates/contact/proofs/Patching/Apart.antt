@@ -10,6 +10,7 @@ use mathlib.Core.Bool.{Bool, true, false, _||_, true≢false}
 use mathlib.Core.List.{List, [], _∷_, _++_, append-nil, head-eq-of-cons-eq, tail-eq-of-cons-eq}
 use mathlib.Core.Logic.{_↔_, _⊎_, inl, inr}
 use mathlib.Core.Path.{_≡_, refl, sym, ap, ap₂, _∙_}
+use Rattle.laws.specs.Sorting.{Perm, stay, skip, swap, andThen}
 use Rattle.laws.proofs.Bools.{byTest, or-false, both-false, swap-or}
 use Rattle.laws.specs.Order.{same}
 use Rattle.laws.proofs.Orders.{same-eq}
@@ -17,7 +18,7 @@ use Rattle.text.specs.Text.{bytes}
 use Rattle.text.specs.Doc.{Name, Doc}
 use Rattle.contact.specs.Pointer.{Pointer, last, down, parts, firstPart, clash}
 use Rattle.contact.specs.Patch.{Entry, entry, Walk, arrives, inArray, noObject, walk, anyOwn, clashWith, anyClash, isInArray, isNoObject, anyWalk}
-use Rattle.contact.specs.Entries.{Prefix, Names, Covers, Clear, Apart, ApartFrom, NoClash, ParentsThere, Perm, stay, skip, swap, then}
+use Rattle.contact.specs.Entries.{Prefix, Names, Covers, Clear, Apart, ApartFrom, NoClash, ParentsThere}
 use Rattle.contact.proofs.Patching.Names.{same-yes, same-no, byName}
 use Rattle.contact.proofs.Patching.Entries.{apart-sym}
 
@@ -143,27 +144,27 @@ clash-sym p q =
 
 perm-clashWith : {es fs : List Entry} (p : Pointer) → Perm es fs → clashWith p es ≡ clashWith p fs
 perm-clashWith p stay = refl
-perm-clashWith p (skip {e = entry q c} π) = ap (λ (b : Bool). clash p q || b) (perm-clashWith p π)
-perm-clashWith p (swap {e = entry q c} {f = entry r c′} {es = es}) = swap-or false (clash p q) (clash p r) (clashWith p es)
-perm-clashWith p (then π ρ) = perm-clashWith p π ∙ perm-clashWith p ρ
+perm-clashWith p (skip {x = entry q c} π) = ap (λ (b : Bool). clash p q || b) (perm-clashWith p π)
+perm-clashWith p (swap {x = entry q c} {y = entry r c′} {xs = es}) = swap-or false (clash p q) (clash p r) (clashWith p es)
+perm-clashWith p (andThen π ρ) = perm-clashWith p π ∙ perm-clashWith p ρ
 
 pub perm-anyClash : {es fs : List Entry} → Perm es fs → anyClash es ≡ anyClash fs
 perm-anyClash stay = refl
-perm-anyClash (skip {e = entry q c} π) = ap₂ _||_ (perm-clashWith q π) (perm-anyClash π)
-perm-anyClash (swap {e = entry q c} {f = entry r c′} {es = es}) =
+perm-anyClash (skip {x = entry q c} π) = ap₂ _||_ (perm-clashWith q π) (perm-anyClash π)
+perm-anyClash (swap {x = entry q c} {y = entry r c′} {xs = es}) =
     ap (λ (b : Bool). (b || clashWith q es) || (clashWith r es || anyClash es)) (clash-sym q r)
     ∙ swap-or (clash r q) (clashWith q es) (clashWith r es) (anyClash es)
-perm-anyClash (then π ρ) = perm-anyClash π ∙ perm-anyClash ρ
+perm-anyClash (andThen π ρ) = perm-anyClash π ∙ perm-anyClash ρ
 
 pub perm-anyWalk : {es fs : List Entry} (f : Walk → Bool) (d : Doc) → Perm es fs → anyWalk f es d ≡ anyWalk f fs d
 perm-anyWalk f d stay = refl
-perm-anyWalk f d (skip {e = entry q c} π) = ap (λ (b : Bool). f (walk q d) || b) (perm-anyWalk f d π)
-perm-anyWalk f d (swap {e = entry q c} {f = entry r c′} {es = es}) = swap-or false (f (walk q d)) (f (walk r d)) (anyWalk f es d)
-perm-anyWalk f d (then π ρ) = perm-anyWalk f d π ∙ perm-anyWalk f d ρ
+perm-anyWalk f d (skip {x = entry q c} π) = ap (λ (b : Bool). f (walk q d) || b) (perm-anyWalk f d π)
+perm-anyWalk f d (swap {x = entry q c} {y = entry r c′} {xs = es}) = swap-or false (f (walk q d)) (f (walk r d)) (anyWalk f es d)
+perm-anyWalk f d (andThen π ρ) = perm-anyWalk f d π ∙ perm-anyWalk f d ρ
 
 pub perm-anyOwn : {es fs : List Entry} → Perm es fs → anyOwn es ≡ anyOwn fs
 perm-anyOwn stay = refl
-perm-anyOwn (skip {e = entry p c} π) = ap (λ (b : Bool). same (firstPart p) (bytes "localizations") || b) (perm-anyOwn π)
-perm-anyOwn (swap {e = entry p c} {f = entry q c′} {es = es}) =
+perm-anyOwn (skip {x = entry p c} π) = ap (λ (b : Bool). same (firstPart p) (bytes "localizations") || b) (perm-anyOwn π)
+perm-anyOwn (swap {x = entry p c} {y = entry q c′} {xs = es}) =
     swap-or false (same (firstPart p) (bytes "localizations")) (same (firstPart q) (bytes "localizations")) (anyOwn es)
-perm-anyOwn (then π ρ) = perm-anyOwn π ∙ perm-anyOwn ρ
+perm-anyOwn (andThen π ρ) = perm-anyOwn π ∙ perm-anyOwn ρ

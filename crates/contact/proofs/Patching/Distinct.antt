@@ -5,6 +5,7 @@ use mathlib.Core.Option.{Option, none, some, Option·none-ne-some, Option·some-
 use mathlib.Core.Path.{_≡_, refl, sym, ap, _∙_, subst}
 use Prim.Native.Nat.{ℕ}
 use lib.Dec.{eqb}
+use Rattle.laws.specs.Sorting.{Perm, stay, skip, swap, andThen}
 use Rattle.laws.proofs.Bools.{byTest}
 use Rattle.laws.specs.Order.{same, before}
 use Rattle.laws.proofs.Orders.{same-refl}
@@ -12,13 +13,22 @@ use Rattle.text.specs.Text.{bytes}
 use Rattle.text.specs.Doc.{Name, Doc, scalar, array, object, Members, empty, member, Property, property, seek}
 use Rattle.text.specs.Distinct.{Distinct, DistinctMembers}
 use Rattle.contact.specs.Pointer.{Pointer, last, down, find}
-use Rattle.contact.specs.Patch.{Change, remove, set, Entry, entry, changeOf, entriesOf, Walk, arrives, inArray, noObject, walk, write, without, put, alter, changed, whenArrived, andThen, run, mine, under, insert, fresh, added, keep, applied, kept}
+use Rattle.contact.specs.Patch.{Change, remove, set, Entry, entry, changeOf, entriesOf, Walk, arrives, inArray, noObject, walk, write, without, put, alter, changed, whenArrived, runOn, run, mine, under, insert, fresh, added, keep, applied, kept}
 use Rattle.contact.specs.Localize.{start}
-use Rattle.contact.specs.Entries.{NoClash, DistinctChange, DistinctValues, Perm, stay, skip, swap, then}
+use Rattle.contact.specs.Entries.{NoClash}
 use Rattle.contact.proofs.Patching.Names.{same-yes, same-no, byName}
 use Rattle.contact.proofs.Patching.Seek.{seek-write-other, seek-without-other, seek-alter-other, find-has}
 use Rattle.contact.proofs.Patching.Applied.{seek-insert-other, said, mine-none, added-old, added-new, orMore, seek-kept}
 use Rattle.contact.proofs.Patching.Entries.{under-noclash}
+
+-- no value that is set has two members of one name in one object
+abbrev DistinctChange : Change → Type 0
+DistinctChange remove = Unit {0}
+DistinctChange (set v) = Distinct v
+
+abbrev pub DistinctValues : List Entry → Type 0
+DistinctValues [] = Unit {0}
+DistinctValues (entry p c ∷ es) = DistinctChange c × DistinctValues es
 
 -- ---- one entry at a time
 
@@ -59,7 +69,7 @@ pub distinct-run : (es : List Entry) (d e : Doc) → DistinctValues es → Disti
 distinct-run [] d e k h r = subst Distinct (Option·some-injective d e r) h
 distinct-run (entry p c ∷ es) d e k h r = go (walk p d) r (distinct-run es (changed p c d) e (k .1) (distinct-changed p c d (k .0) h))
   where
-    go : (w : Walk) → andThen (run es) (whenArrived w (changed p c d)) ≡ some e → (run es (changed p c d) ≡ some e → Distinct e) → Distinct e
+    go : (w : Walk) → runOn (run es) (whenArrived w (changed p c d)) ≡ some e → (run es (changed p c d) ≡ some e → Distinct e) → Distinct e
     go arrives q f = f q
     go inArray q f = absurd (Option·none-ne-some e q)
     go noObject q f = absurd (Option·none-ne-some e q)
@@ -138,9 +148,9 @@ mutual
 
 pub perm-values : {es fs : List Entry} → Perm es fs → DistinctValues es → DistinctValues fs
 perm-values stay h = h
-perm-values (skip {e = entry p c} π) h = (h .0, perm-values π (h .1))
-perm-values (swap {e = entry p c} {f = entry q c′}) h = (h .1 .0, (h .0, h .1 .1))
-perm-values (then π ρ) h = perm-values ρ (perm-values π h)
+perm-values (skip {x = entry p c} π) h = (h .0, perm-values π (h .1))
+perm-values (swap {x = entry p c} {y = entry q c′}) h = (h .1 .0, (h .0, h .1 .1))
+perm-values (andThen π ρ) h = perm-values ρ (perm-values π h)
 
 -- ---- the entries of a PatchObject whose names are distinct
 

@@ -5,13 +5,14 @@ use mathlib.Core.List.{List}
 use mathlib.Core.Logic.{_≢_}
 use mathlib.Core.Option.{Option, none, some}
 use mathlib.Core.Path.{_≡_, refl, sym, ap, _∙_}
+use Rattle.laws.specs.Sorting.{Perm, stay, skip, swap, andThen}
 use Rattle.laws.proofs.Bools.{byTest}
 use Rattle.laws.specs.Order.{before}
 use Rattle.laws.proofs.Orders.{before-asym, before-trans}
 use Rattle.text.specs.Doc.{Name, Doc, scalar, array, object, Members, empty, member, Property, seek}
 use Rattle.contact.specs.Pointer.{last, down}
 use Rattle.contact.specs.Patch.{remove, set, Entry, entry, under, insert, fresh, added, keep, applied, kept}
-use Rattle.contact.specs.Entries.{NoClash, Perm, stay, skip, swap, then}
+use Rattle.contact.specs.Entries.{NoClash}
 use Rattle.contact.proofs.Patching.Names.{before-total}
 use Rattle.contact.proofs.Patching.Entries.{perm-noclash, perm-mine, perm-under, under-noclash}
 
@@ -46,20 +47,20 @@ module _ (n m : Name) (v w : Doc) (h : n ≢ m) where
 
 perm-added : {es fs : List Entry} (ms : Members) → Perm es fs → NoClash es → added ms es ≡ added ms fs
 perm-added ms stay k = refl
-perm-added ms (skip {e = entry (last n) remove} π) k = perm-added ms π (k .1)
-perm-added ms (skip {e = entry (last n) (set v)} π) k = ap (fresh (seek n ms) n v) (perm-added ms π (k .1))
-perm-added ms (skip {e = entry (down n p) c} π) k = perm-added ms π (k .1)
-perm-added ms (swap {e = entry (last n) remove} {f = entry (last m) remove}) k = refl
-perm-added ms (swap {e = entry (last n) remove} {f = entry (last m) (set w)}) k = refl
-perm-added ms (swap {e = entry (last n) remove} {f = entry (down m q) c′}) k = refl
-perm-added ms (swap {e = entry (last n) (set v)} {f = entry (last m) remove}) k = refl
-perm-added ms (swap {e = entry (last n) (set v)} {f = entry (last m) (set w)} {es = es}) k =
+perm-added ms (skip {x = entry (last n) remove} π) k = perm-added ms π (k .1)
+perm-added ms (skip {x = entry (last n) (set v)} π) k = ap (fresh (seek n ms) n v) (perm-added ms π (k .1))
+perm-added ms (skip {x = entry (down n p) c} π) k = perm-added ms π (k .1)
+perm-added ms (swap {x = entry (last n) remove} {y = entry (last m) remove}) k = refl
+perm-added ms (swap {x = entry (last n) remove} {y = entry (last m) (set w)}) k = refl
+perm-added ms (swap {x = entry (last n) remove} {y = entry (down m q) c′}) k = refl
+perm-added ms (swap {x = entry (last n) (set v)} {y = entry (last m) remove}) k = refl
+perm-added ms (swap {x = entry (last n) (set v)} {y = entry (last m) (set w)} {xs = es}) k =
     fresh-swap n m v w (k .0 .0) (seek n ms) (seek m ms) (added ms es)
-perm-added ms (swap {e = entry (last n) (set v)} {f = entry (down m q) c′}) k = refl
-perm-added ms (swap {e = entry (down n p) c} {f = entry (last m) remove}) k = refl
-perm-added ms (swap {e = entry (down n p) c} {f = entry (last m) (set w)}) k = refl
-perm-added ms (swap {e = entry (down n p) c} {f = entry (down m q) c′}) k = refl
-perm-added ms (then π ρ) k = perm-added ms π k ∙ perm-added ms ρ (perm-noclash π k)
+perm-added ms (swap {x = entry (last n) (set v)} {y = entry (down m q) c′}) k = refl
+perm-added ms (swap {x = entry (down n p) c} {y = entry (last m) remove}) k = refl
+perm-added ms (swap {x = entry (down n p) c} {y = entry (last m) (set w)}) k = refl
+perm-added ms (swap {x = entry (down n p) c} {y = entry (down m q) c′}) k = refl
+perm-added ms (andThen π ρ) k = perm-added ms π k ∙ perm-added ms ρ (perm-noclash π k)
 
 mutual
   pub any-order : (d : Doc) (es fs : List Entry) → Perm es fs → NoClash es → applied d es ≡ applied d fs

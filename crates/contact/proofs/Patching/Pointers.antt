@@ -10,7 +10,9 @@ use borrow.Author.Tests.{eqb-true, eqb-false, ne-eqb}
 use Rattle.laws.proofs.Bools.{byTest, or-false}
 use Rattle.text.specs.Doc.{Name}
 use Rattle.contact.specs.Pointer.{Pointer, last, down, push, split, plain, plainParts, pointerOf, zeroOrOne, badTilde}
+use Rattle.contact.specs.Conditions.{LooseTilde}
 use Rattle.contact.specs.PointerText.{PartText, none, byte, tilde, slash, PointerText, one, more}
+use Rattle.contact.proofs.Patching.Tilde.{tilde-iff}
 
 -- ---- a part
 
@@ -132,6 +134,13 @@ written (b ∷ c ∷ bs) h =
 pub pointer-iff : (key : Name) (p : Pointer) → PointerText key p ↔ ((badTilde key ≡ false) × (p ≡ pointerOf key))
 unfolding Written
 pointer-iff key p = (λ x. (text-tilde x, text-pointer x), λ h. rw (h .1) (written key (h .0)))
+
+-- the same in words
+pub key-iff : (key : Name) (p : Pointer) → PointerText key p ↔ ((¬ LooseTilde key) × (p ≡ pointerOf key))
+key-iff key p = (
+  λ x. ((λ l. true≢false (sym (tilde-iff key .1 l) ∙ pointer-iff key p .0 x .0)), pointer-iff key p .0 x .1),
+  λ h. pointer-iff key p .1 (byTest (badTilde key) (λ b. absurd (h .0 (tilde-iff key .0 b))) (λ b. b), h .1),
+)
 
 part-one : {bs cs : List ℕ} {n : Name} → PartText bs n → PartText cs n → bs ≡ cs
 part-one none none = refl

@@ -9,7 +9,7 @@ use Rattle.text.specs.Tree.{Forest}
 use Rattle.text.specs.Doc.{Name, docOf}
 use Rattle.contact.specs.Verdict.{Judged, passed, failed, judgedOf}
 use Rattle.contact.specs.Localize.{denied, localizedDoc, localizedJudged, localizedOf}
-use Rattle.contact.specs.Conditions.{Broken}
+use Rattle.contact.specs.Conditions.{BrokenCondition}
 use Rattle.contact.specs.declared.CardRefusal.{CardRefusal}
 use Rattle.contact.specs.declared.LocalRefusal.the-variants.{Given}
 use Rattle.contact.proofs.Patching.Refused.{refused-iff}
@@ -24,7 +24,7 @@ module _ (L : Limits) (words room : ℕ) (text : List ℕ) (lang : Name) where
   failed-so r e = rw e
 
   -- no condition of a patch calls for the card's own refusal
-  not-given : (n : ℕ) (f : Forest) (r : CardRefusal) → ¬ Broken L words room (docOf text f) lang n (Given r)
+  not-given : (n : ℕ) (f : Forest) (r : CardRefusal) → ¬ BrokenCondition L words room (docOf text f) lang n (Given r)
   not-given n f r = elim [ ]
 
   pub given-iff : (r : CardRefusal) → (localizedOf L words room text lang ≡ denied (Given r)) ↔ (judgedOf L words text ≡ failed r)

@@ -23,11 +23,11 @@ use Rattle.text.proofs.Promise.{Fits, whole-good, promised}
 use Rattle.text.proofs.Readback.Again.{reads-back}
 use Rattle.text.proofs.Readback.Documents.{text-shorter}
 use Rattle.contact.specs.Judge.{Breach, nothing, found, cardBreach}
-use Rattle.contact.specs.Verdict.{refusedFault, refusedCard, Judged, passed, failed, faultOf, placed, judgedRead, judgedOf}
+use Rattle.contact.specs.Verdict.{refusedFault, refusedCard, Judged, passed, failed, faultOf, byBreach, judgedRead, judgedOf}
 use Rattle.contact.specs.Localize.{Outcome, refusedLocal, done, denied, localizedOf}
-use Rattle.contact.specs.Conditions.{PatchOf, Broken, short, Smallest, Accepted}
+use Rattle.contact.specs.Conditions.{PatchOf, BrokenCondition, short, Smallest, Accepted}
 use Rattle.contact.specs.Readback.{patchedDoc, WrittenCard, PatchedRows, OnlyInner, deep, fault, Readback}
-use Rattle.contact.specs.declared.Fault.the-variants.{Kind, Missing, Value, Rule}
+use Rattle.contact.specs.declared.CardFault.the-variants.{Kind, Missing, Value, Rule}
 use Rattle.contact.specs.declared.CardRefusal.{CardRefusal}
 use Rattle.contact.specs.declared.CardRefusal.the-variants.{Text, Card}
 use Rattle.contact.specs.declared.LocalRefusal.{LocalRefusal}
@@ -41,7 +41,7 @@ use Rattle.contact.proofs.Patching.Again.{Modest, InnerOf, modest, inne
 -- ---- a document that is read back is judged as it is ----
 
 module _ (L : Limits) (words : ℕ) (x : Doc) (b : ReadsBack L x) where
-  judged-back : L .words * size (rootOf (b .derives)) ≤ words → depthIn x ≤ L .depth → judgedOf L words (written x) ≡ placed (rootOf (b .derives)) (cardBreach x)
+  judged-back : L .words * size (rootOf (b .derives)) ≤ words → depthIn x ≤ L .depth → judgedOf L words (written x) ≡ byBreach (rootOf (b .derives)) (cardBreach x)
   unfolding judgedOf judgedRead wholeOf fitOf
   judged-back room l = rw (b .read l, le-ltb words (L .words * size (rootOf (b .derives))) room, b .says)
 
@@ -67,15 +67,15 @@ module _ (L : Limits) (words : ℕ) (t : List ℕ) (f : Forest) (pass : judgedOf
       }
 
 -- what judging answers of a breach
-placed-passed : (f g : Forest) (b : Breach) → placed f b ≡ passed g → f ≡ g
-unfolding placed
-placed-passed f g nothing e = cc
-placed-passed f g (found row n) e = let z : _≡_ {A = ℕ} 0 1 = cc in absurd (omega arith)
+breach-passed : (f g : Forest) (b : Breach) → byBreach f b ≡ passed g → f ≡ g
+unfolding byBreach
+breach-passed f g nothing e = cc
+breach-passed f g (found row n) e = let z : _≡_ {A = ℕ} 0 1 = cc in absurd (omega arith)
 
-placed-failed : (f : Forest) (r : CardRefusal) (b : Breach) → placed f b ≡ failed r → OnlyInner r
-unfolding placed
-placed-failed f r nothing e = let z : _≡_ {A = ℕ} 0 1 = cc in absurd (omega arith)
-placed-failed f r (found row n) e =
+breach-failed : (f : Forest) (r : CardRefusal) (b : Breach) → byBreach f b ≡ failed r → OnlyInner r
+unfolding byBreach
+breach-failed f r nothing e = let z : _≡_ {A = ℕ} 0 1 = cc in absurd (omega arith)
+breach-failed f r (found row n) e =
     let c = faultOf n (getD (startsOf f) row 0) in
     let z : Card c ≡ r = cc in
     subst OnlyInner z fault
@@ -89,11 +89,11 @@ module _ {L : Limits} {words : ℕ} {t : List ℕ} {f : Forest} {x : Doc} (w : W
   ]
 
   passed-tree : (g : Forest) → judgedOf L words (written x) ≡ passed g → g ≡ rootOf (w .back .derives)
-  passed-tree g e = sym (placed-passed (rootOf (w .back .derives)) g (cardBreach x) (sym (w .judged (passed-shallow g e)) ∙ e))
+  passed-tree g e = sym (breach-passed (rootOf (w .back .derives)) g (cardBreach x) (sym (w .judged (passed-shallow g e)) ∙ e))
 
   failed-inner : (r : CardRefusal) → judgedOf L words (written x) ≡ failed r → OnlyInner r
   failed-inner r e = elim (decLe (depthIn x) (L .depth)) [
-    | yes l ↦ placed-failed (rootOf (w .back .derives)) r (cardBreach x) (sym (w .judged l) ∙ e)
+    | yes l ↦ breach-failed (rootOf (w .back .derives)) r (cardBreach x) (sym (w .judged l) ∙ e)
     | no l ↦ let (p, d) = w .deeper (omega arith) in let z : Text (Deep p) ≡ r = cc in subst OnlyInner z deep
   ]
 
@@ -121,7 +121,7 @@ module _ (L : Limits) (words room : ℕ) (unique : L .unique ≡ true) where
     abbrev card : Doc
     card = docOf t f
 
-    card-written : (ms : Members) → PatchOf card lang ms → ((m : ℕ) (q : LocalRefusal) → m < 27 → ¬ Broken L words room card lang m q)
+    card-written : (ms : Members) → PatchOf card lang ms → ((m : ℕ) (q : LocalRefusal) → m < 27 → ¬ BrokenCondition L words room card lang m q)
         → WrittenCard L words t f (patchedDoc card ms)
     card-written ms patch u =
         let h : Fine card ms = fine L words room card lang ms patch u in
@@ -158,7 +158,7 @@ module _ (L : Limits) (words room : ℕ) (unique : L .unique ≡ true) where
         let s = refused-iff L words room card lang (Short n) .0 (sym (passed-so L words room t lang f pass) ∙ e) in
         go n (refusedLocal (Short n) .number) s (s .broken)
       where
-        go : (i k : ℕ) → Smallest L words room card lang k (Short n) → Broken L words room card lang k (Short i) → (room < i) × (i ≤ length t)
+        go : (i k : ℕ) → Smallest L words room card lang k (Short n) → BrokenCondition L words room card lang k (Short i) → (room < i) × (i ≤ length t)
         go i k s (short {ms = ms} patch l) = (l, card-written ms patch (λ m q h b. let o : 27 ≤ m = s .least m q b in omega arith) .shorter)
 
     only-inner : (r : CardRefusal) → localizedOf L words room t lang ≡ denied (Inner r) → OnlyInner r

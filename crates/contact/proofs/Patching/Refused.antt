@@ -21,7 +21,7 @@ use Rattle.contact.specs.Verdict.{Judged, passed, failed, judgedOf}
 use Rattle.contact.specs.Pointer.{find}
 use Rattle.contact.specs.Patch.{entriesOf, anyBadKey, anyOwn, anyClash, anyWalk, isInArray, isNoObject, applied}
 use Rattle.contact.specs.Localize.{refusedLocal, Outcome, done, denied, start, patchAt, byJudge, byRoom, byEntries, inPatch, withPatch, localizedDoc}
-use Rattle.contact.specs.Conditions.{HasKey, HasKeys, PatchOf, Broken, noLanguage, badKey, ownLocalizations, clashing, enteringArray, losingWay, short, unfit, Smallest, Accepted}
+use Rattle.contact.specs.Conditions.{HasKey, HasKeys, PatchOf, BrokenCondition, noLanguage, badKey, ownLocalizations, clashing, enteringArray, losingWay, short, unfit, Smallest, Accepted}
 use Rattle.contact.specs.declared.LocalRefusal.{LocalRefusal}
 use Rattle.contact.specs.declared.LocalRefusal.the-variants.{NoLanguage, Short}
 use Rattle.contact.proofs.Patching.Found.{bad-key-found, bad-key-finds, own-found, own-finds, array-found, array-finds, lost-found, lost-finds, clash-found, clash-finds}
@@ -35,7 +35,7 @@ one-patch card lang ms ns p q =
 
 module _ (L : Limits) (words room : ℕ) (card : Doc) (lang : Name) where
   abbrev B : ℕ → LocalRefusal → Type 0
-  B n r = Broken L words room card lang n r
+  B n r = BrokenCondition L words room card lang n r
 
   -- what an outcome stands for
   abbrev Due : Outcome → Type 0

@@ -11,7 +11,7 @@ use Rattle.laws.proofs.Orders.{same-refl}
 use Rattle.text.specs.Doc.{Name, Doc, scalar, array, object, Members, empty, member, Property, property, seek}
 use Rattle.text.specs.Distinct.{Distinct, DistinctMembers}
 use Rattle.contact.specs.Pointer.{Pointer, last, down, within, find}
-use Rattle.contact.specs.Likeness.{Shape, aScalar, anArray, anObject, shape, Look, absent, there, seen, look, Same, Taken, atHead, inTail, Reordered, scalars, arrays, objects, Matched, nothing, match}
+use Rattle.contact.specs.Likeness.{Shape, aScalar, anArray, anObject, shape, Look, absent, there, seen, look, SameDoc, Taken, atHead, inTail, Reordered, scalars, arrays, objects, Matched, nothing, match}
 use Rattle.contact.proofs.Patching.Same.{likeness-refl, Alike, neither, both, same-object, alike}
 use Rattle.contact.proofs.Patching.Names.{same-yes, same-no, byName}
 
@@ -105,7 +105,7 @@ module _ (n : Name) (t : List ℕ) (d e : Doc) (ms ns rest : Members) (x : Taken
   rest-look s (down m p) = rest-same m (λ o. seen (within (find p) o)) (s (down m p))
 
 mutual
-  pub same-reordered : (d e : Doc) → Distinct d → Distinct e → Same d e → Reordered d e
+  pub same-reordered : (d e : Doc) → Distinct d → Distinct e → SameDoc d e → Reordered d e
   same-reordered (scalar k b) (scalar l c) dd de s =
       let h = coded (aScalar k b) (aScalar l c) (s .root) in rw (h .0, h .1) scalars
   same-reordered (scalar k b) (array ys) dd de s = absurd (coded (aScalar k b) (anArray ys) (s .root))
@@ -130,7 +130,7 @@ mutual
 -- ---- and the other way round
 
 mutual
-  pub reordered-same : {d e : Doc} → Reordered d e → Distinct d → Distinct e → Same d e
+  pub reordered-same : {d e : Doc} → Reordered d e → Distinct d → Distinct e → SameDoc d e
   reordered-same (scalars {kind = kind} {token = token}) h k = likeness-refl (scalar kind token)
   reordered-same (arrays {ms = xs}) h k = likeness-refl (array xs)
   reordered-same (objects {ms = ms} {ns = ns} m) h k = same-object ms ns (λ n. matched-alike m h k n)

@@ -4,13 +4,14 @@
 use mathlib.Core.List.{List, [], _∷_}
 use mathlib.Core.Option.{Option, none, some, Option·map}
 use mathlib.Core.Path.{_≡_, refl, ap, _∙_}
+use Rattle.laws.specs.Sorting.{Perm}
 use Rattle.laws.proofs.Orders.{same-refl}
 use Rattle.text.specs.Doc.{Doc, scalar, array, object, Property, seek}
 use Rattle.contact.specs.Pointer.{Pointer, last, down}
 use Rattle.contact.specs.Patch.{Change, Entry, entry, onward, walk, put, alter, changed, under, applied}
-use Rattle.contact.specs.Demand.{Ends}
-use Rattle.contact.specs.Likeness.{Same}
-use Rattle.contact.specs.Entries.{Apart, ApartFrom, NoClash, ParentsThere, valued, Perm}
+use Rattle.contact.specs.Patching.{RunsTo}
+use Rattle.contact.specs.Likeness.{SameDoc}
+use Rattle.contact.specs.Entries.{Apart, ApartFrom, NoClash, ParentsThere, valued}
 use Rattle.contact.proofs.Patching.Same.{likeness-refl, likeness-trans, same-object, alike-refl, alike, alike-over}
 use Rattle.contact.proofs.Patching.Names.{same-no, byName}
 use Rattle.contact.proofs.Patching.Seek.{over, seek-put-same, seek-put-other, seek-alter-same, seek-alter-other}
@@ -22,7 +23,7 @@ use Rattle.contact.proofs.Patching.Order.{any-order}
 -- ---- one entry first, and then the others at once
 
 pub absorb : (q : Pointer) (c : Change) (d : Doc) (es : List Entry) → NoClash (entry q c ∷ es)
-    → Same (applied (changed q c d) es) (applied d (entry q c ∷ es))
+    → SameDoc (applied (changed q c d) es) (applied d (entry q c ∷ es))
 absorb (last m) c (scalar kind token) es k = likeness-refl (scalar kind token)
 absorb (last m) c (array xs) es k = likeness-refl (array xs)
 absorb (last m) c (object ms) es k =
@@ -73,12 +74,12 @@ parents-stay q c d (entry r c′ ∷ es) h k = (walk-stays q r c d (h .0) ∙ k 
 
 -- ---- the theorem
 
-pub one-at-a-time : (es : List Entry) (d : Doc) → NoClash es → ParentsThere es d → Ends es d (applied d es)
+pub one-at-a-time : (es : List Entry) (d : Doc) → NoClash es → ParentsThere es d → RunsTo es d (applied d es)
 one-at-a-time [] d k h = record { end = d; reached = refl; alike = rw (applied-nil d) (likeness-refl d) }
 one-at-a-time (entry q c ∷ es) d k h =
     let r = one-at-a-time es (changed q c d) (k .1) (parents-stay q c d es (k .0) (h .1)) in
     record { end = r .end; reached = rw (h .0) (r .reached); alike = likeness-trans (r .alike) (absorb q c d es k) }
 
 -- in any order, and the end is the card that is written for the order that the text has
-pub in-any-order : (es fs : List Entry) (d : Doc) → Perm es fs → NoClash es → ParentsThere es d → Ends fs d (applied d es)
+pub in-any-order : (es fs : List Entry) (d : Doc) → Perm es fs → NoClash es → ParentsThere es d → RunsTo fs d (applied d es)
 in-any-order es fs d π k h = rw (any-order d es fs π k) (one-at-a-time fs d (perm-noclash π k) (perm-parents d π h))

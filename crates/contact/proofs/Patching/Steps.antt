@@ -17,15 +17,13 @@ use Rattle.laws.specs.Order.{same}
 use Rattle.laws.proofs.Bools.{or-false}
 use Rattle.text.specs.Limits.{Limits}
 use Rattle.text.specs.Text.{bytes}
-use Rattle.text.specs.Tree.{size}
 use Rattle.text.specs.Doc.{Name, Doc, scalar, array, object, Members, Property, kindOf}
 use Rattle.text.specs.Writing.{written}
-use Rattle.contact.specs.Verdict.{paperOfVerdict, Judged, passed, failed, judgedOf, sheetOfJudged}
+use Rattle.contact.specs.Verdict.{paperOfVerdict, Judged, judgedOf, answerOfJudged, sheetOfJudged}
 use Rattle.contact.specs.Pointer.{Pointer, last, down, firstPart, find}
 use Rattle.contact.specs.Patch.{Entry, entry, entriesOf, Walk, onward, walk, anyBadKey, anyOwn, anyClash, anyWalk, isInArray, isNoObject, applied}
 use Rattle.contact.specs.Localize.{denied, start, patchAt, byJudge, byRoom, byEntries, inPatch, withPatch, localizedDoc}
 use Rattle.contact.specs.declared.Verdict.{Verdict}
-use Rattle.contact.specs.declared.Verdict.the-variants.{Passed, Failed}
 use Rattle.contact.specs.declared.LocalRefusal.the-variants.{NoLanguage, BadKey, OwnLocalizations, Clash, InArray, NoObject, Short}
 use Rattle.contact.proofs.Judging.{one-answer}
 use Rattle.contact.proofs.Patching.Names.{same-yes}
@@ -33,17 +31,9 @@ use Rattle.contact.proofs.Patching.Seek.{seek-without-other}
 
 -- ---- judging
 
-abbrev pub verdictOf : Judged → Verdict
-verdictOf (passed f) = Passed (size f)
-verdictOf (failed r) = Failed r
-
-pub judged-answer : (v : Verdict) (j : Judged) → paperOfVerdict v ≡ sheetOfJudged j → v ≡ verdictOf j
-unfolding sheetOfJudged paperOfVerdict
-judged-answer v j e = one-answer v (verdictOf j) (e ∙ on-paper j)
-  where
-    on-paper : (j : Judged) → sheetOfJudged j ≡ paperOfVerdict (verdictOf j)
-    on-paper (passed f) = refl
-    on-paper (failed r) = refl
+pub judged-answer : (v : Verdict) (j : Judged) → paperOfVerdict v ≡ sheetOfJudged j → v ≡ answerOfJudged j
+unfolding sheetOfJudged
+judged-answer v j e = one-answer v (answerOfJudged j) e
 
 module _ (L : Limits) (words room : ℕ) where
   -- ---- 21

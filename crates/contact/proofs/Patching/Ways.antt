@@ -10,7 +10,7 @@ use native.Mathlib.Omega.{arith}
 use Rattle.text.specs.Doc.{Name, Doc, scalar, array, object, Members, Property, seek}
 use Rattle.contact.specs.Pointer.{Pointer, last, down, parts}
 use Rattle.contact.specs.Patch.{Walk, arrives, inArray, noObject, onward, walk, isInArray, isNoObject}
-use Rattle.contact.specs.Conditions.{Leads, here, into, Reaches, EntersArray, reached, LosesWay, atScalar, lacking}
+use Rattle.contact.specs.Conditions.{Leads, here, into, Reaches, EntersArray, reached, LosesWay, atScalar, noMember}
 
 -- ---- a part further
 
@@ -23,7 +23,7 @@ enters-on p m ms s e (reached r) = reached (reaches-on m ms s e r)
 
 loses-on : (p : Pointer) (m : Name) (ms : Members) (s : Property) → seek m ms ≡ some s → LosesWay p (s .content) → LosesWay (down m p) (object ms)
 loses-on p m ms s e (atScalar r) = atScalar (reaches-on m ms s e r)
-loses-on p m ms s e (lacking r k) = lacking (reaches-on m ms s e r) k
+loses-on p m ms s e (noMember r k) = noMember (reaches-on m ms s e r) k
 
 -- ---- from the walk
 
@@ -51,8 +51,8 @@ to-lost (down n p) (array xs) h = absurd (true≢false (ap isInArray h))
 to-lost (down n p) (object ms) h = go (seek n ms) refl h (λ d. to-lost p d)
   where
     lacks : (q : Pointer) → seek n ms ≡ none → LosesWay (down n q) (object ms)
-    lacks (last m) e = lacking (at-root (down n (last m)) (object ms) n (m ∷ []) refl) e
-    lacks (down m q) e = lacking (at-root (down n (down m q)) (object ms) n (m ∷ parts q) refl) e
+    lacks (last m) e = noMember (at-root (down n (last m)) (object ms) n (m ∷ []) refl) e
+    lacks (down m q) e = noMember (at-root (down n (down m q)) (object ms) n (m ∷ parts q) refl) e
 
     go : (o : Option Property) → seek n ms ≡ o → onward (walk p) o ≡ noObject → ((d : Doc) → walk p d ≡ noObject → LosesWay p d) → LosesWay (down n p) (object ms)
     go none e k ih = lacks p e
@@ -97,7 +97,7 @@ from-array p d (reached {ms = ms} {n = n} {left = left} r) =
 from-lost : (p : Pointer) (d : Doc) → LosesWay p d → walk p d ≡ noObject
 from-lost p d (atScalar {kind = kind} {token = token} {n = n} {left = left} r) =
     let l = follow (r .leads) p n left (r .split) in l .on ∙ walk-scalar (l .rest) kind token
-from-lost p d (lacking {ms = ms} {n = n} {m = m} {left = left} r k) =
+from-lost p d (noMember {ms = ms} {n = n} {m = m} {left = left} r k) =
     let l = follow (r .leads) p n (m ∷ left) (r .split) in l .on ∙ walk-lacking (l .rest) ms n m left (l .has) k
 
 -- ---- the theorems

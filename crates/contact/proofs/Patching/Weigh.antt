@@ -13,16 +13,16 @@ use Rattle.text.specs.Doc.{Name, Doc, scalar, array, object, Members, empty, me
 use Rattle.text.specs.Distinct.{Distinct}
 use Rattle.text.specs.Writing.{spelled}
 use Rattle.contact.specs.Pointer.{Pointer, last, down, lastPart, pointerOf, within, find}
-use Rattle.contact.specs.Patch.{Change, remove, set, Entry, entry, changeOf, entriesOf, Walk, arrives, inArray, noObject, walk, write, without, put, alter, changed, whenArrived, andThen, run, applied}
+use Rattle.contact.specs.Patch.{Change, remove, set, Entry, entry, changeOf, entriesOf, Walk, arrives, inArray, noObject, walk, write, without, put, alter, changed, whenArrived, runOn, run, applied}
 use Rattle.contact.specs.Localize.{start, patchAt}
 use Rattle.contact.specs.Likeness.{Taken, atHead, inTail, Reordered, scalars, arrays, objects, Matched, nothing, match}
-use Rattle.contact.specs.Entries.{NoClash, ParentsThere, DistinctValues}
+use Rattle.contact.specs.Entries.{NoClash, ParentsThere}
 use Rattle.contact.specs.Conditions.{PatchOf}
-use Rattle.contact.specs.Demand.{Ends}
+use Rattle.contact.specs.Patching.{RunsTo}
 use Rattle.contact.proofs.Patching.Names.{byName, same-yes, same-no}
 use Rattle.contact.proofs.Patching.Single.{one-at-a-time}
 use Rattle.contact.proofs.Patching.Reorder.{same-reordered}
-use Rattle.contact.proofs.Patching.Distinct.{distinct-run, distinct-applied, entries-values, distinct-start, find-distinct}
+use Rattle.contact.proofs.Patching.Distinct.{DistinctValues, distinct-run, distinct-applied, entries-values, distinct-start, find-distinct}
 
 -- what a value weighs that is no object, what a name weighs as it is written, and an object by what its members weigh
 pub record Scale : Type 0 where
@@ -104,7 +104,7 @@ module _ (S : Scale) where
   run-weight [] d e r = omega (arith, ap weight (Option·some-injective d e r))
   run-weight (entry p c ∷ es) d e r = go (walk p d) r (run-weight es (changed p c d) e)
     where
-      go : (w : Walk) → andThen (run es) (whenArrived w (changed p c d)) ≡ some e
+      go : (w : Walk) → runOn (run es) (whenArrived w (changed p c d)) ≡ some e
           → (run es (changed p c d) ≡ some e → weight e ≤ weight (changed p c d) + costs es) → weight e ≤ weight d + (cost p c + costs es)
       go arrives q f = omega (arith, f q, changed-weight p c d)
       go inArray q f = absurd (Option·none-ne-some e q)
@@ -177,7 +177,7 @@ module _ (S : Scale) where
       let es : List Entry = entriesOf ms in
       let d : Doc = start card in
       let x : Doc = applied d es in
-      let r : Ends es d x = one-at-a-time es d nc pt in
+      let r : RunsTo es d x = one-at-a-time es d nc pt in
       let v : DistinctValues es = entries-values ms (find-distinct (patchAt lang) card (property (p .label) (object ms)) dc (p .stands)) in
       let ds : Distinct d = distinct-start card dc in
       let o : Reordered (r .end) x =

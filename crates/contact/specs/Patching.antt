@@ -1,10 +1,11 @@
--- Demand 3, how a localization is applied, as one statement: `Demand`. proofs/Patching/Demand.antt proves it for all limits, tables and outputs.
+-- Demand 3, how a localization is applied, as one statement: `Patching`. proofs/Patching/Together.antt proves it for all limits, tables and outputs.
 -- Assumes nothing: these are definitions.
 use Prim.Native.Nat.{ℕ}
 use mathlib.Core.Path.{_≡_}
 use mathlib.Core.Logic.{_≢_, _↔_}
 use mathlib.Core.List.{List}
 use mathlib.Core.Option.{none, some}
+use Rattle.laws.specs.Sorting.{Perm}
 use Rattle.text.specs.Limits.{Limits}
 use Rattle.text.specs.Text.{bytes}
 use Rattle.text.specs.Tree.{Forest}
@@ -12,12 +13,13 @@ use Rattle.text.specs.Doc.{Name, Doc, object, Members, member, property, docOf}
 use Rattle.text.specs.Distinct.{Distinct, DistinctMembers}
 use Rattle.text.specs.Writing.{written}
 use Rattle.contact.specs.Verdict.{passed, failed, judgedOf}
-use Rattle.contact.specs.Pointer.{Pointer, last, firstPart, lastPart, find}
+use Rattle.contact.specs.Pointer.{Pointer, last, pointerOf, firstPart, lastPart, find}
+use Rattle.contact.specs.PointerText.{PointerText}
 use Rattle.contact.specs.Patch.{Change, Entry, entriesOf, run}
 use Rattle.contact.specs.Localize.{refusedLocal, done, denied, start, localizedDoc, localizedOf}
-use Rattle.contact.specs.Likeness.{Same, Reordered}
-use Rattle.contact.specs.Entries.{Perm, Has, valued, Clear, Shuffled, Laid, NotOver, LaidAt}
-use Rattle.contact.specs.Conditions.{PatchOf, Smallest, Accepted}
+use Rattle.contact.specs.Likeness.{SameDoc, Reordered}
+use Rattle.contact.specs.Entries.{HasEntry, valued, Clear, Shuffled, Laid, NotOver, LaidAt}
+use Rattle.contact.specs.Conditions.{LooseTilde, PatchOf, Smallest, Accepted}
 use Rattle.contact.specs.declared.CardRefusal.{CardRefusal}
 use Rattle.contact.specs.declared.LocalRefusal.{LocalRefusal}
 use Rattle.contact.specs.declared.LocalRefusal.the-variants.{Given}
@@ -43,20 +45,20 @@ OrderOnly lang card other = InMember (bytes "localizations") (InMember lang Rear
 -- ---- what a patched card is
 
 -- the entries es, one at a time from d: each step finds its parent, and the end is e, member order not counted
-pub record Ends (es : List Entry) (d e : Doc) : Type 0 where
+pub record RunsTo (es : List Entry) (d e : Doc) : Type 0 where
   pub end : Doc
   pub reached : run es d ≡ some end
-  pub alike : Same end e
+  pub alike : SameDoc end e
 
 -- x is what the entries of a PatchObject with the members ms say of the card d without its localizations
 pub record Patched (d : Doc) (ms : Members) (x : Doc) : Type 0 where
   -- set or removed one at a time, in any order; where names are distinct, the end and x differ in the order of members only
-  pub one-by-one : (fs : List Entry) → Perm (entriesOf ms) fs → Ends fs d x
+  pub one-by-one : (fs : List Entry) → Perm (entriesOf ms) fs → RunsTo fs d x
   pub reordered : Distinct d → DistinctMembers ms → (fs : List Entry) (π : Perm (entriesOf ms) fs) → Reordered (one-by-one fs π .end) x
   -- names stay distinct
   pub distinct : Distinct d → DistinctMembers ms → Distinct x
   -- each entry has its way: what its pointer finds is the value that it sets, under the name as it was written, or nothing
-  pub effects : (p : Pointer) (c : Change) → Has p c (entriesOf ms) → find p x ≡ valued (lastPart p) c (find p d)
+  pub effects : (p : Pointer) (c : Change) → HasEntry p c (entriesOf ms) → find p x ≡ valued (lastPart p) c (find p d)
   -- a property that no pointer names, enters or covers: its name as written and its value
   pub keeps : (p : Pointer) → Clear p (entriesOf ms) → find p x ≡ find p d
   -- members keep their places, and added ones follow in ascending order of name: in the card itself, and in each object that is not replaced as a whole
@@ -78,7 +80,7 @@ pub record PatchedText (card : Doc) (lang : Name) (text : List ℕ) : Type 0 whe
 -- ---- the demand
 
 module _ (L : Limits) (words room : ℕ) where
-  pub record Demand : Type 0 where
+  pub record Patching : Type 0 where
     -- the card's own refusal comes first; else the answer is that of its document
     pub given : (text : List ℕ) (lang : Name) (r : CardRefusal)
         → (localizedOf L words room text lang ≡ denied (Given r)) ↔ (judgedOf L words text ≡ failed r)
@@ -94,6 +96,8 @@ module _ (L : Limits) (words room : ℕ) where
         → (localizedDoc L words room card lang ≡ denied r) ↔ Smallest L words room card lang (refusedLocal r .number) r
     pub accepted : (card : Doc) (lang : Name) (text : List ℕ) (f : Forest)
         → (localizedDoc L words room card lang ≡ done text f) ↔ Accepted L words room card lang text f
+    -- the keys: each that has no loose `~` writes one pointer, the one that `pointerOf` finds, and any other writes none
+    pub keys : (key : Name) (p : Pointer) → PointerText key p ↔ ((¬ LooseTilde key) × (p ≡ pointerOf key))
     -- what an accepted localization has written
     pub written-so : (card : Doc) (lang : Name) (text : List ℕ) (f : Forest) → localizedDoc L words room card lang ≡ done text f
         → PatchedText card lang text

@@ -1,51 +1,41 @@
--- The tests on Ids and unsigned integers decide what specs/Leaves.antt says:
+-- The tests on Ids and unsigned integers decide what specs/SimpleValues.antt says:
 --     digit-test    a byte from 0 to 9
---     each-test     a test on each byte
 --     id-test       Id
 --     count-test    UnsignedInt with its bounds
 -- Assumes nothing.
 use Prim.Native.Nat.{ℕ, _+_, _-_, _*_, _<_}
 use mathlib.Core.Path.{_≡_, refl, sym, subst, _∙_}
-use mathlib.Core.Bool.{Bool}
 use mathlib.Core.List.{List, [], _∷_, _++_, append-assoc, append-nil}
 use mathlib.Core.Logic.{_⊎_, inl, inr}
 use native.Mathlib.Omega.{arith}
 use lib.ListN.{length}
 use Rattle.laws.specs.Each.{Each, none, more}
-use Rattle.laws.proofs.Decides.{Decides, holds, swap, equal, below, upto, lets, bars, grants}
+use Rattle.laws.proofs.Tests.{each-test}
+use Rattle.laws.proofs.Decides.{Decides, swap, equal, below, upto, lets, bars, grants}
 use Rattle.text.specs.Tokens.{isDigit}
-use Rattle.contact.specs.Values.{every, idByte, isId, valueFrom, isCount}
-use Rattle.contact.specs.Leaves.{Between, IdByte, capital, small, digit, hyphen, underscore, Id, Digit, Denotes, Count}
-use Rattle.contact.specs.Leaves as L
+use Rattle.contact.specs.Values.{idByte, isId, valueFrom, isCount}
+use Rattle.contact.specs.SimpleValues.{DigitByte, IdByte, capital, small, digit, hyphen, underscore, Id, DigitValue, Denotes, UnsignedInt}
+use Rattle.contact.specs.SimpleValues as L
 
 -- ---- bytes
 
-pub digit-test : (b : ℕ) → Decides (Between "0" "9" b) (isDigit b)
+pub digit-test : (b : ℕ) → Decides (DigitByte b) (isDigit b)
 digit-test b =
-    swap (λ h. record { low = omega arith; high = omega arith }) (λ h. ((λ k. omega arith), omega arith)) (bars (below b 48) (below b 58))
-
-module _ {P : ℕ → Type 0} (is : ℕ → Bool) (test : (b : ℕ) → Decides (P b) (is b)) where
-  pub each-test : (bs : List ℕ) → Decides (Each P bs) (every is bs)
-  unfolding every
-  each-test [] = holds none
-  each-test (b ∷ bs) = swap (λ h. more (h .0) (h .1)) parts (lets (test b) (each-test bs))
-    where
-      parts : Each P (b ∷ bs) → P b × Each P bs
-      parts (more p ps) = (p, ps)
+    swap (λ h. record { from = omega arith; up-to = omega arith }) (λ h. ((λ k. omega arith), omega arith)) (bars (below b 48) (below b 58))
 
 -- ---- Ids
 
 -- the ways that the test goes, in its order
 abbrev IdWays : ℕ → Type 0
 IdWays b =
-    (b ≡ 45) ⊎ ((b ≡ 95) ⊎ (Between "0" "9" b ⊎ (¬ (b < 65) × ((b < 91) ⊎ (¬ (b < 97) × (b < 123))))))
+    (b ≡ 45) ⊎ ((b ≡ 95) ⊎ (DigitByte b ⊎ (¬ (b < 65) × ((b < 91) ⊎ (¬ (b < 97) × (b < 123))))))
 
 id-byte-by : (b : ℕ) → IdWays b → IdByte b
 id-byte-by b (inl e) = subst IdByte (sym e) hyphen
 id-byte-by b (inr (inl e)) = subst IdByte (sym e) underscore
 id-byte-by b (inr (inr (inl d))) = digit d
-id-byte-by b (inr (inr (inr (h, inl k)))) = capital {b = b} (record { low = omega arith; high = omega arith })
-id-byte-by b (inr (inr (inr (h, inr k)))) = small {b = b} (record { low = omega arith; high = omega arith })
+id-byte-by b (inr (inr (inr (h, inl k)))) = capital {b = b} (record { from = omega arith; up-to = omega arith })
+id-byte-by b (inr (inr (inr (h, inr k)))) = small {b = b} (record { from = omega arith; up-to = omega arith })
 
 by-id-byte : {b : ℕ} → IdByte b → IdWays b
 by-id-byte (capital r) = inr (inr (inr ((λ k. omega arith), inl (omega arith))))
@@ -70,17 +60,17 @@ id-test n =
 
 -- ---- unsigned integers
 
-pub digit-of : (b : ℕ) → Between "0" "9" b → Digit b (b - 48)
+pub digit-of : (b : ℕ) → DigitByte b → DigitValue b (b - 48)
 digit-of b r =
     let e : 48 + (b - 48) ≡ b = omega arith in
-    subst (λ (c : ℕ). Digit c (b - 48)) e (L.digit (omega arith))
+    subst (λ (c : ℕ). DigitValue c (b - 48)) e (L.digit (omega arith))
 
 -- more digits after those that denote a number
-denotes-on : (ds bs : List ℕ) (v : ℕ) → Denotes ds v → Each (Between "0" "9") bs → Denotes (ds ++ bs) (valueFrom v bs)
+denotes-on : (ds bs : List ℕ) (v : ℕ) → Denotes ds v → Each DigitByte bs → Denotes (ds ++ bs) (valueFrom v bs)
 unfolding valueFrom
 denotes-on ds [] v h none = rw append-nil h
 denotes-on ds (b ∷ bs) v h (more r rs) =
-    let one : Digit b (b - 48) = digit-of b r in
+    let one : DigitValue b (b - 48) = digit-of b r in
     rw (← append-assoc ds (b ∷ []) bs) (denotes-on (ds ++ b ∷ []) bs (10 * v + (b - 48)) (L.more h one) rs)
 
 value-on : (u b : ℕ) (ds : List ℕ) → valueFrom u (ds ++ b ∷ []) ≡ 10 * valueFrom u ds + (b - 48)
@@ -88,15 +78,15 @@ unfolding valueFrom
 value-on u b [] = refl
 value-on u b (d ∷ ds) = value-on (10 * u + (d - 48)) b ds
 
-each-on : {bs : List ℕ} {b : ℕ} → Each (Between "0" "9") bs → Between "0" "9" b → Each (Between "0" "9") (bs ++ b ∷ [])
+each-on : {bs : List ℕ} {b : ℕ} → Each DigitByte bs → DigitByte b → Each DigitByte (bs ++ b ∷ [])
 each-on none r = more r none
 each-on (more q qs) r = more q (each-on qs r)
 
-pub digit-byte : {b v : ℕ} → Digit b v → Between "0" "9" b
-digit-byte (L.digit h) = record { low = omega arith; high = omega arith }
+pub digit-byte : {b v : ℕ} → DigitValue b v → DigitByte b
+digit-byte (L.digit h) = record { from = omega arith; up-to = omega arith }
 
 -- a number's digits, and the number that the test makes of them
-denoted : {ds : List ℕ} {v : ℕ} → Denotes ds v → Each (Between "0" "9") ds × (valueFrom 0 ds ≡ v)
+denoted : {ds : List ℕ} {v : ℕ} → Denotes ds v → Each DigitByte ds × (valueFrom 0 ds ≡ v)
 unfolding valueFrom
 denoted L.none = (none, refl)
 denoted (L.more {ds = ds} {v = v} h (L.digit {v = d} k)) =
@@ -104,7 +94,7 @@ denoted (L.more {ds = ds} {v = v} h (L.digit {v = d} k)) =
     let value : valueFrom 0 (ds ++ (48 + d) ∷ []) ≡ 10 * v + d = value-on 0 (48 + d) ds ∙ omega (arith, before .1) in
     (each-on (before .0) (digit-byte (L.digit k)), value)
 
-pub count-test : (low high : ℕ) (token : List ℕ) → Decides (Count low high token) (isCount low high token)
+pub count-test : (low high : ℕ) (token : List ℕ) → Decides (UnsignedInt low high token) (isCount low high token)
 unfolding isCount
 count-test low high token =
     swap

@@ -1,5 +1,5 @@
 -- What the refusal sheet says of a card, value by value: which values of a card stand where a type is asked, on which rows, and what each of them
--- breaks by itself. No search and no order stands here but in `First`, at the end.
+-- breaks by itself. No search and no order stands here but in `FirstBreach`, at the end.
 -- Assumes nothing: these are definitions.
 use Prim.Native.Nat.{ℕ, _+_, _≤_}
 use mathlib.Core.Path.{_≡_}
@@ -8,22 +8,22 @@ use mathlib.Core.List.{List, [], _∷_, List·Memᴰ as In}
 use Rattle.text.specs.Strings.{contentOf}
 use Rattle.text.specs.Doc.{Name, Doc, Members, member, kindOf, tokenOf, below, countOf}
 use Rattle.contact.specs.Schema.{ObjectType, exactly, yes, count, time, Keys, ids, Ty, simple, objectOf, listOf, mapOf, card, Known, properties}
-use Rattle.contact.specs.Leaves.{Id, Count, UTCDateTime}
-use Rattle.contact.specs.Kinds.{Suits}
-use Rattle.contact.specs.Between.{Has, BreaksBetween}
+use Rattle.contact.specs.SimpleValues.{Id, UnsignedInt, UTCDateTime}
+use Rattle.contact.specs.AskedKinds.{Suits}
+use Rattle.contact.specs.BetweenMembers.{HasMember, BreaksBetween}
 
 -- ---- where types are asked
 
 -- what a value stands under: in a map its key, with the keys before it, the nearest first; elsewhere nothing that is judged
 pub data Under : Type 0 where
-  nothing : Under
+  unkeyed : Under
   key : Keys → (earlier : List Name) → Name → Under
 
 -- the type of what stands below a value of a type, by its name there; unknown properties have none
 pub data Gives : Ty → (earlier : List Name) → Name → Ty → Under → Type 0 where
-  property : {k : Known} {earlier : List Name} {o : ObjectType} → In k (properties o) → Gives (objectOf o) earlier (k .spelling) (k .type) nothing
-  element : {ty : Ty} {earlier : List Name} {n : Name} → Gives (listOf ty) earlier n ty nothing
-  entry : {keys : Keys} {ty : Ty} {earlier : List Name} {n : Name} → Gives (mapOf keys ty) earlier n ty (key keys earlier n)
+  of-object : {k : Known} {earlier : List Name} {o : ObjectType} → In k (properties o) → Gives (objectOf o) earlier (k .spelling) (k .type) unkeyed
+  of-list : {ty : Ty} {earlier : List Name} {n : Name} → Gives (listOf ty) earlier n ty unkeyed
+  of-map : {keys : Keys} {ty : Ty} {earlier : List Name} {n : Name} → Gives (mapOf keys ty) earlier n ty (key keys earlier n)
 
 -- Among members, after some whose names are `passed`, stands a value under a name. So many values stand between the first of the members and it,
 -- those inside others too; and `earlier` are all names before its own.
@@ -35,7 +35,7 @@ pub data Among : (passed : List Name) → Members → (between : ℕ) → (earli
 -- In a card stands, on a row, a value of which a type is asked. Rows are counted parents first, in the order of the text. A value of the wrong kind
 -- isn't entered.
 pub data At (whole : Doc) : (row : ℕ) → Ty → Under → Doc → Type 0 where
-  root : At whole 0 (objectOf card) nothing whole
+  root : At whole 0 (objectOf card) unkeyed whole
   inside : {row k : ℕ} {ty ty′ : Ty} {u u′ : Under} {v d : Doc} {earlier : List Name} {n : Name}
       → At whole row ty u v → Suits ty (kindOf v) → Among [] (below v) k earlier n d → Gives ty earlier n ty′ u′ → At whole (row + 1 + k) ty′ u′ d
 
@@ -43,31 +43,31 @@ pub data At (whole : Doc) : (row : ℕ) → Ty → Under → Doc → Type 0 wher
 
 -- 12: a mandatory member of its type isn't there; one of the wrong kind is
 pub data Lacks : Ty → Members → Type 0 where
-  lacks : {o : ObjectType} {ms : Members} {k : Known} → In k (properties o) → k .mandatory ≡ true → ((d : Doc) → ¬ Has ms (k .spelling) d)
+  lacks : {o : ObjectType} {ms : Members} {k : Known} → In k (properties o) → k .mandatory ≡ true → ((d : Doc) → ¬ HasMember ms (k .spelling) d)
       → Lacks (objectOf o) ms
 
 -- 13: a value that isn't allowed
 pub data Unallowed : Ty → Doc → Type 0 where
   other-string : {n : Name} {v : Doc} → ¬ (contentOf (tokenOf v) ≡ n) → Unallowed (simple (exactly n)) v
   not-true : {v : Doc} → ¬ (kindOf v ≡ 3) → Unallowed (simple yes) v
-  no-count : {low high : ℕ} {v : Doc} → ¬ Count low high (tokenOf v) → Unallowed (simple (count low high)) v
+  no-count : {low high : ℕ} {v : Doc} → ¬ UnsignedInt low high (tokenOf v) → Unallowed (simple (count low high)) v
   no-time : {v : Doc} → ¬ UTCDateTime (contentOf (tokenOf v)) → Unallowed (simple time) v
 
 -- 13: a key that isn't allowed
-pub data BadKey : Under → Type 0 where
-  no-id : {earlier : List Name} {n : Name} → ¬ Id n → BadKey (key ids earlier n)
+pub data UnallowedKey : Under → Type 0 where
+  no-id : {earlier : List Name} {n : Name} → ¬ Id n → UnallowedKey (key ids earlier n)
 
 -- 14: a rule between its members is broken
 pub data Unruly : Ty → Members → Type 0 where
   between : {o : ObjectType} {ms : Members} → BreaksBetween o ms → Unruly (objectOf o) ms
 
 -- the sheet's lines 11 to 14, of a value under a key, where a type is asked; a value of the wrong kind breaks 11 alone
-pub data Breaks : (number : ℕ) → Ty → Under → Doc → Type 0 where
-  kind : {ty : Ty} {u : Under} {v : Doc} → ¬ Suits ty (kindOf v) → Breaks 11 ty u v
-  missing : {ty : Ty} {u : Under} {v : Doc} → Suits ty (kindOf v) → Lacks ty (below v) → Breaks 12 ty u v
-  value : {ty : Ty} {u : Under} {v : Doc} → Suits ty (kindOf v) → Unallowed ty v → Breaks 13 ty u v
-  badly-keyed : {ty : Ty} {u : Under} {v : Doc} → Suits ty (kindOf v) → BadKey u → Breaks 13 ty u v
-  rule : {ty : Ty} {u : Under} {v : Doc} → Suits ty (kindOf v) → Unruly ty (below v) → Breaks 14 ty u v
+pub data BreaksLine : (number : ℕ) → Ty → Under → Doc → Type 0 where
+  kind : {ty : Ty} {u : Under} {v : Doc} → ¬ Suits ty (kindOf v) → BreaksLine 11 ty u v
+  missing : {ty : Ty} {u : Under} {v : Doc} → Suits ty (kindOf v) → Lacks ty (below v) → BreaksLine 12 ty u v
+  value : {ty : Ty} {u : Under} {v : Doc} → Suits ty (kindOf v) → Unallowed ty v → BreaksLine 13 ty u v
+  badly-keyed : {ty : Ty} {u : Under} {v : Doc} → Suits ty (kindOf v) → UnallowedKey u → BreaksLine 13 ty u v
+  rule : {ty : Ty} {u : Under} {v : Doc} → Suits ty (kindOf v) → Unruly ty (below v) → BreaksLine 14 ty u v
 
 -- ---- what a card breaks
 
@@ -77,14 +77,14 @@ pub record RowBreaks (whole : Doc) (row number : ℕ) : Type 0 where
   pub under : Under
   pub value : Doc
   pub stands : At whole row type under value
-  pub broken : Breaks number type under value
+  pub broken : BreaksLine number type under value
 
 -- nothing is broken anywhere
 abbrev pub Keeps : Doc → Type 0
 Keeps whole = (row number : ℕ) → ¬ RowBreaks whole row number
 
 -- 01: of 11 to 14, the earliest row wins, then the smaller number
-pub record First (whole : Doc) (row number : ℕ) : Type 0 where
+pub record FirstBreach (whole : Doc) (row number : ℕ) : Type 0 where
   pub broken : RowBreaks whole row number
   pub earliest : (r n : ℕ) → RowBreaks whole r n → row ≤ r
   pub smallest : (n : ℕ) → RowBreaks whole row n → number ≤ n

@@ -2,24 +2,24 @@
 -- Dates.antt tell just these (specs/Judging.antt).
 -- Assumes nothing: these are definitions.
 use Prim.Native.Nat.{ℕ, _+_, _*_, _≤_, _<_}
-use Prim.Native.Char.{Char, code}
-use mathlib.Core.Path.{_≡_}
+use Prim.Native.Char.{code}
 use mathlib.Core.List.{List, [], _∷_, _++_}
 use lib.ListN.{length}
 use Rattle.laws.specs.Each.{Each}
+use Rattle.laws.specs.Divides.{Divides}
 use Rattle.text.specs.Text.{bytes}
+use Rattle.text.specs.Abnf.{Between}
+
+-- a digit as it is written
+abbrev pub DigitByte : ℕ → Type 0
+DigitByte = Between (code "0") (code "9")
 
 -- ---- Id (RFC 9553, 1.4.1): 1 to 255 bytes of A-Z a-z 0-9 - _
 
--- the bytes from one character to another
-pub record Between (from to : Char) (byte : ℕ) : Type 0 where
-  pub low : code from ≤ byte
-  pub high : byte ≤ code to
-
 pub data IdByte : ℕ → Type 0 where
-  capital : {b : ℕ} → Between "A" "Z" b → IdByte b
-  small : {b : ℕ} → Between "a" "z" b → IdByte b
-  digit : {b : ℕ} → Between "0" "9" b → IdByte b
+  capital : {b : ℕ} → Between (code "A") (code "Z") b → IdByte b
+  small : {b : ℕ} → Between (code "a") (code "z") b → IdByte b
+  digit : {b : ℕ} → DigitByte b → IdByte b
   hyphen : IdByte (code "-")
   underscore : IdByte (code "_")
 
@@ -31,17 +31,17 @@ pub record Id (bytes : List ℕ) : Type 0 where
 -- ---- UnsignedInt (RFC 9553, 1.4.2): digits only (house ruling), and a number of at most 2^53 - 1
 
 -- a digit and its value
-pub data Digit : (byte value : ℕ) → Type 0 where
-  digit : {v : ℕ} → v < 10 → Digit (code "0" + v) v
+pub data DigitValue : (byte value : ℕ) → Type 0 where
+  digit : {v : ℕ} → v < 10 → DigitValue (code "0" + v) v
 
 -- Digits and the number that they denote, digit by digit. No digit denotes 0; that never meets a token of a text, since a JSON number has a digit
 -- (RFC 8259: int = zero / ( digit1-9 *DIGIT )), and no type of the table has 0 in its bounds.
 pub data Denotes : (digits : List ℕ) → (number : ℕ) → Type 0 where
   none : Denotes [] 0
-  more : {ds : List ℕ} {v b d : ℕ} → Denotes ds v → Digit b d → Denotes (ds ++ b ∷ []) (10 * v + d)
+  more : {ds : List ℕ} {v b d : ℕ} → Denotes ds v → DigitValue b d → Denotes (ds ++ b ∷ []) (10 * v + d)
 
 -- an UnsignedInt from low to high
-pub record Count (low high : ℕ) (token : List ℕ) : Type 0 where
+pub record UnsignedInt (low high : ℕ) (token : List ℕ) : Type 0 where
   pub number : ℕ
   pub denoted : Denotes token number
   pub unsigned : number ≤ 9007199254740991
@@ -49,10 +49,6 @@ pub record Count (low high : ℕ) (token : List ℕ) : Type 0 where
   pub upto : number ≤ high
 
 -- ---- days of the Gregorian calendar
-
-pub record Divides (n year : ℕ) : Type 0 where
-  pub times : ℕ
-  pub is : year ≡ n * times
 
 -- every fourth year, but of the full centuries only every fourth
 pub data Leap : (year : ℕ) → Type 0 where
@@ -84,15 +80,15 @@ pub record Day (year month day : ℕ) : Type 0 where
 -- ---- UTCDateTime (RFC 9553, 1.4.5; RFC 3339): as 2010-10-10T10:10:10Z
 
 pub data Two : (digits : List ℕ) → (number : ℕ) → Type 0 where
-  two : {a b x y : ℕ} → Digit a x → Digit b y → Two (a ∷ b ∷ []) (10 * x + y)
+  two : {a b x y : ℕ} → DigitValue a x → DigitValue b y → Two (a ∷ b ∷ []) (10 * x + y)
 
 pub data Four : (digits : List ℕ) → (number : ℕ) → Type 0 where
-  four : {a b c d w x y z : ℕ} → Digit a w → Digit b x → Digit c y → Digit d z
+  four : {a b c d w x y z : ℕ} → DigitValue a w → DigitValue b x → DigitValue c y → DigitValue d z
       → Four (a ∷ b ∷ c ∷ d ∷ []) (1000 * w + 100 * x + 10 * y + z)
 
 -- a fraction of a second: its last digit isn't 0, so there is one
 pub data Fraction : (digits : List ℕ) → Type 0 where
-  fraction : {ds : List ℕ} {b v : ℕ} → Each (Between "0" "9") ds → Digit b v → 1 ≤ v → Fraction (ds ++ b ∷ [])
+  fraction : {ds : List ℕ} {b v : ℕ} → Each DigitByte ds → DigitValue b v → 1 ≤ v → Fraction (ds ++ b ∷ [])
 
 -- what follows the seconds: Z, or a point, a fraction and Z
 pub data Zone : List ℕ → Type 0 where

@@ -1,4 +1,4 @@
--- The tests of the rules between members decide what specs/Between.antt says:
+-- The tests of the rules between members decide what specs/BetweenMembers.antt says:
 --     there-test      a member of that name is there
 --     between-test    a rule between members is broken, by the type
 -- Assumes nothing.
@@ -9,6 +9,7 @@ use mathlib.Core.Bool.{Bool, false, cond, _&&_, true≢false}
 use mathlib.Core.List.{List, [], _∷_}
 use mathlib.Core.Logic.{_⊎_, inl, inr, ⊎-elim}
 use mathlib.Core.Option.{Option, none, some}
+use Rattle.laws.specs.Tests.{anyMark, allMarks, adjacent}
 use Rattle.laws.specs.Each.{Each, Some, Neighbours}
 use Rattle.laws.specs.Each as E
 use Rattle.laws.proofs.Decides.{Decides, holds, fails, itself, swap, equal, bytes-same, both, either, unless, lets, not-both}
@@ -16,42 +17,42 @@ use Rattle.text.specs.Text.{bytes}
 use Rattle.text.specs.Strings.{contentOf}
 use Rattle.text.specs.Doc.{Name, Doc, scalar, array, object, Members, empty, member, kindOf, tokenOf, below, Property, property, seek, isThere}
 use Rattle.contact.specs.Schema.{ObjectType, card, name, nameComponent, address, addressComponent, emailAddress, phone, properties, typeIn}
-use Rattle.contact.specs.Rules.{ifFits, present, isTrue, isString, isThisString, hasKind, isSeparator, marksOf, marks, anyMark, allMarks, adjacent, breaksCard, breaksSeparators, breaksName, breaks}
-use Rattle.contact.specs.Kinds.{Tabled}
-use Rattle.contact.specs.Between.{Has, here, later, Counts, IsString, string, Separator, separator, entries, BreaksCard, no-group, BreaksSeparators, in-a-row, unordered, default-unordered, default-alone, BreaksName, nameless, only-separators, separators, BreaksBetween, of-card, of-name, of-address}
+use Rattle.contact.specs.Rules.{ifFits, present, isTrue, isString, isThisString, hasKind, isSeparator, marksOf, marks, breaksCard, breaksSeparators, breaksName, breaks}
+use Rattle.contact.specs.AskedKinds.{Tabled}
+use Rattle.contact.specs.BetweenMembers.{HasMember, here, later, Counts, IsString, string, Separator, separator, elements, BreaksCard, no-group, BreaksSeparators, in-a-row, unordered, default-unordered, default-alone, BreaksName, nameless, only-separators, separators, BreaksBetween, of-card, of-name, of-address}
 use Rattle.contact.proofs.Judging.Table.{table-test}
 
 -- ---- members
 
 -- what is found of a name
 data Sought (ms : Members) (n : Name) : Option Property → Type 0 where
-  got : (p : Property) → Has ms n (p .content) → ((e : Doc) → Has ms n e → e ≡ p .content) → Sought ms n (some p)
-  lost : ((e : Doc) → ¬ Has ms n e) → Sought ms n none
+  got : (p : Property) → HasMember ms n (p .content) → ((e : Doc) → HasMember ms n e → e ≡ p .content) → Sought ms n (some p)
+  lost : ((e : Doc) → ¬ HasMember ms n e) → Sought ms n none
 
-first-has : {m n : Name} {label : List ℕ} {d e : Doc} {ms : Members} → Has (member m label d ms) n e → (m ≡ n × (e ≡ d)) ⊎ (¬ (m ≡ n) × Has ms n e)
+first-has : {m n : Name} {label : List ℕ} {d e : Doc} {ms : Members} → HasMember (member m label d ms) n e → (m ≡ n × (e ≡ d)) ⊎ (¬ (m ≡ n) × HasMember ms n e)
 first-has here = inl (refl, refl)
 first-has (later f h) = inr (f, h)
 
 sought : (n : Name) (ms : Members) → Sought ms n (seek n ms)
 sought n empty = lost none-here
   where
-    none-here : (e : Doc) → ¬ Has empty n e
+    none-here : (e : Doc) → ¬ HasMember empty n e
     none-here e h = elim h [ ]
 sought n (member m label d ms) = next (bytes-same m n) (sought n ms)
   where
     next : {b : Bool} {o : Option Property} → Decides (m ≡ n) b → Sought ms n o → Sought (member m label d ms) n (cond b (some (property label d)) o)
     next (holds e) s =
-        got (property label d) (subst (λ (k : Name). Has (member m label d ms) k d) e here)
-        (λ x h. ⊎-elim (λ (q : m ≡ n × (x ≡ d)). q .1) (λ (q : ¬ (m ≡ n) × Has ms n x). absurd (q .0 e)) (first-has h))
+        got (property label d) (subst (λ (k : Name). HasMember (member m label d ms) k d) e here)
+        (λ x h. ⊎-elim (λ (q : m ≡ n × (x ≡ d)). q .1) (λ (q : ¬ (m ≡ n) × HasMember ms n x). absurd (q .0 e)) (first-has h))
     next (fails f) (got p h u) =
-        got p (later f h) (λ x k. ⊎-elim (λ (q : m ≡ n × (x ≡ d)). absurd (f (q .0))) (λ (q : ¬ (m ≡ n) × Has ms n x). u x (q .1)) (first-has k))
+        got p (later f h) (λ x k. ⊎-elim (λ (q : m ≡ n × (x ≡ d)). absurd (f (q .0))) (λ (q : ¬ (m ≡ n) × HasMember ms n x). u x (q .1)) (first-has k))
     next (fails f) (lost g) =
-        lost (λ x k. ⊎-elim (λ (q : m ≡ n × (x ≡ d)). f (q .0)) (λ (q : ¬ (m ≡ n) × Has ms n x). g x (q .1)) (first-has k))
+        lost (λ x k. ⊎-elim (λ (q : m ≡ n × (x ≡ d)). f (q .0)) (λ (q : ¬ (m ≡ n) × HasMember ms n x). g x (q .1)) (first-has k))
 
-pub there-test : (n : Name) (ms : Members) → Decides ((d : Doc) × Has ms n d) (isThere (seek n ms))
+pub there-test : (n : Name) (ms : Members) → Decides ((d : Doc) × HasMember ms n d) (isThere (seek n ms))
 there-test n ms = go (sought n ms)
   where
-    go : {o : Option Property} → Sought ms n o → Decides ((d : Doc) × Has ms n d) (isThere o)
+    go : {o : Option Property} → Sought ms n o → Decides ((d : Doc) × HasMember ms n d) (isThere o)
     go (got p h u) = holds (p .content, h)
     go (lost f) = fails (λ h. f (h .0) (h .1))
 
@@ -64,7 +65,7 @@ present-is : (o : ObjectType) (n : String) (ms : Members) → Is (Counts o ms n)
 unfolding present
 present-is o n ms = go (sought (bytes n) ms)
   where
-    pick : {b : Bool} (p : Property) → Has ms (bytes n) (p .content) → ((e : Doc) → Has ms (bytes n) e → e ≡ p .content)
+    pick : {b : Bool} (p : Property) → HasMember ms (bytes n) (p .content) → ((e : Doc) → HasMember ms (bytes n) e → e ≡ p .content)
         → Decides (Tabled o (bytes n) (kindOf (p .content))) b → Is (Counts o ms n) (cond b (some (p .content)) none)
     pick p h u (holds s) = one (p .content) (record { has = h; suits = s }) (λ e c. u e (c .has))
     pick p h u (fails f) = no-one (λ d c. f (subst (λ (x : Doc). Tabled o (bytes n) (kindOf x)) (u d (c .has)) (c .suits)))
@@ -103,7 +104,7 @@ string-test s (scalar kind token) =
 string-test s (array ms) = fails (λ h. elim h [ ])
 string-test s (object ms) = fails (λ h. elim h [ ])
 
-separator-is : {ms : Members} → Separator (object ms) → (kind : Doc) × Has ms (bytes "kind") kind × IsString "separator" kind
+separator-is : {ms : Members} → Separator (object ms) → (kind : Doc) × HasMember ms (bytes "kind") kind × IsString "separator" kind
 separator-is (separator h s) = (_, h, s)
 
 separator-test : (d : Doc) → Decides (Separator d) (isSeparator d)
@@ -116,25 +117,25 @@ separator-test (object ms) = go (sought (bytes "kind") ms)
     go (got p h u) = swap (separator h) (λ s. let k = separator-is s in subst (IsString "separator") (u (k .0) (k .1)) (k .2)) (string-test "separator" (p .content))
     go (lost f) = fails (λ s. let k = separator-is s in f (k .0) (k .1))
 
-each-separator : (ms : Members) → Decides (Each Separator (entries ms)) (allMarks (marksOf ms))
-unfolding entries marksOf allMarks
+each-separator : (ms : Members) → Decides (Each Separator (elements ms)) (allMarks (marksOf ms))
+unfolding elements marksOf allMarks
 each-separator empty = holds E.none
 each-separator (member n label d ms) = swap (λ h. E.more (h .0) (h .1)) parts (both (separator-test d) (each-separator ms))
   where
-    parts : Each Separator (d ∷ entries ms) → Separator d × Each Separator (entries ms)
+    parts : Each Separator (d ∷ elements ms) → Separator d × Each Separator (elements ms)
     parts (E.more p ps) = (p, ps)
 
-some-separator : (ms : Members) → Decides (Some Separator (entries ms)) (anyMark (marksOf ms))
-unfolding entries marksOf anyMark
+some-separator : (ms : Members) → Decides (Some Separator (elements ms)) (anyMark (marksOf ms))
+unfolding elements marksOf anyMark
 some-separator empty = fails (λ h. elim h [ ])
 some-separator (member n label d ms) = swap (⊎-elim E.here E.later) parts (either (separator-test d) (some-separator ms))
   where
-    parts : Some Separator (d ∷ entries ms) → Separator d ⊎ Some Separator (entries ms)
+    parts : Some Separator (d ∷ elements ms) → Separator d ⊎ Some Separator (elements ms)
     parts (E.here p) = inl p
     parts (E.later ps) = inr ps
 
-two-separators : (ms : Members) → Decides (Neighbours Separator (entries ms)) (adjacent (marksOf ms))
-unfolding entries marksOf adjacent
+two-separators : (ms : Members) → Decides (Neighbours Separator (elements ms)) (adjacent (marksOf ms))
+unfolding elements marksOf adjacent
 two-separators empty = fails (λ h. elim h [ ])
 two-separators (member n label d empty) = fails alone
   where
@@ -144,7 +145,7 @@ two-separators (member n label d (member m tag e ms)) =
     swap (⊎-elim (λ h. E.both (h .0) (h .1)) E.further) parts
     (either (both (separator-test d) (separator-test e)) (two-separators (member m tag e ms)))
   where
-    parts : Neighbours Separator (d ∷ e ∷ entries ms) → (Separator d × Separator e) ⊎ Neighbours Separator (e ∷ entries ms)
+    parts : Neighbours Separator (d ∷ e ∷ elements ms) → (Separator d × Separator e) ⊎ Neighbours Separator (e ∷ elements ms)
     parts (E.both p q) = inl (p, q)
     parts (E.further h) = inr h
 
@@ -177,7 +178,7 @@ module _ (o : ObjectType) (ms : Members) where
   -- the three ways of the test
   abbrev Ways : Type 0
   Ways =
-      (Listed (λ d. Neighbours Separator (entries (below d))) ⊎ (Listed (λ d. Some Separator (entries (below d))) × (Ordered → ⊥)))
+      (Listed (λ d. Neighbours Separator (elements (below d))) ⊎ (Listed (λ d. Some Separator (elements (below d))) × (Ordered → ⊥)))
       ⊎ (((d : Doc) × Counts o ms "defaultSeparator" d) × ((Ordered × ((d : Doc) × Counts o ms "components" d)) → ⊥))
 
   separators-by : Ways → BreaksSeparators o ms
@@ -206,7 +207,7 @@ module _ (o : ObjectType) (ms : Members) where
 abbrev NameWays : Members → Type 0
 NameWays ms =
     (((((d : Doc) × Counts name ms "full" d) ⊎ ((d : Doc) × Counts name ms "components" d)) → ⊥)
-    ⊎ ((d : Doc) × Counts name ms "components" d × Each Separator (entries (below d))))
+    ⊎ ((d : Doc) × Counts name ms "components" d × Each Separator (elements (below d))))
     ⊎ BreaksSeparators name ms
 
 name-test : (ms : Members) → Decides (BreaksName ms) (breaksName ms)

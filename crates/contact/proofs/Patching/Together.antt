@@ -1,4 +1,4 @@
--- Demand 3, of the definitions (specs/Demand.antt), from the theorems of the files beside this one; and of two texts that pass: their order of
+-- Demand 3, of the definitions (specs/Patching.antt), from the theorems of the files beside this one; and of two texts that pass: their order of
 -- entries and their white space don't count (`order-of-texts`).
 -- Assumes nothing.
 use mathlib.Core.Bool.{Bool, false, _||_, true≢false}
@@ -7,6 +7,7 @@ use mathlib.Core.Option.{Option, none, some}
 use mathlib.Core.Logic.{_≢_}
 use mathlib.Core.Path.{_≡_, refl, sym, ap, _∙_}
 use Prim.Native.Nat.{ℕ}
+use Rattle.laws.specs.Sorting.{Perm, stay, skip, swap, andThen}
 use Rattle.laws.proofs.Bools.{byTest, or-false, swap-or}
 use Rattle.laws.proofs.Orders.{same-refl}
 use Rattle.laws.specs.Order.{same}
@@ -18,9 +19,10 @@ use Rattle.contact.specs.Verdict.{passed, judgedOf}
 use Rattle.contact.specs.Pointer.{last, badTilde, find, within, Pointer, down, firstPart}
 use Rattle.contact.specs.Patch.{Entry, entriesOf, anyBadKey, anyClash, isInArray, isNoObject, without, applied, entry, added, kept, anyOwn}
 use Rattle.contact.specs.Localize.{done, start, byEntries, inPatch, withPatch, localizedDoc, localizedOf}
-use Rattle.contact.specs.Entries.{Perm, stay, skip, swap, then, Shuffled, asIs, keepFirst, swapFirst, andOn, DistinctValues, NoClash, ParentsThere, Apart, ApartFrom}
+use Rattle.contact.specs.Entries.{Shuffled, asIs, keepFirst, swapFirst, andOn, NoClash, ParentsThere, Apart, ApartFrom}
 use Rattle.contact.specs.Conditions.{Accepted}
-use Rattle.contact.specs.Demand.{Rearranged, rearranged, AtMember, thisOne, laterOne, InMember, inMember, OrderOnly, Ends, Patched, PatchedText, Demand}
+use Rattle.contact.specs.Patching.{Rearranged, rearranged, AtMember, thisOne, laterOne, InMember, inMember, OrderOnly, RunsTo, Patched, PatchedText, Patching}
+use Rattle.contact.proofs.Patching.Pointers.{key-iff}
 use Rattle.contact.proofs.Patching.Names.{same-no, same-yes}
 use Rattle.contact.proofs.Patching.Order.{any-order}
 use Rattle.contact.proofs.Patching.Untouched.{untouched}
@@ -29,7 +31,7 @@ use Rattle.contact.proofs.Patching.Layout.{laid-root, laid-below}
 use Rattle.contact.proofs.Patching.Effect.{effect}
 use Rattle.contact.proofs.Patching.Single.{in-any-order}
 use Rattle.contact.proofs.Patching.Reorder.{same-reordered}
-use Rattle.contact.proofs.Patching.Distinct.{distinct-run, distinct-applied, perm-values, entries-values}
+use Rattle.contact.proofs.Patching.Distinct.{DistinctValues, distinct-run, distinct-applied, perm-values, entries-values}
 use Rattle.contact.proofs.Patching.Apart.{clear-apart, from-anyClash, perm-anyClash, perm-anyWalk, perm-anyOwn}
 use Rattle.contact.proofs.Patching.Fine.{Fine, fine}
 use Rattle.contact.proofs.Patching.Refused.{refused-iff, accepted-iff}
@@ -41,7 +43,7 @@ pub shuffled-entries : {ms ns : Members} → Shuffled ms ns → Perm (entriesOf 
 shuffled-entries asIs = stay
 shuffled-entries (keepFirst σ) = skip (shuffled-entries σ)
 shuffled-entries swapFirst = swap
-shuffled-entries (andOn σ τ) = then (shuffled-entries σ) (shuffled-entries τ)
+shuffled-entries (andOn σ τ) = andThen (shuffled-entries σ) (shuffled-entries τ)
 
 shuffled-keys : {ms ns : Members} → Shuffled ms ns → anyBadKey ms ≡ anyBadKey ns
 shuffled-keys asIs = refl
@@ -148,7 +150,7 @@ module _ (L : Limits) (words room : ℕ) where
   patched-so d ms nc pt =
       let es : List Entry = entriesOf ms in
       let x : Doc = applied d es in
-      let runs : (fs : List Entry) → Perm es fs → Ends fs d x = λ fs π. in-any-order es fs d π nc pt in
+      let runs : (fs : List Entry) → Perm es fs → RunsTo fs d x = λ fs π. in-any-order es fs d π nc pt in
       record {
         one-by-one = runs;
         reordered = λ h k fs π.
@@ -180,13 +182,14 @@ module _ (L : Limits) (words room : ℕ) where
             ∙ start-has-none card;
       }
 
-  pub demand : Demand L words room
-  demand = record {
+  pub patching : Patching L words room
+  patching = record {
     given = λ text lang. given-iff L words room text lang;
     passes = λ text lang. passed-so L words room text lang;
     order = card-order;
     order-of-texts = order-of-texts;
     refused = λ card lang. refused-iff L words room card lang;
     accepted = λ card lang. accepted-iff L words room card lang;
+    keys = λ key. key-iff key;
     written-so = written-so;
   }

@@ -9,18 +9,18 @@ use Rattle.text.specs.Text.{bytes}
 use Rattle.text.specs.Strings.{contentOf}
 use Rattle.text.specs.Doc.{Name, Doc, scalar, object, Members, empty, member, kindOf, below}
 use Rattle.contact.specs.Schema.{ObjectType, card, name, address}
-use Rattle.contact.specs.Kinds.{Tabled}
+use Rattle.contact.specs.AskedKinds.{Tabled}
 
 -- ---- members
 
 -- the member of a name; reading sees to it that no other has the name, and where one has, the first is meant
-pub data Has : Members → Name → Doc → Type 0 where
-  here : {n : Name} {label : List ℕ} {d : Doc} {ms : Members} → Has (member n label d ms) n d
-  later : {m n : Name} {label : List ℕ} {d e : Doc} {ms : Members} → ¬ (m ≡ n) → Has ms n d → Has (member m label e ms) n d
+pub data HasMember : Members → Name → Doc → Type 0 where
+  here : {n : Name} {label : List ℕ} {d : Doc} {ms : Members} → HasMember (member n label d ms) n d
+  later : {m n : Name} {label : List ℕ} {d e : Doc} {ms : Members} → ¬ (m ≡ n) → HasMember ms n d → HasMember (member m label e ms) n d
 
 -- a member that counts: its kind is the one that the table asks, for a member of the wrong kind counts as absent
 pub record Counts (o : ObjectType) (ms : Members) (n : String) (d : Doc) : Type 0 where
-  pub has : Has ms (bytes n) d
+  pub has : HasMember ms (bytes n) d
   pub suits : Tabled o (bytes n) (kindOf d)
 
 abbrev pub Absent : ObjectType → Members → String → Type 0
@@ -38,12 +38,12 @@ Unordered o ms = (d : Doc) → Counts o ms "isOrdered" d → ¬ (kindOf d ≡ 3)
 
 -- an entry whose `kind` is the String "separator"; an entry without a String `kind` isn't one
 pub data Separator : Doc → Type 0 where
-  separator : {ms : Members} {kind : Doc} → Has ms (bytes "kind") kind → IsString "separator" kind → Separator (object ms)
+  separator : {ms : Members} {kind : Doc} → HasMember ms (bytes "kind") kind → IsString "separator" kind → Separator (object ms)
 
 -- the entries of a list
-unfoldable pub entries : Members → List Doc
-entries empty = []
-entries (member n label d ms) = d ∷ entries ms
+unfoldable pub elements : Members → List Doc
+elements empty = []
+elements (member n label d ms) = d ∷ elements ms
 
 -- ---- how the rules are broken
 
@@ -54,9 +54,9 @@ pub data BreaksCard (ms : Members) : Type 0 where
 -- Name and Address
 pub data BreaksSeparators (o : ObjectType) (ms : Members) : Type 0 where
   -- two separator entries stand in a row
-  in-a-row : {list : Doc} → Counts o ms "components" list → Neighbours Separator (entries (below list)) → BreaksSeparators o ms
+  in-a-row : {list : Doc} → Counts o ms "components" list → Neighbours Separator (elements (below list)) → BreaksSeparators o ms
   -- a separator entry, without true `isOrdered`
-  unordered : {list : Doc} → Counts o ms "components" list → Some Separator (entries (below list)) → Unordered o ms → BreaksSeparators o ms
+  unordered : {list : Doc} → Counts o ms "components" list → Some Separator (elements (below list)) → Unordered o ms → BreaksSeparators o ms
   -- `defaultSeparator` without true `isOrdered`, or without `components`
   default-unordered : {d : Doc} → Counts o ms "defaultSeparator" d → Unordered o ms → BreaksSeparators o ms
   default-alone : {d : Doc} → Counts o ms "defaultSeparator" d → Absent o ms "components" → BreaksSeparators o ms
@@ -66,7 +66,7 @@ pub data BreaksName (ms : Members) : Type 0 where
   -- neither `full` nor `components` is there
   nameless : Absent name ms "full" → Absent name ms "components" → BreaksName ms
   -- a list is there, and has no entry that isn't a separator
-  only-separators : {list : Doc} → Counts name ms "components" list → Each Separator (entries (below list)) → BreaksName ms
+  only-separators : {list : Doc} → Counts name ms "components" list → Each Separator (elements (below list)) → BreaksName ms
   separators : BreaksSeparators name ms → BreaksName ms
 
 -- by the type; an Address may have neither `full` nor `components`, and the entry that isn't a separator isn't asked of it (house ruling)
