@@ -1,7 +1,7 @@
 // The conditions 22 to 26 of a patch, the smallest number first, each over all entries of the untouched card.
 use crate::entries::Clash;
-use crate::entries::any_bad_key;
-use crate::entries::any_own;
+use crate::entries::Fault;
+use crate::entries::any_faulty;
 use crate::entries::first_clash;
 use crate::entries::worst_path;
 use crate::paths::Path;
@@ -57,10 +57,10 @@ pub(crate) fn first_broken(
     requires { ⌜ ((g : Forest) × ValueAt (now «card_table») row g) ⌝ }
     ensures { λ r. ⌜ ((g : Forest) (ms : Members) → ValueAt (now («card_table» .entry)) row g → Listed (now (text .entry)) (now (table .entry)) (now (rows .entry)) 0 n ms → r ≡ conditionOf (docOf (now (card .entry)) g) ms) ⌝ }
 {
-    if any_bad_key(text, table, rows, n) {
+    if any_faulty(Fault::Tilde, text, table, rows, n) {
         return Condition::Broken(LocalRefusal::BadKey);
     }
-    if any_own(text, table, rows, n) {
+    if any_faulty(Fault::Own, text, table, rows, n) {
         return Condition::Broken(LocalRefusal::OwnLocalizations);
     }
     if is_pair(first_clash(text, table, rows, n)) {
