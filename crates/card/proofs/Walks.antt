@@ -42,6 +42,10 @@ row-inside table row h =
 pub value-row : {table : List ℕ} {row : ℕ} {g : Forest} → ValueAt table row g → RowAt table row g
 value-row {g = g} v = row-at g (v .some) (v .stands)
 
+-- what is inside it, by the number of rows
+pub value-inside : {table : List ℕ} {row k : ℕ} {g : Forest} → ValueAt table row g → k ≡ belowIn table row → StandsTo table (row + 1) (row + 1 + k) (insideAt g)
+value-inside {g = g} v e = rw (e, value-row v .below) (inside g (v .some) (v .stands))
+
 -- What a loop along the rows inside a value keeps, whatever the table holds: it is past the value's row, its end is not far, and the output is as long as before.
 pub record Passing (row end m : ℕ) (old new : List ℕ) : Type 0 where
   pub later : row < m

@@ -55,10 +55,6 @@ abbrev pub isOut : (root : Bool) → Name → Bool
 isOut true n = same n (bytes "localizations")
 isOut false n = false
 
--- is the member of such a name the one that is looked for?
-abbrev pub memberIs : (root : Bool) → (name sought : Name) → Bool
-memberIs root n m = let its = same n m in cond (isOut root n) false its
-
 -- ---- what becomes of a member
 
 -- by what is said of it, and its value if nothing is: left out, or written with a value

@@ -1,5 +1,7 @@
 // Values for a lent output: as they are, or as the entries of a patch leave them. No white space is written, and each token stays as it is.
 use crate::entries::key_at;
+use crate::members::Found;
+use crate::members::member_row;
 use crate::output::put_byte;
 use crate::output::put_comma;
 use crate::output::put_label;
@@ -33,10 +35,10 @@ ghost use Rattle.json.specs.Cursors.{rest};
 ghost use Rattle.contact.specs.Pointer.{pointerOf, firstPart};
 ghost use Rattle.contact.specs.Patch.{entry, changeOf, added};
 ghost use Rattle.card.specs.Parts.{partLeft};
-ghost use Rattle.card.specs.Entries.{keyAt, stripped};
+ghost use Rattle.card.specs.Entries.{stripped};
 ghost use Rattle.card.specs.Written.{Wrote};
 ghost use Rattle.card.specs.Copied.{ValueAt, openOf, closeOf, headOf, labelIn, Copied};
-ghost use Rattle.card.specs.Patched.{InRows, Said, membersIn, isOut, memberIs, keptBy, adds, pointerIn, entryOf, Ending, idle, Passed, PutMember, PutValue, PutCard};
+ghost use Rattle.card.specs.Patched.{InRows, Said, membersIn, isOut, keptBy, adds, pointerIn, entryOf, Ending, idle, Passed, PutMember, PutValue, PutCard};
 
 // Where the next byte goes, and whether the next member is the first of its object.
 pub(crate) struct Spot {
@@ -124,33 +126,32 @@ fn is_out(root: bool, name: &[u8]) -> bool
     false
 }
 
-// Does the member at a row have the part of a key at the cursor as its name?
-fn is_member(text: &[u8], table: &[u32], row: usize, root: bool, key: &[u8], c: Cursor) -> bool
-    ensures { λ r. ⌜ r ≡ memberIs root (keyAt (now (text .entry)) (now (table .entry)) row) (partLeft (rest (now (key .entry)) c)) ⌝ }
+// Does the part of a key at the cursor name it?
+fn is_part_out(root: bool, key: &[u8], c: Cursor) -> bool
+    ensures { λ r. ⌜ r ≡ isOut root (partLeft (rest (now (key .entry)) c)) ⌝ }
 {
-    let name = key_at(text, table, row);
-    if is_out(root, name) {
-        return false;
+    if root {
+        return names_same(true, key, c, false, b"localizations", start());
     }
-    names_same(false, name, start(), true, key, c)
+    false
 }
 
-// Does the object at a row have a member of that name?
+// Does the object at a row have a member of that name? One that is left out doesn't count.
 fn has_member(text: &[u8], table: &[u32], row: usize, root: bool, key: &[u8], c: Cursor) -> bool
     ensures { λ r. ⌜ ((g : Forest) → ValueAt (now (table .entry)) row g → r ≡ isThere (seek (partLeft (rest (now (key .entry)) c)) (membersIn root (now (text .entry)) g))) ⌝ }
 {
     if table.len() <= row {
         return false;
     }
-    let end = row + 1 + below(table, row);
-    let mut m = row + 1;
-    while m < end {
-        if is_member(text, table, m, root, key, c) {
-            return true;
-        }
-        m = m + 1 + below(table, m);
+    if is_part_out(root, key, c) {
+        return false;
     }
-    false
+    let first = row + 1;
+    let end = first + below(table, row);
+    match member_row(text, table, first, end, true, key, c) {
+        Found::Row(_) => true,
+        Found::Nothing => false,
+    }
 }
 
 // Does the entry at the row e add a member to the object at a row? The cursor stands at the entry's part for the object.
