@@ -33,7 +33,8 @@ use Rattle.card.specs.Pointers.{pointerOrder, strip}
 use Rattle.card.specs.Runs.{Leads, leads-more, Ascending, asc-more}
 use Rattle.card.specs.Patched.{based, basedAll, isOut, keptBy, stays, freshly, adds, pointerIn, link, piece, since, Passed}
 use Rattle.card.specs.Written.{full, Wrote}
-use Rattle.card.specs.Copied.{ValueAt, headOf}
+use Rattle.card.specs.Rows.{KnownAt}
+use Rattle.card.specs.Copied.{headOf}
 use Rattle.card.specs.declared.writing.Spot.{Spot}
 use Rattle.card.proofs.Walks.{value-row}
 use Rattle.card.proofs.Bytes.{wrote-none, wrote-then}
@@ -195,7 +196,7 @@ module _ (ms : Members) (p : Pointer) (d : Doc) {there : Bool} (ends : p ≡ las
   adds-it e = adds-last ∙ rw e
 
 -- the part of an entry's key at which a cursor stands
-pub at-part : (t : List ℕ) (parts : ℕ) {table : List ℕ} {row : ℕ} {h : Forest} (key : List ℕ) (c : Cursor) → ValueAt table row h
+pub at-part : (t : List ℕ) (parts : ℕ) {table : List ℕ} {row : ℕ} {h : Forest} (key : List ℕ) (c : Cursor) → KnownAt table row h
     → key ≡ partOf t (nameStartIn table row) (nameEndIn table row) → pointerOf (rest key c) ≡ strip parts (pointerOf (decode key))
     → pointerOf (rest key c) ≡ pointerIn t parts h
 at-part t parts key c v k e = e ∙ rw (k, value-row v .name-start, value-row v .name-end)

@@ -17,7 +17,7 @@ use Rattle.text.proofs.Promise.{members-first, members-none}
 use Rattle.contact.specs.Schema.{name, address, Ty, simple, flag, string, keySet, listOf, objectOf, nameComponent, addressComponent, properties, typeIn, fits}
 use Rattle.contact.specs.Rules.{ifFits, present, isTrue, isString, isThisString, hasKind, isSeparator, marksOf, marks, anyMark, allMarks, adjacent, breaksCard, breaksSeparators, breaksName}
 use Rattle.card.specs.Rows.{ValueAt, Finds, ofKind}
-use Rattle.card.specs.Marks.{marks as kept, fresh, markOn, tally, marksIn, listIn, fullIn, separatorsBreak, separatorsRule}
+use Rattle.card.specs.Marks.{marks as kept, fresh, markOn, tally, marksIn, listIn, separatorsBreak, separatorsRule}
 use Rattle.card.specs.declared.rules.Marks.{Marks}
 use Rattle.card.specs.declared.rows.Found.{Found}
 use Rattle.card.specs.declared.rows.Found.the-variants.{At, Nothing}
@@ -161,6 +161,10 @@ name-separators ms =
       ← truly (seek (bytes "isOrdered") ms),
       ← there string 5 (λ k. refl) (seek (bytes "defaultSeparator") ms),
     )
+
+-- `full` is a String (5)
+abbrev pub fullIn : Members → Bool
+fullIn ms = isThere (ofKind 5 (seek (bytes "full") ms))
 
 unfoldable pub nameBreaks : (full listed all separators : Bool) → Bool
 nameBreaks full listed all separators = not (full || listed) || (listed && all) || separators

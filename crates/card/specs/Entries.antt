@@ -7,6 +7,7 @@ use lib.ListN.{getD}
 use Rattle.laws.specs.declared.Order.{Order}
 use Rattle.laws.specs.Lists.{partOf}
 use Rattle.laws.specs.Order.{same}
+use Rattle.text.specs.Limits.{base}
 use Rattle.text.specs.Text.{bytes}
 use Rattle.text.specs.Strings.{nameOf}
 use Rattle.text.specs.Tree.{Forest, size}
@@ -48,12 +49,12 @@ rowOrder t table row other = pointerOrder (pointerOf (keyAt t table row)) (point
 
 -- ---- listing and testing
 
--- values stand between two rows of a table, and their rows fit a list of so many words
+-- values stand between two rows of a table, no more rows than a text may have values, and they fit a list of so many words
 pub record Collects (table : List ℕ) (from end room : ℕ) : Type 0 where
   pub values : Forest
   pub stand : StandsTo table from end values
   pub room-for : size values ≤ room
-  pub few : end ≤ 65536
+  pub few : end ≤ base .values
 
 -- 22, a `~` that neither `0` nor `1` follows; 23, a pointer that begins with `localizations`: of one key, and of any
 abbrev pub isFaulty : Fault → Name → Bool

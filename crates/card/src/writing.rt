@@ -37,7 +37,8 @@ ghost use Rattle.contact.specs.Patch.{entry, changeOf, added};
 ghost use Rattle.card.specs.Parts.{partLeft};
 ghost use Rattle.card.specs.Entries.{stripped};
 ghost use Rattle.card.specs.Written.{Wrote};
-ghost use Rattle.card.specs.Copied.{ValueAt, openOf, closeOf, headOf, labelIn, Copied};
+ghost use Rattle.card.specs.Rows.{KnownAt};
+ghost use Rattle.card.specs.Copied.{openOf, closeOf, headOf, labelIn, Copied};
 ghost use Rattle.card.specs.Patched.{InRows, Said, membersIn, isOut, keptBy, adds, pointerIn, entryOf, Ending, idle, Passed, PutMember, PutValue, PutCard};
 
 // Where the next byte goes, and whether the next member is the first of its object.
@@ -138,7 +139,7 @@ fn is_part_out(root: bool, key: &[u8], c: Cursor) -> bool
 
 // Does the object at a row have a member of that name? One that is left out doesn't count.
 fn has_member(text: &[u8], table: &[u32], row: usize, root: bool, key: &[u8], c: Cursor) -> bool
-    ensures { λ r. ⌜ ((g : Forest) → ValueAt (now (table .entry)) row g → r ≡ isThere (seek (partLeft (rest (now (key .entry)) c)) (membersIn root (now (text .entry)) g))) ⌝ }
+    ensures { λ r. ⌜ ((g : Forest) → KnownAt (now (table .entry)) row g → r ≡ isThere (seek (partLeft (rest (now (key .entry)) c)) (membersIn root (now (text .entry)) g))) ⌝ }
 {
     if table.len() <= row {
         return false;
@@ -165,7 +166,7 @@ fn is_added(
     key: &[u8],
     c: Cursor,
 ) -> bool
-    ensures { λ r. ⌜ ((t : List ℕ) (g h : Forest) → ValueAt (now (table .entry)) row g → ValueAt (now (ptable .entry)) e h → adds (membersIn root (now (text .entry)) g) (entry (pointerOf (rest (now (key .entry)) c)) (changeOf (docOf t h))) ≡ cond r (some (docOf t h)) none) ⌝ }
+    ensures { λ r. ⌜ ((t : List ℕ) (g h : Forest) → KnownAt (now (table .entry)) row g → KnownAt (now (ptable .entry)) e h → adds (membersIn root (now (text .entry)) g) (entry (pointerOf (rest (now (key .entry)) c)) (changeOf (docOf t h))) ≡ cond r (some (docOf t h)) none) ⌝ }
 {
     if kind(ptable, e) == 1 {
         return false;
@@ -192,7 +193,7 @@ fn put_addition(
     out: &mut [u8],
     from: Spot,
 ) -> Spot
-    ensures { λ r. ⌜ ((g h : Forest) → ValueAt (now (table .entry)) row g → ValueAt (now (ptable .entry)) e h → Passed (now (out .entry)) from (adds (membersIn root (now (text .entry)) g) (entryOf (now (ptext .entry)) parts h)) (spelled (firstPart (pointerIn (now (ptext .entry)) parts h))) (now (out .exit)) r) ⌝ }
+    ensures { λ r. ⌜ ((g h : Forest) → KnownAt (now (table .entry)) row g → KnownAt (now (ptable .entry)) e h → Passed (now (out .entry)) from (adds (membersIn root (now (text .entry)) g) (entryOf (now (ptext .entry)) parts h)) (spelled (firstPart (pointerIn (now (ptext .entry)) parts h))) (now (out .exit)) r) ⌝ }
 {
     let key = key_at(ptext, ptable, e);
     let c = part_at(key, parts);
@@ -222,7 +223,7 @@ fn put_additions(
     from: Spot,
 ) -> usize
     requires { ⌜ InRows (now rows) (run .lo) (run .hi) ⌝ }
-    ensures { λ r. ⌜ ((g : Forest) (ms : Members) → ValueAt (now (table .entry)) row g → Said (now (ptext .entry)) (now (ptable .entry)) (now (rows .entry)) (run .lo) (run .hi) (run .parts) ms → Wrote (now (out .entry)) (from .to) (writtenMembers (added (membersIn root (now (text .entry)) g) (stripped (run .parts) ms)) (from .first)) (now (out .exit)) r) ⌝ }
+    ensures { λ r. ⌜ ((g : Forest) (ms : Members) → KnownAt (now (table .entry)) row g → Said (now (ptext .entry)) (now (ptable .entry)) (now (rows .entry)) (run .lo) (run .hi) (run .parts) ms → Wrote (now (out .entry)) (from .to) (writtenMembers (added (membersIn root (now (text .entry)) g) (stripped (run .parts) ms)) (from .first)) (now (out .exit)) r) ⌝ }
 {
     let parts = run.parts;
     let hi = run.hi;
@@ -272,7 +273,7 @@ fn put_replaced(
     out: &mut [u8],
     from: Spot,
 ) -> Spot
-    ensures { λ r. ⌜ ((h : Forest) (d : Doc) → ValueAt (now (ptable .entry)) e h → Passed (now (out .entry)) from (keptBy (some (changeOf (docOf (now (ptext .entry)) h))) d) (labelIn (now (text .entry)) (now (table .entry)) row) (now (out .exit)) r) ⌝ }
+    ensures { λ r. ⌜ ((h : Forest) (d : Doc) → KnownAt (now (ptable .entry)) e h → Passed (now (out .entry)) from (keptBy (some (changeOf (docOf (now (ptext .entry)) h))) d) (labelIn (now (text .entry)) (now (table .entry)) row) (now (out .exit)) r) ⌝ }
 {
     if kind(ptable, e) == 1 {
         return from;
