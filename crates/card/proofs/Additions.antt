@@ -17,7 +17,7 @@ use Rattle.contact.specs.Patch.{Entry, changeOf, added}
 use Rattle.card.specs.Entries.{Listed, over, next, stripped}
 use Rattle.card.specs.Runs.{Ascending, asc-more}
 use Rattle.card.specs.Written.{Wrote}
-use Rattle.card.specs.Copied.{ValueAt}
+use Rattle.card.specs.Rows.{KnownAt}
 use Rattle.card.specs.Patched.{adds, pointerIn, entryOf, piece, since, link, Passed, Said}
 use Rattle.card.specs.declared.writing.Spot.{Spot}
 use Rattle.card.proofs.Bytes.{Left, left-on, left-as, left-last}
@@ -30,7 +30,7 @@ memberOf t g ms = member (nameOf t (nameStart g) (nameEnd g)) (labelAt t (nameSt
 -- a run that is not empty
 pub record First (t table rows : List ℕ) (i hi parts : ℕ) (ms : Members) : Type 0 where
   pub tree : Forest
-  pub value : ValueAt table (getD rows i 0) tree
+  pub value : KnownAt table (getD rows i 0) tree
   pub more : Members
   pub is : ms ≡ memberOf t tree more
   pub said : Said t table rows (i + 1) hi parts more

@@ -33,7 +33,7 @@ use Rattle.contact.proofs.Patching.Steps.{judged-answer, no-patch, no-patch-obj
 use Rattle.json.specs.Rows.{kindIn}
 use Rattle.card.specs.Members.{firstMember}
 use Rattle.card.specs.Language.{Held, At, Leads}
-use Rattle.card.specs.Copied.{ValueAt}
+use Rattle.card.specs.Rows.{KnownAt}
 use Rattle.card.specs.declared.members.Found.{Found}
 use Rattle.card.specs.declared.members.Found.the-variants.{Row, Nothing}
 use Rattle.card.specs.Localizing.{mostEntries, CardIn, Countable, entriesOutcome, Made, Makes, MakesFor}
@@ -105,7 +105,7 @@ module _ {t table : List ℕ} (lang : Name) {found : Found}
     at-it : {f : Forest} → CardIn t table f → At t table mostEntries (find (patchAt lang) (docOf t f)) m
     at-it {f} c = rw e at (leads f mostEntries (card-held c))
 
-    pub for-needs : (f : Forest) → CardIn t table f → ((g : Forest) × ValueAt table 0 g) × ((p : Forest) × Held table mostEntries m p)
+    pub for-needs : (f : Forest) → CardIn t table f → ((g : Forest) × KnownAt table 0 g) × ((p : Forest) × Held table mostEntries m p)
     for-needs f c = ((f, card-held c .value), (at-it c .found, at-it c .held))
 
     pub for-other : (room : ℕ) → (kindIn table m ≡ 7 → ⊥) → MakesFor t table lang room [] (Refused NoLanguage)

@@ -21,7 +21,7 @@ use Rattle.json.specs.Rows.{kindIn, belowIn}
 use Rattle.contact.specs.Pointer.{child, within, find, last}
 use Rattle.contact.specs.Localize.{patchAt}
 use Rattle.card.specs.Members.{Finds}
-use Rattle.card.specs.Copied.{ValueAt}
+use Rattle.card.specs.Rows.{KnownAt}
 use Rattle.card.specs.Entries.{Collects}
 use Rattle.card.specs.Language.{Held, At, Leads}
 use Rattle.card.specs.Localizing.{mostEntries}
@@ -34,7 +34,7 @@ child-none n (scalar kind token) h = refl
 child-none n (array ms) h = refl
 child-none n (object ms) h = absurd (h refl)
 
-module _ {table : List ℕ} {row : ℕ} {g : Forest} (v : ValueAt table row g) where
+module _ {table : List ℕ} {row : ℕ} {g : Forest} (v : KnownAt table row g) where
   pub inside-to : StandsTo table (row + 1) (row + 1 + belowIn table row) (insideAt g)
   inside-to = rw (value-row v .below) (inside g (v .some) (v .stands))
 

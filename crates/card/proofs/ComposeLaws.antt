@@ -29,7 +29,7 @@ use Rattle.card.specs.Entries.{Listed, stripped, rowOrder}
 use Rattle.card.specs.Runs.{Ascending}
 use Rattle.card.specs.Written.{Wrote}
 use Rattle.card.specs.Localizing.{mostEntries, Countable, entriesOutcome, Composed, Makes}
-use Rattle.card.specs.Copied.{ValueAt}
+use Rattle.card.specs.Rows.{KnownAt}
 use Rattle.card.specs.Language.{Held}
 use Rattle.card.specs.Conditions.{conditionOf}
 use Rattle.card.specs.declared.conditions.Condition.{Condition}
@@ -93,15 +93,15 @@ pub listing : {text table rows : List ℕ} {n patch inner : ℕ} → inner ≡ b
 listing {text} e all p h = all text (insideAt p) (rw e (inside-to (h .value))) (kinds-inside p (h .value .kinds))
 
 module _ (card : List ℕ) {ctable text table rows : List ℕ} {n patch : ℕ} (l : Lists text table rows n patch) {condition : Condition}
-    (first : (g : Forest) (ms : Members) → ValueAt ctable 0 g → Listed text table rows 0 n ms → condition ≡ conditionOf (docOf card g) ms) where
+    (first : (g : Forest) (ms : Members) → KnownAt ctable 0 g → Listed text table rows 0 n ms → condition ≡ conditionOf (docOf card g) ms) where
   pub made-broken : {q : LocalRefusal} (room : ℕ) → condition ≡ Broken q → Makes card ctable text table patch room [] (Refused q)
   made-broken {q} room e g p words v h few =
       broken-so (docOf card g) (membersOf text (insideAt p)) q (sym e ∙ first g (membersOf text (insideAt p)) v (l p h)) base words room
 
   module _ (kept : condition ≡ Kept) {old new : List ℕ} {r : ℕ}
-      (put : (g : Forest) (ms : Members) → ValueAt ctable 0 g → Listed text table rows 0 n ms → NoClash (entriesOf ms)
+      (put : (g : Forest) (ms : Members) → KnownAt ctable 0 g → Listed text table rows 0 n ms → NoClash (entriesOf ms)
       → Wrote old 0 (written (applied (start (docOf card g)) (entriesOf ms))) new r) where
-    unbroken : (g p : Forest) → ValueAt ctable 0 g → Held table mostEntries patch p → Unbroken (docOf card g) (membersOf text (insideAt p))
+    unbroken : (g p : Forest) → KnownAt ctable 0 g → Held table mostEntries patch p → Unbroken (docOf card g) (membersOf text (insideAt p))
     unbroken g p v h = kept-so (docOf card g) (membersOf text (insideAt p)) (sym kept ∙ first g (membersOf text (insideAt p)) v (l p h))
 
     pub made-short : length new < r → Makes card ctable text table patch (length old) new (Refused (Short r))

@@ -20,11 +20,19 @@ use Rattle.text.specs.Writing.{comma, written, writtenEntries, writtenMembers}
 use Rattle.text.proofs.Promise.{doc-scalar, doc-array, doc-object, members-first, members-none}
 use Rattle.json.specs.Rows.{belowIn}
 use Rattle.card.specs.Written.{Wrote}
-use Rattle.card.specs.Copied.{ValueAt, openOf, closeOf, headOf, insideOf, labelIn, Copied}
+use Rattle.card.specs.Rows.{KnownAt}
+use Rattle.card.specs.Copied.{openOf, closeOf, headOf, labelIn, Copied}
 use Rattle.card.proofs.Bytes.{left-on, left-as, left-last}
 use Rattle.card.proofs.Walks.{value-row, Walk, walk-here, walk-on, walk-end}
 
-pub label-is : {table : List ℕ} {row : ℕ} {g : Forest} (t : List ℕ) → ValueAt table row g → labelIn t table row ≡ labelAt t (nameStart g) (nameEnd g)
+-- the values inside it from here on, and its closing bracket
+unfoldable pub insideOf : (t : List ℕ) → (kind : ℕ) → Forest → (first : Bool) → List ℕ
+insideOf t kind vs first =
+    let members = writtenMembers (membersOf t vs) first in
+    let entries = writtenEntries (membersOf t vs) first in
+    cond (eqb kind 7) members entries
+
+pub label-is : {table : List ℕ} {row : ℕ} {g : Forest} (t : List ℕ) → KnownAt table row g → labelIn t table row ≡ labelAt t (nameStart g) (nameEnd g)
 label-is t v = rw (value-row v .name-start, value-row v .name-end)
 
 -- a container that is no object is an array

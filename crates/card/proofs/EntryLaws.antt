@@ -1,5 +1,6 @@
 -- Entries that stand at listed rows:
 --     Walked and its laws       a walk along the list: what is asked of all members is asked, perhaps otherwise, of those that are left
+--     faulty-hit, faulty-on, faulty-end          22 and 23, one key at a time
 --     pair-found, pair-passed, pairs-passed      24, one pair at a time
 --     worst-on, worst-hit       25 and 26, one pointer at a time
 --     Filling and its laws      the list as it is filled, one member after the other
@@ -20,7 +21,9 @@ use Rattle.text.proofs.Promise.{row-at, after, within, some-at, none-at, member
 use Rattle.json.specs.Rows.{belowIn}
 use Rattle.contact.specs.Pointer.{pointerOf, clash}
 use Rattle.contact.specs.Patch.{Walk, arrives, inArray, noObject, entriesOf, walk, isInArray, isNoObject, anyWalk, clashWith, anyClash}
-use Rattle.card.specs.Entries.{Listed, over, next, keyBytes}
+use Rattle.card.specs.Entries.{Listed, over, next, keyBytes, isFaulty, anyFaulty}
+use Rattle.card.specs.declared.entries.Fault.{Fault}
+use Rattle.card.specs.declared.entries.Fault.the-variants.{Tilde, Own}
 use Rattle.card.proofs.MemberLaws.{rest-kinds}
 
 -- ---- a walk along the list ----
@@ -82,6 +85,28 @@ module _ {t table rows : List ℕ} {from n : ℕ} {A : Type 0} {f g : Members �
 
   pub walk-end : n ≤ i → (ms : Members) → Listed t table rows from n ms → g empty ≡ f ms
   walk-end le ms l = sym (w ms l .is ∙ ap g (none-left (w ms l .listed) le))
+
+-- ---- 22 and 23 ----
+
+pub faulty-first : (fault : Fault) (key : Name) (label : List ℕ) (d : Doc) (ms : Members)
+    → anyFaulty fault (member key label d ms) ≡ isFaulty fault key || anyFaulty fault ms
+faulty-first Tilde key label d ms = refl
+faulty-first Own key label d ms = refl
+
+pub faulty-none : (fault : Fault) → false ≡ anyFaulty fault empty
+faulty-none Tilde = refl
+faulty-none Own = refl
+
+-- the keys before i do not have the fault
+module _ {t table rows : List ℕ} {n i : ℕ} (fault : Fault) (w : Walked t table rows 0 n (anyFaulty fault) (anyFaulty fault) i) where
+  pub faulty-hit : i < n → isFaulty fault (nameAt t table rows i) ≡ true → (ms : Members) → Listed t table rows 0 n ms → true ≡ anyFaulty fault ms
+  faulty-hit lt e = walk-hit w lt (λ label d rest l. rw (faulty-first fault (nameAt t table rows i) label d rest, e))
+
+  pub faulty-on : i < n → isFaulty fault (nameAt t table rows i) ≡ false → Walked t table rows 0 n (anyFaulty fault) (anyFaulty fault) (i + 1)
+  faulty-on lt e = walk-on w lt (λ label d rest l. rw (faulty-first fault (nameAt t table rows i) label d rest, e))
+
+  pub faulty-end : n ≤ i → (ms : Members) → Listed t table rows 0 n ms → false ≡ anyFaulty fault ms
+  faulty-end le ms l = faulty-none fault ∙ walk-end w le ms l
 
 -- ---- 24 ----
 

@@ -85,3 +85,7 @@ module _ (t table : List ℕ) (from end : ℕ) (n : Name) where
     seek-none le =
         let l = g f h in
         l .is ∙ ap (λ v. seek n (membersOf t v)) (none-at (l .ahead) (l .stands) le) ∙ ap (seek n) (members-none t)
+
+-- what was found, by name
+pub standing : {t table : List ℕ} {end : ℕ} {n : Name} {f : Forest} {m : ℕ} → Standing t table end n f m → Standing t table end n f m
+standing h = h

@@ -5,10 +5,10 @@
 --     added-linked        the members that ascending entries add, one entry after the other: they stand in the order of the entries
 --     adds-null, adds-down, adds-none, adds-it     what an entry adds
 --     passed-none, passed-some     a member that is not written, and one that is
---     there-hit, there-pass, there-none     whether there is a member of a name, by the rows
+--     there-out, there-found, there-none      the member of a name, where one is left out
 -- Assumes nothing.
 use Prim.Native.Nat.{ℕ, _<_}
-use mathlib.Core.Path.{_≡_, refl, sym, ap, _∙_}
+use mathlib.Core.Path.{_≡_, refl, ap, _∙_}
 use mathlib.Core.Bool.{Bool, true, false, cond}
 use mathlib.Core.List.{List, [], _∷_, _++_, append-assoc}
 use mathlib.Core.Option.{Option, none, some}
@@ -18,26 +18,23 @@ use borrow.Author.Tests.{eq-eqb, ne-eqb}
 use Rattle.laws.specs.Lists.{partOf}
 use Rattle.laws.specs.Order.{same, before}
 use Rattle.laws.specs.declared.Order.the-variants.{Less}
+use Rattle.laws.proofs.Orders.{same-eq, same-sym}
 use Rattle.text.specs.Text.{bytes}
 use Rattle.text.specs.Tree.{Forest}
-use Rattle.text.specs.Tree as T
-use Rattle.text.specs.Firsts.{HasFirst, nameStart, nameEnd, restAt}
-use Rattle.text.specs.Strings.{decode, nameOf}
-use Rattle.text.specs.Standing.{Stands}
-use Rattle.text.specs.Doc.{Name, Doc, scalar, array, object, Members, empty, member, Property, property, seek, isThere, kindOf, membersOf, labelAt, docOf}
+use Rattle.text.specs.Strings.{decode}
+use Rattle.text.specs.Doc.{Name, Doc, scalar, array, object, Members, empty, member, Property, property, seek, isThere, kindOf}
 use Rattle.text.specs.Writing.{spelled, written, writtenMembers}
-use Rattle.text.proofs.Promise.{row-at, members-first, members-none}
 use Rattle.json.specs.Rows.{nameStartIn, nameEndIn}
 use Rattle.json.specs.Cursors.{rest}
 use Rattle.json.specs.declared.decode.Cursor.{Cursor}
 use Rattle.contact.specs.Pointer.{Pointer, last, down, pointerOf, firstPart}
 use Rattle.contact.specs.Patch.{Change, remove, set, Entry, entry, mine, under, insert, fresh, added, keep, applied, kept, without, changeOf}
 use Rattle.card.specs.Pointers.{pointerOrder, strip}
-use Rattle.card.specs.Entries.{keyAt}
 use Rattle.card.specs.Runs.{Leads, leads-more, Ascending, asc-more}
-use Rattle.card.specs.Patched.{based, basedAll, memberIs, keptBy, stays, freshly, adds, pointerIn, link, piece, since, Passed}
+use Rattle.card.specs.Patched.{based, basedAll, isOut, keptBy, stays, freshly, adds, pointerIn, link, piece, since, Passed}
 use Rattle.card.specs.Written.{full, Wrote}
-use Rattle.card.specs.Copied.{ValueAt, headOf}
+use Rattle.card.specs.Rows.{KnownAt}
+use Rattle.card.specs.Copied.{headOf}
 use Rattle.card.specs.declared.writing.Spot.{Spot}
 use Rattle.card.proofs.Walks.{value-row}
 use Rattle.card.proofs.Bytes.{wrote-none, wrote-then}
@@ -128,44 +125,39 @@ added-linked ms (last n) (set v) es (asc-more l a) = go (seek n ms)
 
 -- ---- the member of a name ----
 
-there-by : (b : Bool) (p : Property) (o : Option Property) → isThere (cond b (some p) o) ≡ cond b true (isThere o)
-there-by true p o = refl
-there-by false p o = refl
+-- without a member of a name: that one is not there, and the others are as they were
+module _ (n out : Name) where
+  without-it : same n out ≡ true → (ms : Members) → seek n (without out ms) ≡ none
+  without-it e empty = refl
+  without-it e (member m label d ms) = go (same m out) refl (without out ms) (without-it e ms)
+    where
+      go : (b : Bool) → same m out ≡ b → (left : Members) → seek n left ≡ none → seek n (cond b left (member m label d left)) ≡ none
+      go true q left h = h
+      go false q left h = rw (ap (same m) (same-eq n out e) ∙ q) h
 
-there-first : (root : Bool) (sought n label : List ℕ) (d : Doc) (ms : Members)
-    → isThere (seek sought (basedAll root (member n label d ms))) ≡ cond (memberIs root n sought) true (isThere (seek sought (basedAll root ms)))
-there-first false sought n label d ms = there-by (same n sought) (property label d) (seek sought ms)
-there-first true sought n label d ms = go (same n (bytes "localizations"))
-  where
-    rest : Members
-    rest = without (bytes "localizations") ms
+  without-other : same n out ≡ false → (ms : Members) → seek n (without out ms) ≡ seek n ms
+  without-other e empty = refl
+  without-other e (member m label d ms) = go (same m out) refl (without out ms) (without-other e ms)
+    where
+      go : (b : Bool) → same m out ≡ b → (left : Members) → seek n left ≡ seek n ms
+          → seek n (cond b left (member m label d left)) ≡ cond (same m n) (some (property label d)) (seek n ms)
+      go true q left h = rw (ap (λ (k : Name). same k n) (same-eq m out q) ∙ same-sym n out ∙ e) h
+      go false q left h = rw h
 
-    go : (out : Bool) → isThere (seek sought (cond out rest (member n label d rest))) ≡ cond (cond out false (same n sought)) true (isThere (seek sought rest))
-    go true = refl
-    go false = there-by (same n sought) (property label d) (seek sought rest)
+-- the same by what is left out at the root
+pub there-out : (root : Bool) (n : Name) (ms : Members) → isOut root n ≡ true → false ≡ isThere (seek n (basedAll root ms))
+there-out true n ms e = rw (without-it n (bytes "localizations") e ms)
+there-out false n ms e = let z : _≡_ {A = ℕ} 0 1 = cc in absurd (omega arith)
 
--- of the values that stand from a row on
-abbrev pub thereIn : (root : Bool) → (t sought : List ℕ) → Forest → Bool
-thereIn root t sought vs = isThere (seek sought (basedAll root (membersOf t vs)))
+seek-based : (root : Bool) (n : Name) (ms : Members) → isOut root n ≡ false → seek n (basedAll root ms) ≡ seek n ms
+seek-based true n ms e = without-other n (bytes "localizations") e ms
+seek-based false n ms e = refl
 
-module _ (root : Bool) (t sought : List ℕ) {table : List ℕ} {row : ℕ} (vs : Forest) (s : HasFirst vs) (h : Stands table row vs) where
-  there-row : thereIn root t sought vs ≡ cond (memberIs root (keyAt t table row) sought) true (thereIn root t sought (restAt vs))
-  there-row =
-      let at = row-at vs s h in
-      ap (λ (ms : Members). isThere (seek sought (basedAll root ms))) (members-first t vs s)
-      ∙ there-first root sought (nameOf t (nameStart vs) (nameEnd vs)) (labelAt t (nameStart vs) (nameEnd vs)) (docOf t vs) (membersOf t (restAt vs))
-      ∙ rw (at .name-start, at .name-end)
+pub there-found : (root : Bool) (n : Name) (ms : Members) → isOut root n ≡ false → {p : Property} → seek n ms ≡ some p → true ≡ isThere (seek n (basedAll root ms))
+there-found root n ms e h = rw (seek-based root n ms e, h)
 
-  module _ {r : Bool} (is : r ≡ memberIs root (keyAt t table row) sought) where
-    pub there-hit : r ≡ true → true ≡ thereIn root t sought vs
-    there-hit e = sym (there-row ∙ rw (← is, e))
-
-    pub there-pass : r ≡ false → thereIn root t sought vs ≡ thereIn root t sought (restAt vs)
-    there-pass e = there-row ∙ rw (← is, e)
-
-pub there-none : (root : Bool) (t sought : List ℕ) → thereIn root t sought T.none ≡ false
-there-none true t sought = rw (members-none t)
-there-none false t sought = rw (members-none t)
+pub there-none : (root : Bool) (n : Name) (ms : Members) → isOut root n ≡ false → seek n ms ≡ none → false ≡ isThere (seek n (basedAll root ms))
+there-none root n ms e h = rw (seek-based root n ms e, h)
 
 -- ---- what an entry adds ----
 
@@ -204,7 +196,7 @@ module _ (ms : Members) (p : Pointer) (d : Doc) {there : Bool} (ends : p ≡ las
   adds-it e = adds-last ∙ rw e
 
 -- the part of an entry's key at which a cursor stands
-pub at-part : (t : List ℕ) (parts : ℕ) {table : List ℕ} {row : ℕ} {h : Forest} (key : List ℕ) (c : Cursor) → ValueAt table row h
+pub at-part : (t : List ℕ) (parts : ℕ) {table : List ℕ} {row : ℕ} {h : Forest} (key : List ℕ) (c : Cursor) → KnownAt table row h
     → key ≡ partOf t (nameStartIn table row) (nameEndIn table row) → pointerOf (rest key c) ≡ strip parts (pointerOf (decode key))
     → pointerOf (rest key c) ≡ pointerIn t parts h
 at-part t parts key c v k e = e ∙ rw (k, value-row v .name-start, value-row v .name-end)

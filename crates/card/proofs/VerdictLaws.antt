@@ -4,7 +4,7 @@
 --     read-into                   what reading's answer says of the rows
 --     rows-judged, text-refused   the verdict after the rows, and after a refusal of reading
 -- Assumes nothing.
-use Prim.Native.Nat.{ℕ, _+_, _<_}
+use Prim.Native.Nat.{ℕ, _+_}
 use mathlib.Core.Path.{_≡_, refl, sym, ap, _∙_}
 use mathlib.Core.List.{List}
 use native.Mathlib.Nat.{sub-zero}
@@ -15,7 +15,7 @@ use Rattle.text.specs.Tree.{Forest, size, startsOf}
 use Rattle.text.specs.Firsts.{Kinds}
 use Rattle.text.specs.Doc.{docOf}
 use Rattle.text.specs.Sheet.{paper}
-use Rattle.text.specs.Reader.{good, bad}
+use Rattle.text.specs.Reader.{good}
 use Rattle.text.specs.Whole.{wholeOf, sheetOf, tableOf}
 use Rattle.text.specs.declared.Refusal.{Refusal}
 use Rattle.text.specs.declared.Reading.the-variants.{Rows, Refused}

@@ -10,15 +10,14 @@ use mathlib.Core.List.{List, [], _∷_}
 use native.Mathlib.Omega.{arith}
 use lib.Dec.{eqb}
 use borrow.Author.Tests.{eqb-true}
-use Rattle.laws.specs.Lists.{partOf}
 use Rattle.text.specs.Strings.{nameOf}
 use Rattle.text.specs.Tree.{Forest}
-use Rattle.text.specs.Firsts.{HasFirst, Kinds, kindAt, startAt, endAt, nameStart, nameEnd, insideAt, belowAt, restAt}
+use Rattle.text.specs.Firsts.{HasFirst, Kinds, kindAt, nameStart, nameEnd, insideAt, belowAt, restAt}
 use Rattle.text.specs.Standing.{StandsTo}
-use Rattle.text.specs.Doc.{Name, Doc, scalar, array, object, Members, membersOf, docOf, kindOf, tokenOf, below, countOf}
+use Rattle.text.specs.Doc.{Name, Doc, scalar, array, object, membersOf, docOf, below, countOf}
 use Rattle.text.proofs.Promise.{row-at, inside, after, within, some-at, none-at, doc-kind, doc-token, doc-below, members-first, members-none, count-doc}
 use Rattle.contact.specs.Schema.{ObjectType, SimpleType, anyString, exactly, flag, yes, count, time, Ty, any, simple, objectOf, listOf, mapOf, fits, fitsSimple}
-use Rattle.contact.specs.Judge.{allowed, memberType, keyFits, rowNumber, Breach, nothing, found, onRow, orElse, breachOf, breachAmong}
+use Rattle.contact.specs.Judge.{memberType, keyFits, rowNumber, Breach, nothing, found, onRow, orElse, breachOf, breachAmong}
 use Rattle.json.specs.Rows.{nameStartIn, nameEndIn, belowIn}
 use Rattle.card.specs.Types.{NotObject}
 use Rattle.card.specs.Rows.{ValueAt}

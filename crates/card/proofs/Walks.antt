@@ -15,7 +15,7 @@ use Rattle.text.specs.Firsts.{insideAt, restAt, Kinds}
 use Rattle.text.specs.Standing.{StandsTo}
 use Rattle.text.proofs.Promise.{RowAt, row-at, inside, after, some-at, none-at}
 use Rattle.json.specs.Rows.{kindIn, belowIn}
-use Rattle.card.specs.Copied.{ValueAt}
+use Rattle.card.specs.Rows.{KnownAt}
 use Rattle.card.proofs.Bytes.{Left}
 
 pub kinds-inside : (g : Forest) → Kinds g → Kinds (insideAt g)
@@ -39,8 +39,12 @@ row-inside table row h =
     ]
 
 -- the words of its row
-pub value-row : {table : List ℕ} {row : ℕ} {g : Forest} → ValueAt table row g → RowAt table row g
+pub value-row : {table : List ℕ} {row : ℕ} {g : Forest} → KnownAt table row g → RowAt table row g
 value-row {g = g} v = row-at g (v .some) (v .stands)
+
+-- what is inside it, by the number of rows
+pub value-inside : {table : List ℕ} {row k : ℕ} {g : Forest} → KnownAt table row g → k ≡ belowIn table row → StandsTo table (row + 1) (row + 1 + k) (insideAt g)
+value-inside {g = g} v e = rw (e, value-row v .below) (inside g (v .some) (v .stands))
 
 -- What a loop along the rows inside a value keeps, whatever the table holds: it is past the value's row, its end is not far, and the output is as long as before.
 pub record Passing (row end m : ℕ) (old new : List ℕ) : Type 0 where
@@ -57,14 +61,14 @@ pub record Walk (table : List ℕ) (end : ℕ) (rest : Forest → Bool → List 
   pub left : Left old at total new to (rest values first)
 
 module _ {table : List ℕ} {end : ℕ} {rest : Forest → Bool → List ℕ} {old : List ℕ} {at : ℕ} {total : List ℕ} where
-  pub walk-start : {row : ℕ} {g : Forest} (first : Bool) → ValueAt table row g → end ≡ row + 1 + belowIn table row
+  pub walk-start : {row : ℕ} {g : Forest} (first : Bool) → KnownAt table row g → end ≡ row + 1 + belowIn table row
       → {new : List ℕ} {to : ℕ} → Left old at total new to (rest (insideAt g) first) → Walk table end rest old at total new to first (row + 1)
   walk-start {row} {g} first v e l =
       record { values = insideAt g; kinds = kinds-inside g (v .kinds); standing = rw (e, value-row v .below) (inside g (v .some) (v .stands)); left = l }
 
   module _ {new : List ℕ} {to : ℕ} {first : Bool} {m : ℕ} (w : Walk table end rest old at total new to first m) where
     -- the value at hand
-    pub walk-here : m < end → ValueAt table m (w .values)
+    pub walk-here : m < end → KnownAt table m (w .values)
     walk-here h = record { some = some-at (w .values) (w .standing) h; kinds = w .kinds; stands = w .standing .stands }
 
     -- it is written

@@ -22,9 +22,9 @@ use Rattle.contact.specs.Patch.{Entry, entry, changeOf, entriesOf}
 use Rattle.card.specs.Pointers.{strip}
 use Rattle.card.specs.Entries.{stripped}
 use Rattle.card.specs.Written.{full, Wrote}
-use Rattle.card.specs.Copied.{ValueAt}
+use Rattle.card.specs.Rows.{KnownAt}
 
-pub root-value : {L : Limits} {t table : List ℕ} {n : ℕ} {f : Forest} → Filled L t table n f → ValueAt table 0 f
+pub root-value : {L : Limits} {t table : List ℕ} {n : ℕ} {f : Forest} → Filled L t table n f → KnownAt table 0 f
 root-value h = record { some = h .promised .some; kinds = placed-kinds (h .promised .placed); stands = h .stands .stands }
 
 pub stripped-all : (ms : Members) → stripped 0 ms ≡ entriesOf ms

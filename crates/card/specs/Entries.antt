@@ -5,15 +5,20 @@ use mathlib.Core.Bool.{Bool, true, false, cond}
 use mathlib.Core.List.{List, [], _∷_}
 use lib.ListN.{getD}
 use Rattle.laws.specs.declared.Order.{Order}
-use Rattle.text.specs.Strings.{nameOf}
 use Rattle.laws.specs.Lists.{partOf}
+use Rattle.laws.specs.Order.{same}
+use Rattle.text.specs.Limits.{base}
+use Rattle.text.specs.Text.{bytes}
+use Rattle.text.specs.Strings.{nameOf}
 use Rattle.text.specs.Tree.{Forest, size}
 use Rattle.text.specs.Firsts.{HasFirst, Kinds, nameStart, nameEnd}
 use Rattle.text.specs.Standing.{Stands, StandsTo}
 use Rattle.text.specs.Doc.{Name, Doc, Members, empty, member, labelAt, docOf}
 use Rattle.json.specs.Rows.{nameStartIn, nameEndIn}
-use Rattle.contact.specs.Pointer.{pointerOf}
-use Rattle.contact.specs.Patch.{Entry, entry, changeOf, Walk, arrives, inArray, noObject, isInArray, isNoObject, anyWalk}
+use Rattle.contact.specs.Pointer.{pointerOf, badTilde, firstPart}
+use Rattle.contact.specs.Patch.{Entry, entry, changeOf, entriesOf, Walk, arrives, inArray, noObject, isInArray, isNoObject, anyWalk, anyBadKey, anyOwn}
+use Rattle.card.specs.declared.entries.Fault.{Fault}
+use Rattle.card.specs.declared.entries.Fault.the-variants.{Tilde, Own}
 use Rattle.card.specs.declared.entries.Clash.{Clash}
 use Rattle.card.specs.declared.entries.Clash.the-variants.{Pair, Nothing}
 use Rattle.card.specs.Pointers.{pointerOrder, strip}
@@ -44,12 +49,21 @@ rowOrder t table row other = pointerOrder (pointerOf (keyAt t table row)) (point
 
 -- ---- listing and testing
 
--- values stand between two rows of a table, and their rows fit a list of so many words
+-- values stand between two rows of a table, no more rows than a text may have values, and they fit a list of so many words
 pub record Collects (table : List ℕ) (from end room : ℕ) : Type 0 where
   pub values : Forest
   pub stand : StandsTo table from end values
   pub room-for : size values ≤ room
-  pub few : end ≤ 65536
+  pub few : end ≤ base .values
+
+-- 22, a `~` that neither `0` nor `1` follows; 23, a pointer that begins with `localizations`: of one key, and of any
+abbrev pub isFaulty : Fault → Name → Bool
+isFaulty Tilde key = badTilde key
+isFaulty Own key = same (firstPart (pointerOf key)) (bytes "localizations")
+
+abbrev pub anyFaulty : Fault → Members → Bool
+anyFaulty Tilde ms = anyBadKey ms
+anyFaulty Own ms = anyOwn (entriesOf ms)
 
 -- 25 before 26: does any pointer lead inside an array, and if none does, to no object?
 unfoldable pub worstWalk : List Entry → Doc → Walk

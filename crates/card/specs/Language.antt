@@ -5,14 +5,14 @@ use mathlib.Core.List.{List}
 use mathlib.Core.Option.{Option, none, some}
 use Rattle.text.specs.Tree.{Forest, size}
 use Rattle.text.specs.Doc.{Property}
-use Rattle.card.specs.Copied.{ValueAt}
+use Rattle.card.specs.Rows.{KnownAt}
 use Rattle.card.specs.Members.{firstMember}
 use Rattle.card.specs.declared.members.Found.{Found}
 use Rattle.card.specs.declared.members.Found.the-variants.{Row, Nothing}
 
 -- a value that stands at a row, with all that follows it, before a row
 pub record Held (table : List ℕ) (limit row : ℕ) (g : Forest) : Type 0 where
-  pub value : ValueAt table row g
+  pub value : KnownAt table row g
   pub within : row + size g ≤ limit
 
 -- the property is there, and its value stands at row m

@@ -16,14 +16,14 @@ use Rattle.contact.specs.Localize.{Outcome, done, denied, start, byJudge, byEnt
 use Rattle.contact.specs.declared.Localized.{Localized}
 use Rattle.contact.specs.declared.Localized.the-variants.{Written, Denied}
 use Rattle.card.specs.Written.{full}
-use Rattle.card.specs.Copied.{ValueAt}
+use Rattle.card.specs.Rows.{KnownAt}
 use Rattle.card.specs.Language.{Held}
 use Rattle.card.specs.declared.compose.Attempt.{Attempt}
 use Rattle.card.specs.declared.compose.Attempt.the-variants.{Bytes, Refused}
 
 -- the most values that a card can have, and so the most entries of a PatchObject
 abbrev pub mostEntries : ℕ
-mostEntries = 2048
+mostEntries = base .values
 
 -- the text passes as a card, and the table holds its rows
 pub record CardIn (t table : List ℕ) (f : Forest) : Type 0 where
@@ -56,7 +56,7 @@ Made words room o out (Refused r) = o ≡ denied r
 -- the card as the PatchObject at a row of a table leaves it was written for an output of so many bytes, or was not
 abbrev pub Makes : (card ctable text table : List ℕ) → (patch room : ℕ) → (out : List ℕ) → Attempt → Type 0
 Makes card ctable text table patch room out r =
-    (g p : Forest) (words : ℕ) → ValueAt ctable 0 g → Held table mostEntries patch p → Countable (docOf card g) (membersOf text (insideAt p))
+    (g p : Forest) (words : ℕ) → KnownAt ctable 0 g → Held table mostEntries patch p → Countable (docOf card g) (membersOf text (insideAt p))
     → Made words room (entriesOutcome words room (docOf card g) (membersOf text (insideAt p))) out r
 
 -- the card as the PatchObject of a language leaves it

@@ -44,9 +44,6 @@ orderedIn ms = isThere (ofKind 3 (seek (bytes "isOrdered") ms))
 abbrev pub separatedIn : Members → Bool
 separatedIn ms = isThere (ofKind 5 (seek (bytes "defaultSeparator") ms))
 
-abbrev pub fullIn : Members → Bool
-fullIn ms = isThere (ofKind 5 (seek (bytes "full") ms))
-
 unfoldable pub separatorsBreak : (adjacent any ordered separated listed : Bool) → Bool
 separatorsBreak adjacent any ordered separated listed = adjacent || (any && not ordered) || (separated && not (ordered && listed))
 

@@ -1,14 +1,18 @@
 -- A member found by its name among rows. Assumes nothing: these are definitions.
-use Prim.Native.Nat.{ℕ}
+use Prim.Native.Nat.{ℕ, _<_}
 use mathlib.Core.Path.{_≡_}
 use mathlib.Core.List.{List}
-use mathlib.Core.Option.{Option, none, some}
+use mathlib.Core.Option.{none, some}
 use Rattle.text.specs.Tree.{Forest}
 use Rattle.text.specs.Firsts.{HasFirst, Kinds, nameStart, nameEnd}
 use Rattle.text.specs.Standing.{StandsTo}
 use Rattle.text.specs.Doc.{Name, Property, property, labelAt, docOf, membersOf, seek}
 use Rattle.card.specs.declared.members.Found.{Found}
 use Rattle.card.specs.declared.members.Found.the-variants.{Row, Nothing}
+
+-- the rows end so early, before 2^62, that one of them and a word of the table still add up to a row
+abbrev pub Near : (end : ℕ) → Type 0
+Near end = end < 4611686018427387904
 
 -- the first value of a forest as a property of its object
 abbrev pub firstMember : List ℕ → Forest → Property

@@ -21,7 +21,8 @@ use Rattle.card.specs.Pointers.{strip}
 use Rattle.card.specs.Entries.{Listed, stripped}
 use Rattle.card.specs.Runs.{Ascending}
 use Rattle.card.specs.Written.{Wrote}
-use Rattle.card.specs.Copied.{ValueAt, headOf}
+use Rattle.card.specs.Rows.{KnownAt}
+use Rattle.card.specs.Copied.{headOf}
 use Rattle.card.specs.declared.writing.Spot.{Spot}
 
 -- ---- a run of entries
@@ -54,10 +55,6 @@ membersIn root t g = basedAll root (membersOf t (insideAt g))
 abbrev pub isOut : (root : Bool) → Name → Bool
 isOut true n = same n (bytes "localizations")
 isOut false n = false
-
--- is the member of such a name the one that is looked for?
-abbrev pub memberIs : (root : Bool) → (name sought : Name) → Bool
-memberIs root n m = let its = same n m in cond (isOut root n) false its
 
 -- ---- what becomes of a member
 
@@ -139,18 +136,18 @@ pub record Passed (old : List ℕ) (from : Spot) (o : Option Doc) (label new : L
 abbrev pub PutMember : (t table : List ℕ) → (row : ℕ) → (root : Bool) → (pt ptable rows : List ℕ) → (lo hi parts : ℕ) → (old : List ℕ) → (from : Spot)
     → (new : List ℕ) → (r : Spot) → Type 0
 PutMember t table row root pt ptable rows lo hi parts old from new r =
-    (g : Forest) (ms : Members) → ValueAt table row g → Said pt ptable rows lo hi parts ms
+    (g : Forest) (ms : Members) → KnownAt table row g → Said pt ptable rows lo hi parts ms
     → Passed old from (stays root (nameOf t (nameStart g) (nameEnd g)) (stripped parts ms) (docOf t g)) (labelAt t (nameStart g) (nameEnd g)) new r
 
 -- the value at hand was written as the entries leave it
 abbrev pub PutValue : (t table : List ℕ) → (row : ℕ) → (root : Bool) → (pt ptable rows : List ℕ) → (lo hi parts : ℕ) → (old : List ℕ) → (at : ℕ)
     → (new : List ℕ) → (r : ℕ) → Type 0
 PutValue t table row root pt ptable rows lo hi parts old at new r =
-    (g : Forest) (ms : Members) → ValueAt table row g → Said pt ptable rows lo hi parts ms
+    (g : Forest) (ms : Members) → KnownAt table row g → Said pt ptable rows lo hi parts ms
     → Wrote old at (written (applied (based root (docOf t g)) (stripped parts ms))) new r
 
 -- the card was written: without its localizations, as the listed entries leave it
 abbrev pub PutCard : (t table pt ptable rows : List ℕ) → (n : ℕ) → (old new : List ℕ) → (r : ℕ) → Type 0
 PutCard t table pt ptable rows n old new r =
-    (g : Forest) (ms : Members) → ValueAt table 0 g → Listed pt ptable rows 0 n ms → Ascending (stripped 0 ms)
+    (g : Forest) (ms : Members) → KnownAt table 0 g → Listed pt ptable rows 0 n ms → Ascending (stripped 0 ms)
     → Wrote old 0 (written (applied (start (docOf t g)) (entriesOf ms))) new r

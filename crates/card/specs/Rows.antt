@@ -6,7 +6,7 @@ use mathlib.Core.Bool.{cond}
 use mathlib.Core.Option.{Option, none, some}
 use lib.Dec.{eqb}
 use Rattle.text.specs.Tree.{Forest}
-use Rattle.text.specs.Firsts.{HasFirst}
+use Rattle.text.specs.Firsts.{HasFirst, Kinds}
 use Rattle.text.specs.Standing.{Stands}
 use Rattle.text.specs.Doc.{Property, docOf, kindOf}
 use Rattle.card.specs.declared.rows.Found.{Found}
@@ -15,6 +15,12 @@ use Rattle.card.specs.declared.rows.Found.the-variants.{At, Nothing}
 -- a value stands at the row, the first of some
 pub record ValueAt (table : List ℕ) (row : ℕ) (f : Forest) : Type 0 where
   pub some : HasFirst f
+  pub stands : Stands table row f
+
+-- the same, where a row's kind tells whether it holds others
+pub record KnownAt (table : List ℕ) (row : ℕ) (f : Forest) : Type 0 where
+  pub some : HasFirst f
+  pub kinds : Kinds f
   pub stands : Stands table row f
 
 -- the answer names the row of the member that is sought, or none

@@ -60,12 +60,7 @@ pub record Parted (t table rows : List ℕ) (lo hi parts : ℕ) (n : Name) (past
   pub all-before : AllBefore past n (stripped parts left)
   pub none-before : NoneBefore past n (stripped parts right)
 
--- What a function that looks for the place answers: a place between lo and hi, whatever the table holds, and it parts the members that are listed there,
--- if their entries ascend. With `name` the inner bytes of the name as written:
---     fn bound(ptext: &[u8], ptable: &[u32], rows: &[u32], lo: usize, hi: usize, parts: usize, name: &[u8], past: bool) -> usize
---         requires { ⌜ lo ≤ hi ⌝ }
---         requires { ⌜ hi ≤ length (now rows) ⌝ }
---         ensures { λ r. ⌜ Bound (now (ptext .entry)) (now (ptable .entry)) (now (rows .entry)) lo hi parts (decode (now (name .entry))) past r ⌝ }
+-- What a search for the place answers: a place between lo and hi, whatever the table holds, that parts the members listed there if their entries ascend.
 pub record Bound (t table rows : List ℕ) (lo hi parts : ℕ) (n : Name) (past : Bool) (r : ℕ) : Type 0 where
   pub low : lo ≤ r
   pub high : r ≤ hi

@@ -19,7 +19,7 @@ ghost use Rattle.contact.specs.Entries.{NoClash};
 ghost use Rattle.contact.specs.Localize.{start};
 ghost use Rattle.card.specs.Entries.{Listed};
 ghost use Rattle.card.specs.Written.{Wrote};
-ghost use Rattle.card.specs.Copied.{ValueAt};
+ghost use Rattle.card.specs.Rows.{KnownAt};
 ghost use Rattle.card.specs.Language.{Held};
 ghost use Rattle.card.specs.Localizing.{mostEntries, CardIn, Makes, MakesFor};
 
@@ -44,7 +44,7 @@ fn put_sorted(
 ) -> usize
     requires { ⌜ n ≤ length (now rows) ⌝ }
     requires { ⌜ n ≤ mostEntries ⌝ }
-    ensures { λ r. ⌜ ((g : Forest) (ms : Members) → ValueAt (now («card_table» .entry)) 0 g → Listed (now (text .entry)) (now (table .entry)) (now (rows .entry)) 0 n ms → NoClash (entriesOf ms) → Wrote (now (out .entry)) 0 (written (applied (start (docOf (now (card .entry)) g)) (entriesOf ms))) (now (out .exit)) r) ⌝ }
+    ensures { λ r. ⌜ ((g : Forest) (ms : Members) → KnownAt (now («card_table» .entry)) 0 g → Listed (now (text .entry)) (now (table .entry)) (now (rows .entry)) 0 n ms → NoClash (entriesOf ms) → Wrote (now (out .entry)) 0 (written (applied (start (docOf (now (card .entry)) g)) (entriesOf ms))) (now (out .exit)) r) ⌝ }
 {
     let mut scratch = [0u32; MOST_ENTRIES];
     sort_rows(text, table, rows, &mut scratch, n);
@@ -60,7 +60,7 @@ fn compose(
     patch: usize,
     out: &mut [u8],
 ) -> Attempt
-    requires { ⌜ ((g : Forest) × ValueAt (now «card_table») 0 g) ⌝ }
+    requires { ⌜ ((g : Forest) × KnownAt (now «card_table») 0 g) ⌝ }
     requires { ⌜ ((p : Forest) × Held (now table) mostEntries patch p) ⌝ }
     ensures { λ r. ⌜ Makes (now (card .entry)) (now («card_table» .entry)) (now (text .entry)) (now (table .entry)) patch (length (now (out .entry))) (now (out .exit)) r ⌝ }
 {

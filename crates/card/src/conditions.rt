@@ -1,7 +1,7 @@
 // The conditions 22 to 26 of a patch, the smallest number first, each over all entries of the untouched card.
 use crate::entries::Clash;
-use crate::entries::any_bad_key;
-use crate::entries::any_own;
+use crate::entries::Fault;
+use crate::entries::any_faulty;
 use crate::entries::first_clash;
 use crate::entries::worst_path;
 use crate::paths::Path;
@@ -12,7 +12,7 @@ ghost use lib.ListN.{length};
 ghost use Rattle.text.specs.Tree.{Forest};
 ghost use Rattle.text.specs.Doc.{Members, docOf};
 ghost use Rattle.card.specs.Entries.{Listed, isPair};
-ghost use Rattle.card.specs.Copied.{ValueAt};
+ghost use Rattle.card.specs.Rows.{KnownAt};
 ghost use Rattle.card.specs.Conditions.{byWalk, conditionOf};
 ghost use Rattle.card.specs.Paths.{walkOf};
 
@@ -54,13 +54,13 @@ pub(crate) fn first_broken(
     n: usize,
 ) -> Condition
     requires { ⌜ n ≤ length (now rows) ⌝ }
-    requires { ⌜ ((g : Forest) × ValueAt (now «card_table») row g) ⌝ }
-    ensures { λ r. ⌜ ((g : Forest) (ms : Members) → ValueAt (now («card_table» .entry)) row g → Listed (now (text .entry)) (now (table .entry)) (now (rows .entry)) 0 n ms → r ≡ conditionOf (docOf (now (card .entry)) g) ms) ⌝ }
+    requires { ⌜ ((g : Forest) × KnownAt (now «card_table») row g) ⌝ }
+    ensures { λ r. ⌜ ((g : Forest) (ms : Members) → KnownAt (now («card_table» .entry)) row g → Listed (now (text .entry)) (now (table .entry)) (now (rows .entry)) 0 n ms → r ≡ conditionOf (docOf (now (card .entry)) g) ms) ⌝ }
 {
-    if any_bad_key(text, table, rows, n) {
+    if any_faulty(Fault::Tilde, text, table, rows, n) {
         return Condition::Broken(LocalRefusal::BadKey);
     }
-    if any_own(text, table, rows, n) {
+    if any_faulty(Fault::Own, text, table, rows, n) {
         return Condition::Broken(LocalRefusal::OwnLocalizations);
     }
     if is_pair(first_clash(text, table, rows, n)) {

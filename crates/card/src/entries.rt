@@ -14,12 +14,13 @@ ghost use mathlib.Core.Bool.{Bool, _||_};
 ghost use mathlib.Core.List.{List};
 ghost use Prim.Native.Nat.{ℕ, _≤_};
 ghost use lib.ListN.{length};
+ghost use Rattle.text.specs.Strings.{decode};
 ghost use Rattle.text.specs.Tree.{Forest, size};
 ghost use Rattle.text.specs.Firsts.{HasFirst, Kinds};
 ghost use Rattle.text.specs.Standing.{Stands, StandsTo};
 ghost use Rattle.text.specs.Doc.{Members, docOf, membersOf};
-ghost use Rattle.contact.specs.Patch.{entriesOf, anyBadKey, anyOwn, anyClash, isInArray, isNoObject};
-ghost use Rattle.card.specs.Entries.{Listed, keyBytes, worstWalk, Collects, isPair};
+ghost use Rattle.contact.specs.Patch.{entriesOf, anyClash, isInArray, isNoObject};
+ghost use Rattle.card.specs.Entries.{Listed, keyBytes, isFaulty, anyFaulty, worstWalk, Collects, isPair};
 ghost use Rattle.card.specs.Paths.{walkOf};
 
 // The key at a row, as it is written.
@@ -45,28 +46,30 @@ pub(crate) fn collect(table: &[u32], from: usize, end: usize, rows: &mut [u32]) 
     n
 }
 
-// 22: has a key a `~` that neither `0` nor `1` follows?
-pub(crate) fn any_bad_key(text: &[u8], table: &[u32], rows: &[u32], n: usize) -> bool
-    requires { ⌜ n ≤ length (now rows) ⌝ }
-    ensures { λ r. ⌜ ((ms : Members) → Listed (now (text .entry)) (now (table .entry)) (now (rows .entry)) 0 n ms → r ≡ anyBadKey ms) ⌝ }
-{
-    for i in 0..n {
-        let row = rows[i] as usize;
-        if has_bad_tilde(key_at(text, table, row)) {
-            return true;
-        }
-    }
-    false
+// What is wrong with one key by itself.
+pub enum Fault {
+    Tilde,
+    Own,
 }
 
-// 23: does a pointer begin with `localizations`?
-pub(crate) fn any_own(text: &[u8], table: &[u32], rows: &[u32], n: usize) -> bool
+// 22: has the key a `~` that neither `0` nor `1` follows? 23: does its pointer begin with `localizations`?
+fn is_faulty(fault: Fault, key: &[u8]) -> bool
+    ensures { λ r. ⌜ r ≡ isFaulty fault (decode (now (key .entry))) ⌝ }
+{
+    match fault {
+        Fault::Tilde => has_bad_tilde(key),
+        Fault::Own => is_own(key),
+    }
+}
+
+// 22 or 23: has any key the fault?
+pub(crate) fn any_faulty(fault: Fault, text: &[u8], table: &[u32], rows: &[u32], n: usize) -> bool
     requires { ⌜ n ≤ length (now rows) ⌝ }
-    ensures { λ r. ⌜ ((ms : Members) → Listed (now (text .entry)) (now (table .entry)) (now (rows .entry)) 0 n ms → r ≡ anyOwn (entriesOf ms)) ⌝ }
+    ensures { λ r. ⌜ ((ms : Members) → Listed (now (text .entry)) (now (table .entry)) (now (rows .entry)) 0 n ms → r ≡ anyFaulty fault ms) ⌝ }
 {
     for i in 0..n {
         let row = rows[i] as usize;
-        if is_own(key_at(text, table, row)) {
+        if is_faulty(fault, key_at(text, table, row)) {
             return true;
         }
     }

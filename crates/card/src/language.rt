@@ -13,7 +13,7 @@ ghost use Rattle.text.specs.Doc.{docOf};
 ghost use Rattle.contact.specs.Pointer.{child, find};
 ghost use Rattle.contact.specs.Localize.{patchAt};
 ghost use Rattle.card.specs.Members.{Finds};
-ghost use Rattle.card.specs.Copied.{ValueAt};
+ghost use Rattle.card.specs.Rows.{KnownAt};
 ghost use Rattle.card.specs.Language.{Held, Leads};
 
 // The row of the first value among those from one row up to another that has the name. The name is given decoded: a backslash in it is one.
@@ -34,7 +34,7 @@ fn named_row(text: &[u8], table: &[u32], from: usize, end: usize, name: &[u8]) -
 
 // The row of the member of that name, if the value at a row is an object and has one.
 fn child_row(text: &[u8], table: &[u32], row: usize, name: &[u8]) -> Found
-    requires { ⌜ ((g : Forest) × ValueAt (now table) row g) ⌝ }
+    requires { ⌜ ((g : Forest) × KnownAt (now table) row g) ⌝ }
     ensures { λ r. ⌜ ((g : Forest) (limit : ℕ) → Held (now (table .entry)) limit row g → Leads (now (text .entry)) (now (table .entry)) limit (child (now (name .entry)) (docOf (now (text .entry)) g)) r) ⌝ }
 {
     if kind(table, row) != 7 {
@@ -47,7 +47,7 @@ fn child_row(text: &[u8], table: &[u32], row: usize, name: &[u8]) -> Found
 
 // The row of what the card has for a language.
 pub(crate) fn patch_row(text: &[u8], table: &[u32], language: &[u8]) -> Found
-    requires { ⌜ ((g : Forest) × ValueAt (now table) 0 g) ⌝ }
+    requires { ⌜ ((g : Forest) × KnownAt (now table) 0 g) ⌝ }
     ensures { λ r. ⌜ ((g : Forest) (limit : ℕ) → Held (now (table .entry)) limit 0 g → Leads (now (text .entry)) (now (table .entry)) limit (find (patchAt (now (language .entry))) (docOf (now (text .entry)) g)) r) ⌝ }
 {
     let Found::Row(all) = child_row(text, table, 0, b"localizations") else {

@@ -10,7 +10,7 @@ ghost use mathlib.Core.Path.{_≡_};
 ghost use Rattle.text.specs.Tree.{Forest};
 ghost use Rattle.text.specs.Standing.{StandsTo};
 ghost use Rattle.card.specs.Parts.{nameLeft};
-ghost use Rattle.card.specs.Members.{Finds};
+ghost use Rattle.card.specs.Members.{Near, Finds};
 
 // Where a member was found.
 pub enum Found {
@@ -28,7 +28,7 @@ pub(crate) fn member_row(
     key: &[u8],
     c: Cursor,
 ) -> Found
-    requires { ⌜ ((f : Forest) × StandsTo (now table) from end f) ⌝ }
+    requires { ⌜ Near end ⌝ }
     ensures { λ r. ⌜ ((f : Forest) → StandsTo (now (table .entry)) from end f → Finds (now (text .entry)) (now (table .entry)) end (nameLeft «is_part» (now (key .entry)) c) f r) ⌝ }
 {
     let mut at = from;

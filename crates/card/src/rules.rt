@@ -149,10 +149,10 @@ fn breaks_name(text: &[u8], table: &[u32], from: usize, end: usize) -> bool
         }
         return breaks_separators(text, table, from, end);
     }
-    if !has_kind(text, table, from, end, b"full", 5) {
-        return true;
+    match find_kind(text, table, from, end, b"full", 5) {
+        Found::Nothing => true,
+        Found::At(_) => breaks_separators(text, table, from, end),
     }
-    breaks_separators(text, table, from, end)
 }
 
 // Do the members of the rows from .. end break a rule of the object type?

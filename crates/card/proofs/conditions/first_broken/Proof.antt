@@ -5,19 +5,19 @@ use borrow.Author.Needs.{needs}
 use Rattle.card.proofs.conditions.first_broken.Statement.{statement}
 use Rattle.card.proofs.conditions.first_broken.Tie as tie
 
-any-bad-key-requires : tie.Need-any-bad-key-requires
-any-bad-key-requires c κs = search needs
+any-faulty-requires : tie.Need-any-faulty-requires
+any-faulty-requires c κs = search needs
 
 returns : tie.Need-returns
 unfolding conditionOf
-returns c = λ g ms v l. rw (sym (c .before .any-bad-key .ensures ms l) ∙ c .if1 .taken)
+returns c = λ g ms v l. rw (sym (c .before .any-faulty .ensures ms l) ∙ c .if1 .taken)
 
-any-own-requires : tie.Need-any-own-requires
-any-own-requires c κs = search needs
+any-faulty-requires-2 : tie.Need-any-faulty-requires-2
+any-faulty-requires-2 c κs = search needs
 
 returns-2 : tie.Need-returns-2
 unfolding conditionOf
-returns-2 c = λ g ms v l. rw (sym (c .before .before .before .any-bad-key .ensures ms l) ∙ c .before .before .if1 .left, sym (c .before .any-own .ensures ms l) ∙ c .if2 .taken)
+returns-2 c = λ g ms v l. rw (sym (c .before .before .before .any-faulty .ensures ms l) ∙ c .before .before .if1 .left, sym (c .before .any-faulty2 .ensures ms l) ∙ c .if2 .taken)
 
 first-clash-requires : tie.Need-first-clash-requires
 first-clash-requires c κs = search needs
@@ -27,7 +27,7 @@ is-pair-requires c κs = search needs
 
 returns-3 : tie.Need-returns-3
 unfolding conditionOf
-returns-3 c = λ g ms v l. rw (sym (c .before .before .before .before .before .before .any-bad-key .ensures ms l) ∙ c .before .before .before .before .before .if1 .left, sym (c .before .before .before .before .any-own .ensures ms l) ∙ c .before .before .before .if2 .left, sym (c .before .before .first-clash .ensures ms l) ∙ sym (c .before .is-pair .ensures) ∙ c .if3 .taken)
+returns-3 c = λ g ms v l. rw (sym (c .before .before .before .before .before .before .any-faulty .ensures ms l) ∙ c .before .before .before .before .before .if1 .left, sym (c .before .before .before .before .any-faulty2 .ensures ms l) ∙ c .before .before .before .if2 .left, sym (c .before .before .first-clash .ensures ms l) ∙ sym (c .before .is-pair .ensures) ∙ c .if3 .taken)
 
 worst-path-requires : tie.Need-worst-path-requires
 worst-path-requires c κs = (c .before .before .before .before .before .before .before .before .before .before .before .before .pre .0, (c .before .before .before .before .before .before .before .before .before .before .before .before .pre .1 .0, c .before .before .before .before .before .before .before .before .before .before .before .before .pre .1 .1 .some, c .before .before .before .before .before .before .before .before .before .before .before .before .pre .1 .1 .stands, c .before .before .before .before .before .before .before .before .before .before .before .before .pre .1 .1 .kinds))
@@ -37,15 +37,15 @@ by-path-requires c κs = search needs
 
 returns-4 : tie.Need-returns-4
 unfolding conditionOf
-returns-4 c = λ g ms v l. rw (sym (c .before .before .before .before .before .before .before .before .any-bad-key .ensures ms l) ∙ c .before .before .before .before .before .before .before .if1 .left, sym (c .before .before .before .before .before .before .any-own .ensures ms l) ∙ c .before .before .before .before .before .if2 .left, sym (c .before .before .before .before .first-clash .ensures ms l) ∙ sym (c .before .before .before .is-pair .ensures) ∙ c .before .before .if3 .left) (c .by-path .ensures ∙ ap byWalk (c .before .worst-path .ensures g ms (v .some) (v .stands) (v .kinds) l))
+returns-4 c = λ g ms v l. rw (sym (c .before .before .before .before .before .before .before .before .any-faulty .ensures ms l) ∙ c .before .before .before .before .before .before .before .if1 .left, sym (c .before .before .before .before .before .before .any-faulty2 .ensures ms l) ∙ c .before .before .before .before .before .if2 .left, sym (c .before .before .before .before .first-clash .ensures ms l) ∙ sym (c .before .before .before .is-pair .ensures) ∙ c .before .before .if3 .left) (c .by-path .ensures ∙ ap byWalk (c .before .worst-path .ensures g ms (v .some) (v .stands) (v .kinds) l))
 
 pub first-broken-spec : {M : Type 1} → statement M
 first-broken-spec =
     tie.close
     (tie.spec
-    any-bad-key-requires
+    any-faulty-requires
     returns
-    any-own-requires
+    any-faulty-requires-2
     returns-2
     first-clash-requires
     is-pair-requires

@@ -1,11 +1,11 @@
 use mathlib.Core.Path.{sym, _∙_}
-use Prim.Native.Nat.{_-_}
+use Prim.Native.Nat.{_+_, _-_, _*_}
 use native.Mathlib.Omega.{arith}
 use denote.Ref.{now}
 use borrow.Author.Needs.{needs}
 use Rattle.text.specs.Strings.{conts}
 use Rattle.card.specs.Parts.{nameLeft}
-use Rattle.card.proofs.MemberLaws.{Seeking, seeks, seek-hit, seek-room, seek-next, seek-none}
+use Rattle.card.proofs.MemberLaws.{Seeking, seeks, seek-hit, seek-next, seek-none}
 use Rattle.card.proofs.members.member_row.Statement.{statement}
 use Rattle.card.proofs.members.member_row.Tie as tie
 
@@ -41,10 +41,13 @@ below-requires : tie.Need-below-requires Inv-loop μ-loop
 below-requires c κs = search needs
 
 add-at : tie.Need-add-at Inv-loop μ-loop
-add-at c = omega (arith, seek-room (now (c .before .before .before .before .before .before .before .before .before .before .before .before .args .text)) (now (c .before .before .before .before .before .before .before .before .before .before .before .before .args .table)) (c .before .before .before .before .before .before .before .before .before .before .before .before .args .from) (c .before .before .before .before .before .before .before .before .before .before .before .before .args .end) (nameLeft (c .before .before .before .before .before .before .before .before .before .before .before .before .args .is-part) (now (c .before .before .before .before .before .before .before .before .before .before .before .before .args .key)) (c .before .before .before .before .before .before .before .before .before .before .before .before .args .c)) (c .before .before .before .before .before .before .before .before .loop .at) (c .before .before .before .before .before .before .before .before .loop .inv) (c .before .before .before .before .before .before .before .before .before .before .before .before .pre .0) (c .before .before .before .before .before .before .before .before .before .before .before .before .pre .1) (c .before .before .before .before .before .before .before .loop-test .taken))
+add-at c = omega (arith, c .before .before .before .before .before .before .before .before .before .before .before .before .pre)
 
 add-at-2 : tie.Need-add-at-2 Inv-loop μ-loop
-add-at-2 c = omega (arith, c .below .ensures, seek-room (now (c .before .before .before .before .before .before .before .before .before .before .before .before .args .text)) (now (c .before .before .before .before .before .before .before .before .before .before .before .before .args .table)) (c .before .before .before .before .before .before .before .before .before .before .before .before .args .from) (c .before .before .before .before .before .before .before .before .before .before .before .before .args .end) (nameLeft (c .before .before .before .before .before .before .before .before .before .before .before .before .args .is-part) (now (c .before .before .before .before .before .before .before .before .before .before .before .before .args .key)) (c .before .before .before .before .before .before .before .before .before .before .before .before .args .c)) (c .before .before .before .before .before .before .before .before .loop .at) (c .before .before .before .before .before .before .before .before .loop .inv) (c .before .before .before .before .before .before .before .before .before .before .before .before .pre .0) (c .before .before .before .before .before .before .before .before .before .before .before .before .pre .1) (c .before .before .before .before .before .before .before .loop-test .taken))
+add-at-2 c =
+    let loop = c .before .before .before .before .before .before .before .before in
+    let word = loop .before .before .shared-slice-known2 .given (loop .loop .at * 6 + 5) in
+    omega (arith, word, c .below .ensures, loop .before .before .before .before .pre)
 
 loop-less : tie.Need-loop-less Inv-loop μ-loop
 loop-less c = omega arith

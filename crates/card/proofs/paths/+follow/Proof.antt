@@ -1,7 +1,3 @@
-use mathlib.Core.List.{List}
-use Rattle.text.specs.Doc.{Name}
-use Rattle.text.specs.Tree.{Forest}
-use Rattle.card.specs.Members.{Standing}
 use mathlib.Core.Path.{sym, _∙_}
 use native.Mathlib.Omega.{arith}
 use lib.ListN.{length}
@@ -11,6 +7,7 @@ use Rattle.json.specs.Cursors.{rest}
 use Rattle.contact.specs.Pointer.{pointerOf, parts}
 use Rattle.text.specs.Firsts.{insideAt}
 use Rattle.text.proofs.Promise.{row-at, inside}
+use Rattle.card.proofs.MemberLaws.{standing}
 use Rattle.card.proofs.PointerLaws.{fewer}
 use Rattle.card.proofs.PathLaws.{inside-kinds, walk-array, walk-scalar, walk-last, walk-lacks, walk-on}
 use Prim.Native.Nat.{ℕ, _<_}
@@ -25,10 +22,6 @@ use Rattle.json.proofs.rows.below.Reads as below-reads
 use Rattle.json.proofs.rows.kind.Reads as kind-reads
 use Rattle.card.proofs.paths.+follow.{statement}
 use Rattle.card.proofs.paths.+follow.Tie.{close}
-
--- what was found, by name
-standing : {t table : List ℕ} {end : ℕ} {n : Name} {f : Forest} {m : ℕ} → Standing t table end n f m → Standing t table end n f m
-standing h = h
 
 abbrev μ-follow : Measures 3 follow-kinds.ps ℕ
 μ-follow κs a = length (parts (pointerOf (rest (a .1 .1 .1 .0 .now) (a .1 .1 .1 .1 .0))))
@@ -70,7 +63,10 @@ follow-add-end : (t : ℕ) → follow-lts.Need-add-end (kind-reads.Asked, kind-r
 follow-add-end t c = let (f, s, h, k) = c .before .before .before .before .before .before .before .before .before .before .before .pre .1 in omega (arith, c .below .ensures, row-at f s h .below, row-at f s h .room-all)
 
 follow-member-row-requires : (t : ℕ) → follow-lts.Need-member-row-requires (kind-reads.Asked, kind-reads.Learnt, next-part-reads.Asked, next-part-reads.Learnt, below-reads.Asked, below-reads.Learnt, member-row-reads.Asked, member-row-reads.Learnt, follow-below t, follow.Post) (follow-at t) follow.Post
-follow-member-row-requires t c κs = let (f, s, h, k) = c .before .before .before .before .before .before .before .before .before .before .before .pre .1 in (insideAt f, (rw (c .below .ensures ∙ row-at f s h .below) (inside f s h)))
+follow-member-row-requires t c κs =
+    let start = c .before .before .before .before .before .before .before .before .before .before .before in
+    let (f, s, h, k) = start .pre .1 in
+    omega (arith, c .below .ensures, row-at f s h .below, row-at f s h .room-all, start .good .1 .0 .0)
 
 follow-enum-known-m : (t : ℕ) → follow-lts.Need-enum-known-m (kind-reads.Asked, kind-reads.Learnt, next-part-reads.Asked, next-part-reads.Learnt, below-reads.Asked, below-reads.Learnt, member-row-reads.Asked, member-row-reads.Learnt, follow-below t, follow.Post) (follow-at t) follow.Post
 follow-enum-known-m t c = search needs

@@ -9,10 +9,11 @@ use lib.ListN.{length}
 use denote.Ref.{now}
 use Rattle.text.specs.Tree.{Forest}
 use Rattle.text.specs.Firsts.{insideAt}
-use Rattle.card.specs.Copied.{ValueAt, openOf, insideOf}
+use Rattle.card.specs.Rows.{KnownAt}
+use Rattle.card.specs.Copied.{openOf}
 use Rattle.card.proofs.Bytes.{left-all, wrote-then}
 use Rattle.card.proofs.Walks.{row-inside, value-row, Passing, Walk, walk-start}
-use Rattle.card.proofs.Copies.{copied-scalar, copied-inside, copy-turn, copy-end}
+use Rattle.card.proofs.Copies.{insideOf, copied-scalar, copied-inside, copy-turn, copy-end}
 use borrow.Fn.Kinds.{In}
 use borrow.Fn.PlainCycle.{Measures, is, falls, and}
 use Rattle.card.proofs.writing.copy_value.Reads as copy-value
@@ -44,7 +45,7 @@ copy-value-below t =
 abbrev Inv-loop : lts.InvT-loop
 Inv-loop text table row out₀ at k end p₀ first₀ m₀ out p first m =
     Passing row end m out₀ out
-    × ((g : Forest) → ValueAt table row g → Walk table end (insideOf text k) out₀ p₀ (insideOf text k (insideAt g) true) out p first m)
+    × ((g : Forest) → KnownAt table row g → Walk table end (insideOf text k) out₀ p₀ (insideOf text k (insideAt g) true) out p first m)
 
 abbrev μ-loop : lts.MeasureT-loop
 μ-loop text table row out₀ at k end p₀ first₀ m₀ out p first m = end - m

@@ -10,7 +10,7 @@ use Rattle.text.specs.Writing.{comma, spelled}
 use Rattle.contact.specs.Pointer.{pointerOf, firstPart}
 use Rattle.contact.specs.Patch.{changeOf}
 use Rattle.json.specs.Cursors.{rest}
-use Rattle.card.specs.Copied.{ValueAt}
+use Rattle.card.specs.Rows.{KnownAt}
 use Rattle.card.specs.Patched.{pointerIn, membersIn}
 use Rattle.card.proofs.Bytes.{wrote-then}
 use Rattle.card.proofs.PatchLaws.{at-part, adds-is, passed-none, passed-some}
@@ -28,7 +28,7 @@ is-added-requires : tie.Need-is-added-requires
 is-added-requires c κs = search needs
 
 -- the entry's pointer from the part for the object on
-pointer : (c : tie.After-is-added) {h : Forest} → ValueAt (now (c .before .before .before .before .before .before .before .before .args .ptable)) (c .before .before .before .before .before .before .before .before .args .e) h
+pointer : (c : tie.After-is-added) {h : Forest} → KnownAt (now (c .before .before .before .before .before .before .before .before .args .ptable)) (c .before .before .before .before .before .before .before .before .args .e) h
     → pointerOf (rest (now (c .before .before .key-at .result)) (c .before .part-at .result)) ≡ pointerIn (now (c .before .before .before .before .before .before .before .before .args .ptext)) (c .before .before .before .before .before .before .before .before .args .parts) h
 pointer c w =
     let a = c .before .before .before .before .before .before .before .before .args in

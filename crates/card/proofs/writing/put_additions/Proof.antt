@@ -9,7 +9,7 @@ use Rattle.text.specs.Doc.{Members}
 use Rattle.text.specs.Writing.{writtenMembers}
 use Rattle.contact.specs.Patch.{added}
 use Rattle.card.specs.Entries.{stripped}
-use Rattle.card.specs.Copied.{ValueAt}
+use Rattle.card.specs.Rows.{KnownAt}
 use Rattle.card.specs.Patched.{membersIn, Said}
 use Rattle.card.proofs.Bytes.{left-all}
 use Rattle.card.proofs.Additions.{first-said, Adding, adding-on, adding-end}
@@ -19,7 +19,7 @@ use Rattle.card.proofs.writing.put_additions.Tie as tie
 abbrev Inv-loop : tie.InvT-loop
 Inv-loop text table row root ptext ptable rows out₀ parts hi i₀ s₀ out i s =
     (length out ≡ length out₀)
-    × ((g : Forest) (ms : Members) → ValueAt table row g → Said ptext ptable rows i₀ hi parts ms
+    × ((g : Forest) (ms : Members) → KnownAt table row g → Said ptext ptable rows i₀ hi parts ms
     → Adding ptext ptable rows i hi parts (membersIn root text g) out₀ (s₀ .to) (writtenMembers (added (membersIn root text g) (stripped parts ms)) (s₀ .first)) out s)
 
 abbrev μ-loop : tie.MeasureT-loop

@@ -9,7 +9,7 @@ use Rattle.text.specs.Strings.{decode, nameOf}
 use Rattle.text.specs.Doc.{Members, docOf}
 use Rattle.contact.specs.Patch.{under, applied}
 use Rattle.card.specs.Entries.{stripped}
-use Rattle.card.specs.Copied.{ValueAt}
+use Rattle.card.specs.Rows.{KnownAt}
 use Rattle.card.specs.Patched.{InRows, Said, isOut}
 use Rattle.card.proofs.Walks.{value-row}
 use Rattle.card.proofs.Copies.{label-is}
@@ -33,16 +33,16 @@ given t = (key-at-reads.Asked, key-at-reads.Learnt, is-out-reads.Asked, is-out-r
 
 module _ (t : ℕ) where
   -- the name at hand
-  name-is : (c : lts.After-key-at (given t) (member-at t) member.Post) {g : Forest} → ValueAt (now (c .before .before .before .before .before .before .before .args .table)) (c .before .before .before .before .before .before .before .args .row) g
+  name-is : (c : lts.After-key-at (given t) (member-at t) member.Post) {g : Forest} → KnownAt (now (c .before .before .before .before .before .before .before .args .table)) (c .before .before .before .before .before .before .before .args .row) g
       → decode (now (c .key-at .result)) ≡ nameOf (now (c .before .before .before .before .before .before .before .args .text)) (nameStart g) (nameEnd g)
   name-is c v = rw (c .key-at .ensures, value-row v .name-start, value-row v .name-end)
 
-  out-is : (c : lts.After-is-out (given t) (member-at t) member.Post) {g : Forest} → ValueAt (now (c .before .before .before .before .before .before .before .before .args .table)) (c .before .before .before .before .before .before .before .before .args .row) g
+  out-is : (c : lts.After-is-out (given t) (member-at t) member.Post) {g : Forest} → KnownAt (now (c .before .before .before .before .before .before .before .before .args .table)) (c .before .before .before .before .before .before .before .before .args .row) g
       → c .is-out .result ≡ isOut (c .before .before .before .before .before .before .before .before .args .root) (nameOf (now (c .before .before .before .before .before .before .before .before .args .text)) (nameStart g) (nameEnd g))
   out-is c v = rw (name-is (c .before) v) at (c .is-out .ensures)
 
   -- the run for the member
-  its-run : (c : lts.After-bound2 (given t) (member-at t) member.Post) {g : Forest} {ms : Members} → let a = c .before .before .before .before .before .before .before .before .before .before .before .args in ValueAt (now (a .table)) (a .row) g
+  its-run : (c : lts.After-bound2 (given t) (member-at t) member.Post) {g : Forest} {ms : Members} → let a = c .before .before .before .before .before .before .before .before .before .before .before .args in KnownAt (now (a .table)) (a .row) g
       → Said (now (a .ptext)) (now (a .ptable)) (now (a .rows)) (a .run .lo) (a .run .hi) (a .run .parts) ms
       → Middle (now (a .ptext)) (now (a .ptable)) (now (a .rows)) (c .before .bound .result) (c .bound2 .result) (a .run .parts) (nameOf (now (a .text)) (nameStart g) (nameEnd g)) ms
   its-run c v s =

@@ -12,7 +12,7 @@ use Rattle.text.specs.Doc.{Members, membersOf, docOf}
 use Rattle.text.proofs.Promise.{doc-kind, doc-object}
 use Rattle.contact.specs.Patch.{added}
 use Rattle.card.specs.Entries.{stripped}
-use Rattle.card.specs.Copied.{ValueAt}
+use Rattle.card.specs.Rows.{KnownAt}
 use Rattle.card.specs.Patched.{Said, membersIn}
 use Rattle.card.proofs.Bytes.{left-all, wrote-then}
 use Rattle.card.proofs.Walks.{row-inside, value-row, Passing, Walk, walk-start, walk-here}
@@ -32,7 +32,7 @@ use Rattle.card.proofs.writing.+put_member+put_value.Proof.Measures.{va
 abbrev pub Inv-loop : lts.InvT-loop
 Inv-loop text table row root ptext ptable rows run out₀ at end p s₀ m₀ out s m =
     Passing row end m out₀ out
-    × ((g : Forest) (ms : Members) → ValueAt table row g → Said ptext ptable rows (run .lo) (run .hi) (run .parts) ms
+    × ((g : Forest) (ms : Members) → KnownAt table row g → Said ptext ptable rows (run .lo) (run .hi) (run .parts) ms
     → let es = stripped (run .parts) ms in
     let more = added (membersIn root text g) es in
     Walk table end (restBy text root es more) out₀ p (restBy text root es more (insideAt g) true) out (s .to) (s .first) m)
