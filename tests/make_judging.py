@@ -1,18 +1,14 @@
-"""Makes crates/judging_run/stdin and stdout: cards with the words of the lent table, and what the second implementation says of them.
-
-    python3 tests/make_judging.py [--check]
-"""
+"""The cases of judging: cards with the words of the lent table, and what the second implementation says of them."""
 import glob
 import itertools
 import os
 
-from store import ROOT, noted, store, sum_of
+from store import ROOT, noted, sum_of
 
 import intake
 from reading import tree
 from rulings import MUST, RULINGS, SPECIMENS
 
-LIMIT = 524288
 MOST = 12288  # words of 2,048 rows
 
 GIVEN = b'{"kind":"given","value":"A"}'
@@ -318,7 +314,8 @@ def figures():
         yield text
 
 
-def main():
+def made():
+    """The lines, and an answer for each that is a case."""
     asked = (case for case in RULINGS + SPECIMENS if case["service"] == "judge")
     texts = itertools.chain(
         properties(), types(), mandatory(), between(), keys(), times(), numbers(), sets(), pairs(), figures(), chance(500))
@@ -334,8 +331,4 @@ def main():
             number, second, table = intake.judge(text, words)
             lines.append(f"{words} {noted(text, base)}")
             answers.append(f"{number} {second} {sum_of(table)}")
-    store("judging_run", lines, answers, LIMIT)
-
-
-if __name__ == "__main__":
-    main()
+    return lines, answers

@@ -1,18 +1,14 @@
-"""Makes crates/localizing_run/stdin and stdout: cards with a language and the lengths of what is lent, and what the second implementation says.
-
-    python3 tests/make_localizing.py [--check]
-"""
+"""The cases of localizing: cards with a language and the lengths of what is lent, and what the second implementation says of them."""
 import itertools
 import os
 
 from make_judging import Dice, card
-from store import ROOT, noted, store, sum_of
+from store import ROOT, noted, sum_of
 
 import intake
 from localizing import told
 from rulings import RULINGS, SPECIMENS
 
-LIMIT = 524288
 MOST = 12288  # words of 2,048 rows
 SHOWN = 400  # shorter cards are shown whole
 
@@ -223,15 +219,12 @@ def answer(words, room, language, text):
     return said + (" " + output[:written].decode("latin-1") if 0 < written < SHOWN else "")
 
 
-def main():
+def made():
+    """The lines, and an answer for each that is a case."""
     cases = itertools.chain(
         rulings(), conditions(), buffers(), languages(), keys(), prefixes(), walks(), members(), orders(), large(), figures(), chance(800))
     lines, answers = ["!" + noted(BASE)], []
     for words, room, language, text in dict.fromkeys(cases):
         lines.append(f"{words} {room} {noted(language).replace(' ', '%20')} {noted(text, BASE)}")
         answers.append(answer(words, room, language, text))
-    store("localizing_run", lines, answers, LIMIT)
-
-
-if __name__ == "__main__":
-    main()
+    return lines, answers

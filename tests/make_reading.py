@@ -1,15 +1,11 @@
-"""Makes crates/reading_run/stdin and stdout: texts with the words of the lent table, and what the second implementation says of them.
-
-    python3 tests/make_reading.py [--check]
-"""
+"""The cases of reading: texts with the words of the lent table, and what the second implementation says of them."""
 import itertools
 
-from store import noted, store, sum_of
+from store import noted, sum_of
 
 import intake
 from rulings import RULINGS, SPECIMENS
 
-LIMIT = 262144
 MOST = 12288  # words of 2,048 rows
 
 RICH = (
@@ -146,7 +142,8 @@ def damaged(text):
         yield 313, text[:at + 1] + text[at:]
 
 
-def main():
+def made():
+    """The lines, and an answer for each that is a case."""
     assert intake.read(RICH, 313)[0] == 0 and len(RICH) < 313
     groups = [(b"", itertools.chain(rulings(), depths(), counts(), lengths(), tables(), names(), short())), (MANY, members()), (RICH, damaged(RICH))]
     lines, answers = [], []
@@ -157,8 +154,4 @@ def main():
             number, second, table = intake.read(text, words)
             lines.append(f"{words} {noted(text, base)}")
             answers.append(f"{number} {second} {sum_of(table)}")
-    store("reading_run", lines, answers, LIMIT)
-
-
-if __name__ == "__main__":
-    main()
+    return lines, answers

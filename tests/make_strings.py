@@ -1,13 +1,8 @@
-"""Makes crates/strings_run/stdin and stdout: texts that begin with a string, and what the second implementation says of them.
-
-    python3 tests/make_strings.py [--check]
-"""
-from store import noted, store
+"""The cases of strings: texts that begin with a string, and what the second implementation says of them."""
+from store import noted
 
 from reading import Reader, Refused
 from rulings import RULINGS
-
-LIMIT = 262144
 
 # code points on both sides of each boundary, and one inside
 BOUNDARY = [
@@ -122,10 +117,7 @@ def answer(text):
     return said
 
 
-def main():
+def made():
+    """The lines, and an answer for each that is a case."""
     cases = list(dict.fromkeys(texts()))
-    store("strings_run", [noted(text) for text in cases], [answer(text) for text in cases], LIMIT)
-
-
-if __name__ == "__main__":
-    main()
+    return [noted(text) for text in cases], [answer(text) for text in cases]

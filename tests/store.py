@@ -1,4 +1,4 @@
-"""Cases in the notation of crates/cases, and the files stdin and stdout of a test program."""
+"""The notation of a case, and the sums of buffers, as in crates/cases_run."""
 import os
 import re
 import sys
@@ -45,7 +45,7 @@ def noted(text, base=b""):
 
 
 def unpacked(line, base=b""):
-    """What the notation stands for: the same rules as crates/cases, to see that a line says what was meant."""
+    """What the notation stands for: the same rules as crates/cases_run, to see that a line says what was meant."""
     text = bytearray()
     for byte, more, back, start, end, own in re.findall(r"%([0-9a-f]{2})|%\*(\d+),(\d+);|%=(\d+),(\d+);|([^%])", line):
         if byte:
@@ -61,24 +61,8 @@ def unpacked(line, base=b""):
 
 
 def sum_of(numbers):
-    """The sum of a table or a buffer, as in crates/cases."""
+    """The sum of a table or a buffer, as in crates/cases_run."""
     total = 0
     for n in numbers:
         total = (total * 65599 + n) % 4294967291
     return total
-
-
-def store(crate, lines, answers, limit):
-    """Writes a program's stdin and stdout; with `--check` only compares them. `limit` is the program's input buffer."""
-    made = {"stdin": "\n".join(lines) + "\n", "stdout": "\n".join(answers) + "\n"}
-    assert len(made["stdin"]) <= limit, len(made["stdin"])
-    for name, text in made.items():
-        path = os.path.join(ROOT, "crates", crate, name)
-        if "--check" in sys.argv:
-            with open(path, "rb") as old:
-                if old.read() != text.encode("latin-1"):
-                    sys.exit(f"crates/{crate}/{name} is not what the second implementation says")
-        else:
-            with open(path, "wb") as new:
-                new.write(text.encode("latin-1"))
-    print(f"{crate}: {len(answers)} cases, {len(made['stdin'])} bytes of input")

@@ -1,4 +1,4 @@
-/* Stored cases for C: the notation of crates/cases, and the sums that the stored answers have. */
+/* Stored cases for C: the notation of crates/cases_run, and the sums that the stored answers have. */
 #include <stdint.h>
 #include <stdio.h>
 #include <stdlib.h>

@@ -1,4 +1,4 @@
-/* Runs bezinkol_judge on the cases of crates/judging_run and writes what that program writes. */
+/* Runs bezinkol_judge on the cases of judging and writes what crates/cases_run writes. */
 #include "bezinkol.h"
 #include "cases.h"
 

@@ -1,4 +1,4 @@
-/* Runs bezinkol_localize on the cases of crates/localizing_run and writes what that program writes, but for the place inside 28. */
+/* Runs bezinkol_localize on the cases of localizing and writes what crates/cases_run writes, but for the place inside 28. */
 #include "bezinkol.h"
 #include "cases.h"
 

@@ -1,4 +1,4 @@
-/* Runs bezinkol_read on the cases of crates/reading_run and writes what that program writes. */
+/* Runs bezinkol_read on the cases of reading and writes what crates/cases_run writes. */
 #include "bezinkol.h"
 #include "cases.h"
 

@@ -1,2 +1,0 @@
--- The lemmas of the notation of cases. Assumes nothing.
-pub mod Counted

@@ -1,0 +1,37 @@
+-- `cases_run::main` meets its contract: what was read is a part of the buffer. The buffer's length is told by a lemma: `search` would count its zeros
+-- one by one, and they are too many. Assumes nothing.
+use mathlib.Core.Path.{sym}
+use Prim.Native.Nat.{ℕ}
+use lib.ListN.{length-replicate}
+use borrow.Author.Needs.{needs}
+use Rattle.cases_run.proofs.main.Statement.{statement}
+use Rattle.cases_run.proofs.main.Tie as tie
+
+slice-aggregate-read-full : tie.Need-slice-aggregate-read-full
+slice-aggregate-read-full c = sym (length-replicate {0} {A = ℕ} 1200000 0)
+
+read-full-requires : tie.Need-read-full-requires
+read-full-requires c κs = search needs
+
+array-share-prefix-buf : tie.Need-array-share-prefix-buf
+array-share-prefix-buf c = c .before .read-full .ensures .0
+
+slice-aggregate-run : tie.Need-slice-aggregate-run
+slice-aggregate-run c = c .before .before .read-full .ensures .1
+
+run-requires : tie.Need-run-requires
+run-requires c κs = search needs
+
+returns : tie.Need-returns
+returns c = search needs
+
+pub main-spec : {M : Type 1} → statement M
+main-spec =
+    tie.close
+    (tie.spec
+    slice-aggregate-read-full
+    read-full-requires
+    array-share-prefix-buf
+    slice-aggregate-run
+    run-requires
+    returns)

@@ -1,0 +1,195 @@
+// The notation of stored cases: a line of printable bytes becomes a text.
+//   %hh       the byte with those two small hexadecimal digits
+//   %*N,K;    N bytes more, each the one that stands K bytes before it
+//   %=A,B;    the bytes of the base text from A up to B
+// and every other byte stands for itself. What doesn't fit into ROOM bytes is dropped.
+ghost use Prim.Native.Nat.{_+_, _<_, _≤_};
+ghost use lib.ListN.{length};
+ghost use Rattle.io.specs.Counts.{Counts};
+
+// The longest text of a case.
+pub const ROOM: usize = 70000;
+
+// A number that was read, and the place after the byte that ends it.
+struct Count {
+    value: usize,
+    at: usize,
+}
+
+// How many bytes stand before the first such byte.
+pub fn before(line: &[u8], byte: u8) -> usize
+    ensures { λ r. ⌜ Counts r (now (line .entry)) ⌝ }
+{
+    let mut at: usize = 0;
+    while at < line.len() {
+        if line[at] == byte {
+            break;
+        }
+        at = at + 1;
+    }
+    at
+}
+
+// What stands after the first such byte, or nothing.
+pub fn after(line: &[u8], byte: u8) -> &[u8] {
+    let head = before(line, byte);
+    if head < line.len() {
+        &line[head + 1..]
+    } else {
+        &line[..0]
+    }
+}
+
+// The number whose decimal digits stand at a place.
+fn count_at(line: &[u8], from: usize) -> Count
+    requires { ⌜ from ≤ length (now line) + 1 ⌝ }
+    ensures { λ r. ⌜ (from ≤ r .at) × (r .at ≤ length (now (line .entry)) + 1) ⌝ }
+{
+    let mut at = from;
+    let mut value: usize = 0;
+    while at < line.len() {
+        let b = line[at];
+        if b < 48 {
+            break;
+        }
+        if 57 < b {
+            break;
+        }
+        value = value % 999999 * 10 + (b - 48) as usize;
+        at = at + 1;
+    }
+    if at < line.len() {
+        at = at + 1;
+    }
+    Count { value, at }
+}
+
+// The number whose decimal digits begin a line.
+pub fn number(line: &[u8]) -> usize {
+    let c = count_at(line, 0);
+    c.value
+}
+
+// The value of a small hexadecimal digit at a place, or 0.
+fn digit_at(line: &[u8], at: usize) -> u8
+    ensures { λ r. ⌜ r < 16 ⌝ }
+{
+    if line.len() <= at {
+        return 0;
+    }
+    let b = line[at];
+    match b {
+        48..=57 => b - 48,
+        97..=102 => b - 87,
+        _ => 0,
+    }
+}
+
+// Puts a byte at a place of a text, and returns the place after it.
+fn put(out: &mut [u8], at: usize, byte: u8) -> usize
+    requires { ⌜ at ≤ length (now out) ⌝ }
+    ensures { λ r. ⌜ r ≤ length (now (out .entry)) ⌝ }
+{
+    if at < out.len() {
+        out[at] = byte;
+        return at + 1;
+    }
+    at
+}
+
+// The byte that stands `back` bytes before a place, or 0.
+fn earlier(out: &[u8], at: usize, back: usize) -> u8 {
+    if at < back {
+        return 0;
+    }
+    let from = at - back;
+    if from < out.len() { out[from] } else { 0 }
+}
+
+// Puts `more` bytes, each the one that stands `back` bytes before it.
+fn again(out: &mut [u8], from: usize, more: usize, back: usize) -> usize
+    requires { ⌜ from ≤ length (now out) ⌝ }
+    ensures { λ r. ⌜ r ≤ length (now (out .entry)) ⌝ }
+{
+    let mut at = from;
+    let mut left = more;
+    while 0 < left {
+        let byte = earlier(out, at, back);
+        at = put(out, at, byte);
+        left = left - 1;
+    }
+    at
+}
+
+// Puts the bytes of the base text from `a` up to `b`.
+fn copy(out: &mut [u8], from: usize, base: &[u8], a: usize, b: usize) -> usize
+    requires { ⌜ from ≤ length (now out) ⌝ }
+    ensures { λ r. ⌜ r ≤ length (now (out .entry)) ⌝ }
+{
+    let mut at = from;
+    let mut i = a;
+    while i < b {
+        if base.len() <= i {
+            break;
+        }
+        let byte = base[i];
+        at = put(out, at, byte);
+        i = i + 1;
+    }
+    at
+}
+
+// What stands at a place of a line after a percent sign: it is put, and the place after it and the text's length are returned.
+struct Step {
+    next: usize,
+    size: usize,
+}
+
+fn special(line: &[u8], at: usize, base: &[u8], out: &mut [u8], size: usize) -> Step
+    requires { ⌜ at ≤ length (now line) ⌝ }
+    requires { ⌜ size ≤ length (now out) ⌝ }
+    ensures { λ r. ⌜ (at < r .next) × (r .size ≤ length (now (out .entry))) ⌝ }
+{
+    let kind = if at < line.len() { line[at] } else { 0 };
+    if kind != 42 {
+        if kind != 61 {
+            let byte = digit_at(line, at) * 16 + digit_at(line, at + 1);
+            return Step {
+                next: at + 2,
+                size: put(out, size, byte),
+            };
+        }
+    }
+    let one = count_at(line, at + 1);
+    let two = count_at(line, one.at);
+    if kind == 42 {
+        return Step {
+            next: two.at,
+            size: again(out, size, one.value, two.value),
+        };
+    }
+    Step {
+        next: two.at,
+        size: copy(out, size, base, one.value, two.value),
+    }
+}
+
+// Puts the text that a line stands for, and returns its length.
+pub fn unpack(line: &[u8], base: &[u8], out: &mut [u8]) -> usize
+    ensures { λ r. ⌜ Counts r (now (out .exit)) ⌝ }
+{
+    let mut at: usize = 0;
+    let mut size: usize = 0;
+    while at < line.len() {
+        let byte = line[at];
+        if byte == 37 {
+            let step = special(line, at + 1, base, out, size);
+            at = step.next;
+            size = step.size;
+        } else {
+            size = put(out, size, byte);
+            at = at + 1;
+        }
+    }
+    size
+}
