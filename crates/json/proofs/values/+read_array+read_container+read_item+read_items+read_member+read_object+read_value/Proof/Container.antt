@@ -65,7 +65,8 @@ module _ (t : ℕ) where
       let o = e .before .before in
       let a = o .before .before .before .before .args in
       let inner = itemsAt (a .of) (upTo (a .limit)) (a .text .now) (a .depth - 1) (a .at + 1) (a .count + 1) in
-      let opened = container-open (upTo (a .limit)) (a .text .now) (a .ns) (a .ne) (a .at) (a .count) (a .of) (a .depth) (o .before .if1 .left) (o .if2 .left) in
+      let opened =
+      container-open (upTo (a .limit)) (a .text .now) (a .ns) (a .ne) (a .at) (a .count) (a .of) (a .depth) (o .before .if1 .left) (o .if2 .left) in
       rw opened
       (closed (bracketOf (a .of)) inner (a .ns) (a .ne) (a .at) (a .count) (a .text .now) (a .limit) (a .table .now) (k .last .1 .0) (z .last .0) (k .result)
       (z .result) (k .ensures) (rw (c .before .before .before .kind-in .ensures) at (z .ensures)))

@@ -68,8 +68,14 @@ module _ (t : ℕ) where
   abbrev loop : (v : Item) → lts.At-loop (calls t) (at of-items t) items.Post Inv-loop μ-loop
   loop v = v .before .before .before .before .before .before
 
+  abbrev opened : (v : Item) → Opened
+  opened v = loop v .before
+
   abbrev start : (v : Item) → Start
-  start v = v .before .before .before .before .before .before .before .before .before .before .before .before .before
+  start v = opened v .before .before .before .before .before .before
+
+  shut : (v : Item) → opened v .before .before .before .closing .result ≡ z (start v)
+  shut v = opened v .before .before .before .closing .ensures
 
   -- what the item's reader ensures there, by the case that was matched
   gone : (v : Item)
@@ -91,7 +97,7 @@ module _ (t : ℕ) where
 
   last : (c : Last)
       → let s = start (c .before .before .before .before) in byteAt (s .args .text .now) (c .before .before .skip2 .result) ≡ z s
-  last c = sym (c .before .peek2 .ensures .0) ∙ c .if2 .taken ∙ c .before .before .before .before .before .before .before .before .before .before .before .before .before .before .closing .ensures
+  last c = sym (c .before .peek2 .ensures .0) ∙ c .if2 .taken ∙ shut (c .before .before .before .before)
 
   pub closing-requires : lts.Need-closing-requires (calls t) (at of-items t) items.Post Inv-loop μ-loop
   closing-requires c κs = search needs
@@ -168,7 +174,7 @@ module _ (t : ℕ) where
   returns-3 c =
       let v = c .before .before .before .before in
       let x = c .before .before .skip2 in
-      upto-done (loop v .loop .inv) (gone v) (x .result) (x .ensures) (opening (v .before .before .before .before .before .before .before))
+      upto-done (loop v .loop .inv) (gone v) (x .result) (x .ensures) (opening (opened v))
       (start v .pre .1 .inside) (last c) (closing-byte (bracketOf (start v .args .of)))
 
   pub same-length-3 : lts.Need-same-length-3 (calls t) (at of-items t) items.Post Inv-loop μ-loop
@@ -179,8 +185,8 @@ module _ (t : ℕ) where
       let v = c .before .before .before .before .before in
       let x = c .before .before .before .skip2 in
       let b = c .before .before .peek2 in
-      upto-bad (loop v .loop .inv) (gone v) (x .result) (x .ensures) (opening (v .before .before .before .before .before .before .before))
-      (λ q. c .before .if2 .left (b .ensures .0 ∙ q ∙ sym (c .before .before .before .before .before .before .before .before .before .before .before .before .before .before .before .closing .ensures)))
+      upto-bad (loop v .loop .inv) (gone v) (x .result) (x .ensures) (opening (opened v))
+      (λ q. c .before .if2 .left (b .ensures .0 ∙ q ∙ sym (shut v)))
       (λ q. c .if3 .taken (b .ensures .0 ∙ q))
 
   pub add-skip : lts.Need-add-skip (calls t) (at of-items t) items.Post Inv-loop μ-loop
@@ -203,5 +209,5 @@ module _ (t : ℕ) where
       let v = c .before .before .before .before .before .before in
       let x = c .before .before .before .before .skip2 in
       upto-more (loop v .loop .inv) (gone v) (x .result) (x .ensures)
-      (λ q. c .before .before .if2 .left (c .before .before .before .peek2 .ensures .0 ∙ q ∙ sym (c .before .before .before .before .before .before .before .before .before .before .before .before .before .before .before .before .closing .ensures))) (omega arith)
+      (λ q. c .before .before .if2 .left (c .before .before .before .peek2 .ensures .0 ∙ q ∙ sym (shut v))) (omega arith)
       (c .skip3 .result) (c .skip3 .ensures)
