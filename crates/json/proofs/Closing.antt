@@ -4,13 +4,17 @@ use mathlib.Core.List.{List}
 use Prim.Native.Nat.{ℕ, _+_, _-_, _<_}
 use native.Mathlib.Omega.{arith}
 use lib.ListN.{length}
-use Rattle.text.specs.Tree.{Bracket, kindIn, none, node, size}
+use Rattle.text.specs.Tree.{Bracket, square, curly, kindIn, none, node, size}
 use Rattle.text.specs.Reader.{Read, closeOf}
 use Rattle.text.proofs.Stores.{rows-close}
 use Rattle.json.specs.Rows.{Word}
 use Rattle.json.specs.Parts.{Took, Closable, Closes}
 use Rattle.json.specs.declared.values.Part.{Part}
 use Rattle.json.specs.declared.values.Part.the-variants.{Next, Stop}
+
+pub kind-fits : (b : Bracket) → Word (kindIn b)
+kind-fits square = omega arith
+kind-fits curly = omega arith
 
 -- what was read inside may be closed
 pub closable : (R : Read) (t : List ℕ) (limit at n : ℕ) (old mid : List ℕ) (inner : Part) → Word (length t) → Word limit

@@ -11,7 +11,7 @@ use Rattle.laws.proofs.Places.{inside}
 use Rattle.text.specs.Limits.{rowWords}
 use Rattle.text.specs.Text.{byteAt}
 use Rattle.text.specs.Tokens.{skip}
-use Rattle.text.specs.Tree.{Forest, none, size, rowsOf, join}
+use Rattle.text.specs.Tree.{Bracket, square, curly, closing, Forest, none, size, rowsOf, join}
 use Rattle.text.specs.Standing.{StandsTo}
 use Rattle.text.specs.Reader.{good, bad, ItemReader, afterItem, itemsFrom, insideOf}
 use Rattle.text.specs.declared.Refusal.{Refusal}
@@ -47,15 +47,22 @@ is-some : {t : List ℕ} {z from start : ℕ} (item : ItemReader) (first : ℕ) 
 unfolding insideOf
 is-some item first o = rw (← o .is, ne-eqb _ _ (o .some))
 
+-- a container is closed by a byte
+pub closing-byte : (b : Bracket) → closing b < 256
+closing-byte square = omega arith
+closing-byte curly = omega arith
+
 -- nothing inside
-pub inside-none : (t : List ℕ) (item : ItemReader) (z from start limit first : ℕ) (old : List ℕ) → start ≡ skip t from → byteAt t start ≡ z → z < 256
-    → from ≤ length t → first ≤ limit → Gone (insideOf t item z from first) t limit from first old old (start + 1) first
+pub inside-none : (t : List ℕ) (item : ItemReader) (b : Bracket) (from start limit first : ℕ) (old : List ℕ) → start ≡ skip t from
+    → byteAt t start ≡ closing b → from ≤ length t → first ≤ limit
+    → Gone (insideOf t item (closing b) from first) t limit from first old old (start + 1) first
 unfolding size rowsOf
-inside-none t item z from start limit first old e h s i f =
+inside-none t item b from start limit first old e h i f =
     let l = skip-span t from i in
+    let k = closing-byte b in
     record {
       trees = none;
-      is = is-none t item z from start first e h;
+      is = is-none t item (closing b) from start first e h;
       count = sym (add-zero first);
       table = refl;
       later = omega arith;

@@ -13,10 +13,13 @@ use Rattle.text.specs.Limits.{Limits}
 use Rattle.text.specs.Text.{byteAt}
 use Rattle.text.specs.Strings.{nameOf, stringEnd}
 use Rattle.text.specs.Tokens.{skip, isDigit, kindBy, tokenAt}
-use Rattle.text.specs.Tree.{Bracket, square, curly, Forest, none, leaf}
-use Rattle.text.specs.Reader.{Read, good, bad, Reader, scalarWith, scalarAt, closeOf, container, deep, valueWith, named, colonAt, memberWith, memberOf, valueAt, elementsAt, membersAt, arrayAt, objectAt}
+use Rattle.text.specs.Tree.{Forest, none, leaf}
+use Rattle.text.specs.Reader.{good, bad, Reader, scalarWith, scalarAt, closeOf, container, deep, valueWith, named, colonAt, memberWith, memberOf, valueAt, elementsAt, membersAt, arrayAt, objectAt}
 use Rattle.text.specs.declared.Token.the-variants.{End, No2, No3}
 use Rattle.text.specs.declared.Refusal.the-variants.{Grammar, Character, Repeated, Deep, Many}
+use Rattle.json.specs.Parts.{bracketOf, containerAt, itemsAt}
+use Rattle.json.specs.declared.values.Container.{Container}
+use Rattle.json.specs.declared.values.Container.the-variants.{Array, Object}
 
 -- ---- values that hold no others ----
 
@@ -68,45 +71,28 @@ module _ (L : Limits) (t : List ℕ) (ns ne at n depth : ℕ) where
 
 -- ---- containers ----
 
-module _ (L : Limits) (b : Bracket) (inside : ℕ → ℕ → Read) (ns ne at n : ℕ) where
-  container-many : L .values ≤ n → container L b inside ns ne at n ≡ bad (Many at)
-  unfolding container
-  container-many h = rw (le-leb _ _ h)
-
-  container-open : n < L .values → container L b inside ns ne at n ≡ closeOf b ns ne at (inside (at + 1) (n + 1))
-  unfolding container
-  container-open h = rw (lt-leb _ _ h)
-
 module _ (L : Limits) (t : List ℕ) (ns ne at n : ℕ) where
-  pub array-deep : (depth : ℕ) → depth ≡ 0 → arrayAt L t depth ns ne at n ≡ bad (Deep at)
-  unfolding arrayAt deep
-  array-deep depth h = rw h
+  pub container-deep : (of : Container) (depth : ℕ) → depth ≡ 0 → containerAt of L t depth ns ne at n ≡ bad (Deep at)
+  unfolding arrayAt objectAt deep
+  container-deep Array depth h = rw h
+  container-deep Object depth h = rw h
 
-  pub object-deep : (depth : ℕ) → depth ≡ 0 → objectAt L t depth ns ne at n ≡ bad (Deep at)
-  unfolding objectAt deep
-  object-deep depth h = rw h
+  -- where one may be opened, the two go the same way
+  opened : (of : Container) (depth : ℕ) → containerAt of L t (suc depth) ns ne at n ≡ container L (bracketOf of) (itemsAt of L t depth) ns ne at n
+  unfolding arrayAt objectAt elementsAt membersAt
+  opened Array depth = refl
+  opened Object depth = refl
 
-  pub array-many : (depth : ℕ) → (depth ≡ 0 → ⊥) → L .values ≤ n → arrayAt L t depth ns ne at n ≡ bad (Many at)
-  unfolding arrayAt
-  array-many zero h m = absurd (h refl)
-  array-many (suc depth) h m = container-many L square (elementsAt L t depth) ns ne at n m
+  pub container-many : (of : Container) (depth : ℕ) → (depth ≡ 0 → ⊥) → L .values ≤ n → containerAt of L t depth ns ne at n ≡ bad (Many at)
+  unfolding container
+  container-many of zero h m = absurd (h refl)
+  container-many of (suc depth) h m = opened of depth ∙ rw (le-leb _ _ m)
 
-  pub object-many : (depth : ℕ) → (depth ≡ 0 → ⊥) → L .values ≤ n → objectAt L t depth ns ne at n ≡ bad (Many at)
-  unfolding objectAt
-  object-many zero h m = absurd (h refl)
-  object-many (suc depth) h m = container-many L curly (membersAt L t depth) ns ne at n m
-
-  pub array-open : (depth : ℕ) → (depth ≡ 0 → ⊥) → n < L .values
-      → arrayAt L t depth ns ne at n ≡ closeOf square ns ne at (elementsAt L t (depth - 1) (at + 1) (n + 1))
-  unfolding arrayAt
-  array-open zero h m = absurd (h refl)
-  array-open (suc depth) h m = rw sub-one (container-open L square (elementsAt L t depth) ns ne at n m)
-
-  pub object-open : (depth : ℕ) → (depth ≡ 0 → ⊥) → n < L .values
-      → objectAt L t depth ns ne at n ≡ closeOf curly ns ne at (membersAt L t (depth - 1) (at + 1) (n + 1))
-  unfolding objectAt
-  object-open zero h m = absurd (h refl)
-  object-open (suc depth) h m = rw sub-one (container-open L curly (membersAt L t depth) ns ne at n m)
+  pub container-open : (of : Container) (depth : ℕ) → (depth ≡ 0 → ⊥) → n < L .values
+      → containerAt of L t depth ns ne at n ≡ closeOf (bracketOf of) ns ne at (itemsAt of L t (depth - 1) (at + 1) (n + 1))
+  unfolding container
+  container-open of zero h m = absurd (h refl)
+  container-open of (suc depth) h m = rw sub-one (opened of depth ∙ rw (lt-leb _ _ m))
 
 -- ---- a member's name and colon ----
 

@@ -6,12 +6,14 @@ use lib.ListN.{length}
 use lib.Seq.{sets}
 use Rattle.text.specs.Limits.{Limits, rowWords, base}
 use Rattle.text.specs.Fewer.{withValues}
-use Rattle.text.specs.Tree.{Forest, size, rowsOf}
+use Rattle.text.specs.Tree.{Bracket, square, curly, closing, Forest, size, rowsOf}
 use Rattle.text.specs.Standing.{StandsTo}
-use Rattle.text.specs.Reader.{Read, good, bad, Reader, colonAt, memberOf}
+use Rattle.text.specs.Reader.{Read, good, bad, Reader, ItemReader, colonAt, memberOf, insideOf, valueAt, arrayAt, objectAt}
 use Rattle.json.specs.Rows.{Word}
 use Rattle.json.specs.declared.members.Key.{Key}
 use Rattle.json.specs.declared.members.Key.the-variants.{Value, Broken}
+use Rattle.json.specs.declared.values.Container.{Container}
+use Rattle.json.specs.declared.values.Container.the-variants.{Array, Object}
 use Rattle.json.specs.declared.values.Part.{Part}
 use Rattle.json.specs.declared.values.Part.the-variants.{Next, Stop}
 
@@ -60,6 +62,23 @@ abbrev pub Closes : (kind ns ne at n : ℕ) → Part → (old new : List ℕ) �
 Closes kind ns ne at n (Next to after) old new r =
     (r ≡ Next to after) × (new ≡ sets old (n * rowWords) (kind ∷ ns ∷ ne ∷ at ∷ to ∷ (after - n - 1) ∷ []))
 Closes kind ns ne at n (Stop x) old new r = r ≡ Stop x
+
+-- ---- the two containers: a container's bracket, its own definition, that of one item, and that of all that is inside
+
+abbrev pub bracketOf : Container → Bracket
+bracketOf Array = square
+bracketOf Object = curly
+
+abbrev pub containerAt : Container → Limits → List ℕ → (depth : ℕ) → Reader
+containerAt Array = arrayAt
+containerAt Object = objectAt
+
+abbrev pub itemOf : Container → Limits → List ℕ → (depth : ℕ) → ItemReader
+itemOf Array L t depth = λ done. valueAt L t depth 0 0
+itemOf Object L t depth = memberOf L t (valueAt L t depth)
+
+abbrev pub itemsAt : Container → Limits → List ℕ → (depth at n : ℕ) → Read
+itemsAt of L t depth = insideOf t (itemOf of L t depth) (closing (bracketOf of))
 
 -- ---- members ----
 

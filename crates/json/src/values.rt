@@ -13,16 +13,23 @@ ghost use Prim.Native.Nat.{_+_, _<_};
 ghost use lib.ListN.{length};
 ghost use Rattle.text.specs.Text.{byteAt};
 ghost use Rattle.text.specs.Tokens as tokens;
+ghost use Rattle.text.specs.Tree as tree;
 ghost use Rattle.text.specs.Tree.{Forest};
 ghost use Rattle.text.specs.Standing.{StandsTo};
-ghost use Rattle.text.specs.Reader.{scalarAt, arrayAt, objectAt, elementsAt, membersAt, memberOf, valueAt};
+ghost use Rattle.text.specs.Reader.{scalarAt, arrayAt, objectAt, memberOf, valueAt};
 ghost use Rattle.json.specs.Rows.{Row};
-ghost use Rattle.json.specs.Parts.{upTo, Asks, Spot, Took, Closable, Closes};
+ghost use Rattle.json.specs.Parts.{upTo, Asks, Spot, Took, Closable, Closes, bracketOf, containerAt, itemsAt, itemOf};
 
 // What reading a part of a text gives: the place after it and the number of values so far, or the refusal.
 pub enum Part {
     Next(usize, usize),
     Stop(Refusal),
+}
+
+// The two containers: they differ in their kind, their closing byte and their items.
+pub enum Container {
+    Array,
+    Object,
 }
 
 // The kind that the byte at a place begins, or 0.
@@ -59,6 +66,26 @@ fn read_scalar(
         }
         Token::No2(p) => Part::Stop(Refusal::Grammar(p)),
         Token::No3(p) => Part::Stop(Refusal::Character(p)),
+    }
+}
+
+// The kind in a container's row.
+fn kind_in(of: Container) -> usize
+    ensures { λ r. ⌜ r ≡ tree.kindIn (bracketOf of) ⌝ }
+{
+    match of {
+        Container::Array => 6,
+        Container::Object => 7,
+    }
+}
+
+// The byte that closes a container.
+fn closing(of: Container) -> u16
+    ensures { λ r. ⌜ r ≡ tree.closing (bracketOf of) ⌝ }
+{
+    match of {
+        Container::Array => 93,
+        Container::Object => 125,
     }
 }
 
@@ -128,53 +155,17 @@ fn read_array(
     requires { ⌜ Spot (now text) ns ne ⌝ }
     ensures { λ r. ⌜ Took (arrayAt (upTo limit) (now (text .entry)) depth ns ne at count) (now (text .entry)) limit at count (now (table .entry)) (now (table .exit)) r ⌝ }
 {
-    if depth == 0 {
-        return Part::Stop(Refusal::Deep(at));
-    }
-    if limit <= count {
-        return Part::Stop(Refusal::Many(at));
-    }
-    let inside = read_elements(text, table, limit, depth - 1, at + 1, count + 1);
-    close(table, inside, 6, ns, ne, at, count)
-}
-
-// What stands in an array, from after its bracket to after its closing bracket.
-fn read_elements(
-    text: &[u8],
-    table: &mut [u32],
-    limit: usize,
-    depth: usize,
-    from: usize,
-    first: usize,
-) -> Part
-    requires { ⌜ Asks (now text) (now table) limit from first ⌝ }
-    ensures { λ r. ⌜ Took (elementsAt (upTo limit) (now (text .entry)) depth from first) (now (text .entry)) limit from first (now (table .entry)) (now (table .exit)) r ⌝ }
-{
-    let start = skip(text, from);
-    let b = peek(text, start);
-    if b == 93 {
-        let next = start + 1;
-        return Part::Next(next, first);
-    }
-    let mut at = start;
-    let mut count = first;
-    loop {
-        let v = read_value(text, table, limit, depth, 0, 0, at, count);
-        let Part::Next(to, after) = v else {
-            return v;
-        };
-        let x = skip(text, to);
-        let b = peek(text, x);
-        if b == 93 {
-            let next = x + 1;
-            return Part::Next(next, after);
-        }
-        if b != 44 {
-            return Part::Stop(Refusal::Grammar(x));
-        }
-        at = skip(text, x + 1);
-        count = after;
-    }
+    read_container(
+        text,
+        table,
+        limit,
+        depth,
+        Container::Array,
+        ns,
+        ne,
+        at,
+        count,
+    )
 }
 
 // The object whose bracket is at a place.
@@ -192,14 +183,104 @@ fn read_object(
     requires { ⌜ Spot (now text) ns ne ⌝ }
     ensures { λ r. ⌜ Took (objectAt (upTo limit) (now (text .entry)) depth ns ne at count) (now (text .entry)) limit at count (now (table .entry)) (now (table .exit)) r ⌝ }
 {
+    read_container(
+        text,
+        table,
+        limit,
+        depth,
+        Container::Object,
+        ns,
+        ne,
+        at,
+        count,
+    )
+}
+
+// The container whose bracket is at a place.
+fn read_container(
+    text: &[u8],
+    table: &mut [u32],
+    limit: usize,
+    depth: usize,
+    of: Container,
+    ns: usize,
+    ne: usize,
+    at: usize,
+    count: usize,
+) -> Part
+    requires { ⌜ Asks (now text) (now table) limit (at + 1) count ⌝ }
+    requires { ⌜ Spot (now text) ns ne ⌝ }
+    ensures { λ r. ⌜ Took (containerAt of (upTo limit) (now (text .entry)) depth ns ne at count) (now (text .entry)) limit at count (now (table .entry)) (now (table .exit)) r ⌝ }
+{
     if depth == 0 {
         return Part::Stop(Refusal::Deep(at));
     }
     if limit <= count {
         return Part::Stop(Refusal::Many(at));
     }
-    let inside = read_members(text, table, limit, depth - 1, at + 1, count + 1);
-    close(table, inside, 7, ns, ne, at, count)
+    let inside = read_items(text, table, limit, depth - 1, of, at + 1, count + 1);
+    close(table, inside, kind_in(of), ns, ne, at, count)
+}
+
+// What stands in a container, from after its bracket to after its closing byte.
+fn read_items(
+    text: &[u8],
+    table: &mut [u32],
+    limit: usize,
+    depth: usize,
+    of: Container,
+    from: usize,
+    first: usize,
+) -> Part
+    requires { ⌜ Asks (now text) (now table) limit from first ⌝ }
+    ensures { λ r. ⌜ Took (itemsAt of (upTo limit) (now (text .entry)) depth from first) (now (text .entry)) limit from first (now (table .entry)) (now (table .exit)) r ⌝ }
+{
+    let z = closing(of);
+    let start = skip(text, from);
+    let b = peek(text, start);
+    if b == z {
+        let next = start + 1;
+        return Part::Next(next, first);
+    }
+    let mut at = start;
+    let mut count = first;
+    loop {
+        let v = read_item(text, table, limit, depth, of, first, at, count);
+        let Part::Next(to, after) = v else {
+            return v;
+        };
+        let x = skip(text, to);
+        let b = peek(text, x);
+        if b == z {
+            let next = x + 1;
+            return Part::Next(next, after);
+        }
+        if b != 44 {
+            return Part::Stop(Refusal::Grammar(x));
+        }
+        at = skip(text, x + 1);
+        count = after;
+    }
+}
+
+// One item of the container whose items so far stand from row `first` up to row `count`.
+fn read_item(
+    text: &[u8],
+    table: &mut [u32],
+    limit: usize,
+    depth: usize,
+    of: Container,
+    first: usize,
+    at: usize,
+    count: usize,
+) -> Part
+    requires { ⌜ Asks (now text) (now table) limit at count ⌝ }
+    ensures { λ r. ⌜ ((done : Forest) → StandsTo (now (table .entry)) first count done → Took (itemOf of (upTo limit) (now (text .entry)) depth done at count) (now (text .entry)) limit at count (now (table .entry)) (now (table .exit)) r) ⌝ }
+{
+    match of {
+        Container::Array => read_value(text, table, limit, depth, 0, 0, at, count),
+        Container::Object => read_member(text, table, limit, depth, first, at, count),
+    }
 }
 
 // One member of the object whose members so far stand from row `first` up to row `count`.
@@ -219,44 +300,5 @@ fn read_member(
     match k {
         Key::Value(ne, from) => { read_value(text, table, limit, depth, at + 1, ne, from, count) }
         Key::Broken(r) => Part::Stop(r),
-    }
-}
-
-// What stands in an object, from after its bracket to after its closing bracket.
-fn read_members(
-    text: &[u8],
-    table: &mut [u32],
-    limit: usize,
-    depth: usize,
-    from: usize,
-    first: usize,
-) -> Part
-    requires { ⌜ Asks (now text) (now table) limit from first ⌝ }
-    ensures { λ r. ⌜ Took (membersAt (upTo limit) (now (text .entry)) depth from first) (now (text .entry)) limit from first (now (table .entry)) (now (table .exit)) r ⌝ }
-{
-    let start = skip(text, from);
-    let b = peek(text, start);
-    if b == 125 {
-        let next = start + 1;
-        return Part::Next(next, first);
-    }
-    let mut at = start;
-    let mut count = first;
-    loop {
-        let v = read_member(text, table, limit, depth, first, at, count);
-        let Part::Next(to, after) = v else {
-            return v;
-        };
-        let x = skip(text, to);
-        let b = peek(text, x);
-        if b == 125 {
-            let next = x + 1;
-            return Part::Next(next, after);
-        }
-        if b != 44 {
-            return Part::Stop(Refusal::Grammar(x));
-        }
-        at = skip(text, x + 1);
-        count = after;
     }
 }
