@@ -7,6 +7,7 @@ use mathlib.Core.List.{List·Memᴰ as In}
 use Rattle.text.specs.Doc.{Name}
 use Rattle.contact.specs.Schema.{ObjectType, anyString, exactly, flag, yes, count, time, Keys, Ty, any, simple, objectOf, listOf, mapOf, Known, properties}
 
+-- a value of the type may be of that kind
 pub data Suits : Ty → (kind : ℕ) → Type 0 where
   -- of an unknown property nothing is asked
   unknown : {kind : ℕ} → Suits any kind

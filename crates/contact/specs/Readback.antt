@@ -59,6 +59,7 @@ pub data OnlyInner : CardRefusal → Type 0 where
   fault : {f : CardFault} → OnlyInner (Card f)
 
 module _ (L : Limits) (words room : ℕ) where
+  -- all that is shown of what is written
   pub record Readback : Type 0 where
     -- of a text that passes, if none of 21 to 26 is broken
     pub written-card : (t : List ℕ) (f : Forest) (lang : Name) (ms : Members) → judgedOf L words t ≡ passed f → PatchOf (docOf t f) lang ms
