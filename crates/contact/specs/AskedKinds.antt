@@ -18,8 +18,8 @@ pub data Suits : Ty → (kind : ℕ) → Type 0 where
   -- a Boolean, and a value of a set, which false only breaks as a value
   off : Suits (simple flag) 2
   on : Suits (simple flag) 3
-  out : Suits (simple yes) 2
-  within : Suits (simple yes) 3
+  left-out : Suits (simple yes) 2
+  taken-in : Suits (simple yes) 3
   list : {ty : Ty} → Suits (listOf ty) 6
   typed : {o : ObjectType} → Suits (objectOf o) 7
   map : {keys : Keys} {ty : Ty} → Suits (mapOf keys ty) 7

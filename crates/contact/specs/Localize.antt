@@ -56,6 +56,10 @@ start card = inObject (without (bytes "localizations")) card
 abbrev pub patchAt : Name → Pointer
 patchAt lang = down (bytes "localizations") (last lang)
 
+-- the card as a PatchObject, with these members, leaves it
+abbrev pub patchedDoc : Doc → Members → Doc
+patchedDoc card ms = applied (start card) (entriesOf ms)
+
 module _ (L : Limits) (words room : ℕ) where
   -- 28: the localized card would itself be refused. It is judged as any text is, for the same table, and its rows are those of reading it
   unfoldable pub byJudge : (text : List ℕ) → Judged → Outcome
