@@ -2,10 +2,12 @@
 --     Sheet         the refusals and the lines of the sheet
 --     Reading       demand 2
 --     Localizing    demand 3
+--     AnyOrder      judging, of the entries of a PatchObject in another order
 -- Assumes nothing.
 pub mod Sheet
 pub mod Reading
 pub mod Localizing
+pub mod AnyOrder
 use Prim.Native.Nat.{ℕ, _*_, _≤_}
 use native.Mathlib.Nat.{sub-zero}
 use native.Mathlib.Omega.{arith}
@@ -32,6 +34,7 @@ use Rattle.contact.proofs.Patching.Contract.{one-outcome, one-order, ou
 use Rattle.contact.proofs.Patching.Readback.{readback}
 use Rattle.contact.proofs.Demands.Sheet.{OnLine, on-line, text-line, card-line, local-line}
 use Rattle.contact.proofs.Demands.Reading.{card-passed, read-passes, read-rows, read-describes, read-long, read-fault, read-short, judge-unread, judge-passes, judge-rows, judge-offends, judge-offender}
+use Rattle.contact.proofs.Demands.AnyOrder.{order-card, order-number}
 use Rattle.contact.proofs.Demands.Localizing.{of-doc, card-written, localize-own, localize-patched, localize-accepted, localize-refused, localize-room, localize-inner}
 
 -- ---- demand 1
@@ -107,10 +110,12 @@ module _ (L : Limits) (unique : L .unique ≡ true) (six : L .words ≡ rowWords
     };
     localizing = record {
       own = λ t lang words room. localize-own L unique words room t lang;
-      any-order = λ t u lang words room f g c d o.
+      order-judged = λ t u lang words f g r s o. order-number L words t u lang f g r s o;
+      any-order = λ t u lang words room f g c r o.
+          let d = order-card L words t u lang f g c r o in
           let e = patching L words room .order-of-texts t u lang f g (card-passed L words t f c) (card-passed L words u g d) o in rw e;
-      any-order-allowed = λ t u lang words room f g c d o a b x y n m.
-          one-order t u f g (card-passed L words t f c) (card-passed L words u g d) o;
+      any-order-allowed = λ t u lang words room f g c r o a b x y n m.
+          let d = order-card L words t u lang f g c r o in one-order t u f g (card-passed L words t f c) (card-passed L words u g d) o;
       patched = λ t lang words room f c. localize-patched L unique words room t lang f (card-passed L words t f c);
       accepted = λ t lang words room f c. localize-accepted L unique words room t lang f (card-passed L words t f c);
       refused = λ t lang words room f c. localize-refused L unique words room t lang f (card-passed L words t f c);

@@ -7,6 +7,7 @@ use mathlib.Core.List.{List·Memᴰ as In}
 use Rattle.text.specs.Doc.{Name}
 use Rattle.contact.specs.Schema.{ObjectType, anyString, exactly, flag, yes, count, time, Keys, Ty, any, simple, objectOf, listOf, mapOf, Known, properties}
 
+-- a value of the type may be of that kind
 pub data Suits : Ty → (kind : ℕ) → Type 0 where
   -- of an unknown property nothing is asked
   unknown : {kind : ℕ} → Suits any kind
@@ -17,8 +18,8 @@ pub data Suits : Ty → (kind : ℕ) → Type 0 where
   -- a Boolean, and a value of a set, which false only breaks as a value
   off : Suits (simple flag) 2
   on : Suits (simple flag) 3
-  out : Suits (simple yes) 2
-  within : Suits (simple yes) 3
+  left-out : Suits (simple yes) 2
+  taken-in : Suits (simple yes) 3
   list : {ty : Ty} → Suits (listOf ty) 6
   typed : {o : ObjectType} → Suits (objectOf o) 7
   map : {keys : Keys} {ty : Ty} → Suits (mapOf keys ty) 7

@@ -23,6 +23,7 @@ pub record Counts (o : ObjectType) (ms : Members) (n : String) (d : Doc) : Type 
   pub has : HasMember ms (bytes n) d
   pub suits : Tabled o (bytes n) (kindOf d)
 
+-- no member of that name counts
 abbrev pub Absent : ObjectType → Members → String → Type 0
 Absent o ms n = (d : Doc) → ¬ Counts o ms n d
 

@@ -43,7 +43,7 @@ pub data At (whole : Doc) : (row : ℕ) → Ty → Under → Doc → Type 0 wher
 
 -- 12: a mandatory member of its type isn't there; one of the wrong kind is
 pub data Lacks : Ty → Members → Type 0 where
-  lacks : {o : ObjectType} {ms : Members} {k : Known} → In k (properties o) → k .mandatory ≡ true → ((d : Doc) → ¬ HasMember ms (k .spelling) d)
+  lacks-one : {o : ObjectType} {ms : Members} {k : Known} → In k (properties o) → k .mandatory ≡ true → ((d : Doc) → ¬ HasMember ms (k .spelling) d)
       → Lacks (objectOf o) ms
 
 -- 13: a value that isn't allowed

@@ -14,8 +14,7 @@ use Rattle.text.specs.Doc.{Name, Doc, scalar, array, object, Members, member, P
 use Rattle.text.specs.Writing.{written}
 use Rattle.contact.specs.Verdict.{passed, failed, judgedOf}
 use Rattle.contact.specs.Pointer.{Pointer, pointerOf, firstPart, parts, find}
-use Rattle.contact.specs.Patch.{entriesOf, applied}
-use Rattle.contact.specs.Localize.{start, patchAt}
+use Rattle.contact.specs.Localize.{start, patchAt, patchedDoc}
 use Rattle.contact.specs.Entries.{Prefix}
 use Rattle.contact.specs.declared.CardRefusal.{CardRefusal}
 use Rattle.contact.specs.declared.LocalRefusal.{LocalRefusal}
@@ -37,7 +36,7 @@ pub data HasKey (key : Name) : Members → Type 0 where
 
 -- two of the members, the one before the other, have these names
 pub data HasKeys (key other : Name) : Members → Type 0 where
-  firstOf : {label : List ℕ} {d : Doc} {ms : Members} → HasKey other ms → HasKeys key other (member key label d ms)
+  firstKey : {label : List ℕ} {d : Doc} {ms : Members} → HasKey other ms → HasKeys key other (member key label d ms)
   laterOn : {n : Name} {label : List ℕ} {d : Doc} {ms : Members} → HasKeys key other ms → HasKeys key other (member n label d ms)
 
 -- ---- the way of a pointer
@@ -83,10 +82,10 @@ module _ (L : Limits) (words room : ℕ) (card : Doc) (lang : Name) where
         → EntersArray (pointerOf key) (start card) → BrokenCondition 25 InArray
     losingWay : {ms : Members} {key : Name} → PatchOf card lang ms → HasKey key ms
         → LosesWay (pointerOf key) (start card) → BrokenCondition 26 NoObject
-    short : {ms : Members} → PatchOf card lang ms → room < length (written (applied (start card) (entriesOf ms)))
-        → BrokenCondition 27 (Short (length (written (applied (start card) (entriesOf ms)))))
+    short : {ms : Members} → PatchOf card lang ms → room < length (written (patchedDoc card ms))
+        → BrokenCondition 27 (Short (length (written (patchedDoc card ms))))
     unfit : {ms : Members} {r : CardRefusal} → PatchOf card lang ms
-        → judgedOf L words (written (applied (start card) (entriesOf ms))) ≡ failed r → BrokenCondition 28 (Inner r)
+        → judgedOf L words (written (patchedDoc card ms)) ≡ failed r → BrokenCondition 28 (Inner r)
 
   -- the refusal of the smallest number whose condition is broken
   pub record Smallest (number : ℕ) (r : LocalRefusal) : Type 0 where
@@ -98,5 +97,5 @@ module _ (L : Limits) (words room : ℕ) (card : Doc) (lang : Name) where
     pub members : Members
     pub patch : PatchOf card lang members
     pub unbroken : (m : ℕ) (q : LocalRefusal) → ¬ BrokenCondition m q
-    pub writes : text ≡ written (applied (start card) (entriesOf members))
+    pub writes : text ≡ written (patchedDoc card members)
     pub reads : judgedOf L words text ≡ passed f

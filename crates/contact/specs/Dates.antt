@@ -25,6 +25,7 @@ daysOf y m =
     (cond (ltb 12 m) 0
     (cond (eqb m 2) (cond (isLeap y) 29 28) (getD monthLengths (m - 1) 0)))
 
+-- the month has such a day
 unfoldable pub isDay : (year month day : ℕ) → Bool
 isDay y m d = cond (ltb d 1) false (leb d (daysOf y m))
 
@@ -62,6 +63,7 @@ inRange t =
     && ltb (twoAt t 14) 60
     && ltb (twoAt t 17) 60
 
+-- a UTCDateTime: its shape, its numbers, and what follows the seconds
 unfoldable pub isTime : List ℕ → Bool
 isTime t =
     let rest = inRange t && ends (drop 19 t) in

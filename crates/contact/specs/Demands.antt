@@ -42,6 +42,7 @@ Passes L c = served L c .answer .number ≡ 0
 
 -- ---- demand 1: every call ends, and leaves nothing else
 
+-- from low up to high
 abbrev pub Within : (low high n : ℕ) → Type 0
 Within low high n = (low ≤ n) × (n ≤ high)
 
@@ -64,6 +65,7 @@ pub record Reads (L : Limits) (words : ℕ) (t : List ℕ) (answer : Reading) (t
   pub answered : paper answer ≡ sheetOf (wholeOf L words t)
   pub left : table ≡ tableOf words (wholeOf L words t)
 
+-- demand 1, of every call
 pub record EveryCall (L : Limits) : Type 0 where
   -- whatever is lent, a call ends with acceptance or one numbered refusal; after a refusal all is zero, after acceptance all that is unused
   pub ends : (c : Call) → Ends c (served L c)
@@ -100,6 +102,7 @@ pub record Offends (L : Limits) (words : ℕ) (t : List ℕ) (n p : ℕ) : Type 
   pub first : FirstBreach (docOf t tree) row n
   pub place : p ≡ getD (startsOf tree) row 0
 
+-- demand 2, of reading and judging a text
 pub record ReadingAndJudging (L : Limits) : Type 0 where
   -- reading accepts exactly the JSON texts that keep I-JSON's rules, within the limits and given rows enough
   pub accepts : (t : List ℕ) → Bytes t → (words : ℕ) → Passes L (read t words) ↔ ((f : Forest) × Readable L words t f)
@@ -143,15 +146,20 @@ pub record Localization (L : Limits) (words room : ℕ) (t : List ℕ) (f : Fore
   -- and is a card itself: the whole result was judged
   pub card : CardText L words text tree
 
+-- demand 3, of localizing a text
 pub record Localizing (L : Limits) : Type 0 where
   -- the card's own refusal comes first
   pub own : (t : List ℕ) (lang : Name) (words room : ℕ) → ¬ Passes L (judge t words)
       → served L (localize t lang words room) .answer ≡ served L (judge t words) .answer
-  -- the entries of the PatchObject in any order, white space aside: the same answer, table and output, refusals too
-  pub any-order : (t u : List ℕ) (lang : Name) (words room : ℕ) (f g : Forest) → CardText L words t f → CardText L words u g
+  -- The entries of the PatchObject in any order, white space aside. Of two texts that are read and differ so, both pass or both are refused by one
+  -- number;
+  pub order-judged : (t u : List ℕ) (lang : Name) (words : ℕ) (f g : Forest) → Readable L words t f → Readable L words u g
+      → OrderOnly lang (docOf t f) (docOf u g) → served L (judge t words) .answer .number ≡ served L (judge u words) .answer .number
+  -- and where one passes, both have the same answer, table and output, refusals too
+  pub any-order : (t u : List ℕ) (lang : Name) (words room : ℕ) (f g : Forest) → CardText L words t f → Readable L words u g
       → OrderOnly lang (docOf t f) (docOf u g) → served L (localize t lang words room) ≡ served L (localize u lang words room)
   -- the same of what the contract allows: also the answer itself, with 28's inner place
-  pub any-order-allowed : (t u : List ℕ) (lang : Name) (words room : ℕ) (f g : Forest) → CardText L words t f → CardText L words u g
+  pub any-order-allowed : (t u : List ℕ) (lang : Name) (words room : ℕ) (f g : Forest) → CardText L words t f → Readable L words u g
       → OrderOnly lang (docOf t f) (docOf u g) → (a b : Localized) (x y o q : List ℕ)
       → Localizes L words room t lang a x o → Localizes L words room u lang b y q → (a ≡ b) × (x ≡ y) × (o ≡ q)
   -- all patches or none: what is accepted is patched by all entries, as the set-or-remove definition says, and is judged as a whole
@@ -173,6 +181,7 @@ pub record Localizing (L : Limits) : Type 0 where
 
 -- ---- all three
 
+-- the three demands, under the limits L
 pub record Demands (L : Limits) : Type 0 where
   pub every-call : EveryCall L
   pub reading-and-judging : ReadingAndJudging L

@@ -18,13 +18,15 @@ use Rattle.contact.specs.Patch.{Change, remove, set, Entry, entry, arriv
 abbrev pub Prefix : Pointer → Pointer → Type 0
 Prefix p q = (r : List Name) × (parts q ≡ parts p ++ r)
 
--- the pointer q names the property at p; it covers it: names one that the property is in; it enters it: names one in it
+-- the pointer q names the property at p
 abbrev pub Names : Pointer → Pointer → Type 0
 Names q p = parts q ≡ parts p
 
+-- it covers it: names one that the property is in
 abbrev pub Covers : Pointer → Pointer → Type 0
 Covers q p = (n : Name) × (r : List Name) × (parts p ≡ parts q ++ (n ∷ r))
 
+-- it enters it: names one in it
 abbrev pub Enters : Pointer → Pointer → Type 0
 Enters q p = Covers p q
 
@@ -40,6 +42,7 @@ Apart (last n) (down m q) = n ≢ m
 Apart (down n p) (last m) = n ≢ m
 Apart (down n p) (down m q) = n ≡ m → Apart p q
 
+-- so with the pointer of each entry
 abbrev pub ApartFrom : Pointer → List Entry → Type 0
 ApartFrom p [] = Unit {0}
 ApartFrom p (entry q c ∷ es) = Apart p q × ApartFrom p es
@@ -61,11 +64,12 @@ pub data HasEntry (p : Pointer) (c : Change) : List Entry → Type 0 where
   now : {es : List Entry} → HasEntry p c (entry p c ∷ es)
   past : {e : Entry} {es : List Entry} → HasEntry p c es → HasEntry p c (e ∷ es)
 
--- the property n after its entry, if it was o: a name that was there stays as it is written
+-- the name of the property n after its entry, if it was o: one that was there stays as it is written
 abbrev pub labelOf : Name → Option Property → List ℕ
 labelOf n none = spelled n
 labelOf n (some s) = s .label
 
+-- the property after its entry: removed, or there with the value that is set
 abbrev pub valued : Name → Change → Option Property → Option Property
 valued n remove o = none
 valued n (set v) o = some (property (labelOf n o) v)
@@ -82,10 +86,12 @@ pub data Shuffled : Members → Members → Type 0 where
 
 -- ---- ascending byte order of decoded names
 
+-- the name comes before each of these
 abbrev pub Above : Name → Members → Type 0
 Above n empty = Unit {0}
 Above n (member m label d ms) = (before n m ≡ true) × Above n ms
 
+-- each name comes before those that follow it
 abbrev pub Ascending : Members → Type 0
 Ascending empty = Unit {0}
 Ascending (member n label d ms) = Above n ms × Ascending ms

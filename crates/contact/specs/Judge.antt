@@ -20,6 +20,7 @@ unfoldable pub lacking : List Known → Members → Bool
 lacking [] ms = false
 lacking (k ∷ ks) ms = let more = lacking ks ms in cond (k .mandatory && not (isThere (seek (k .spelling) ms))) true more
 
+-- of a value of a type: only objects have mandatory members
 abbrev pub lacks : Ty → Members → Bool
 lacks any ms = false
 lacks (simple l) ms = false
@@ -27,7 +28,7 @@ lacks (objectOf o) ms = lacking (properties o) ms
 lacks (listOf ty) ms = false
 lacks (mapOf keys ty) ms = false
 
--- 13: a value that isn't allowed
+-- 13: a value that is allowed, by its kind and its token
 abbrev pub allowedSimple : SimpleType → (kind : ℕ) → (token : List ℕ) → Bool
 allowedSimple anyString kind token = true
 allowedSimple (exactly n) kind token = same (contentOf token) n
@@ -36,6 +37,7 @@ allowedSimple yes kind token = eqb kind 3
 allowedSimple (count low high) kind token = isCount low high token
 allowedSimple time kind token = isTime (contentOf token)
 
+-- of a value of a type: only simple ones are asked
 abbrev pub allowed : Ty → (kind : ℕ) → (token : List ℕ) → Bool
 allowed any kind token = true
 allowed (simple l) kind token = allowedSimple l kind token
@@ -70,11 +72,12 @@ memberType (objectOf o) n = typeIn (properties o) n
 memberType (listOf ty) n = ty
 memberType (mapOf keys ty) n = ty
 
--- Is the key of an entry allowed (13 is on the entry's value)? The test has the keys before it too, the nearest first.
+-- is a key allowed? The test has the keys before it too, the nearest first
 abbrev pub keyIn : Keys → (earlier : List Name) → Name → Bool
 keyIn free earlier n = true
 keyIn ids earlier n = isId n
 
+-- of an entry of a value of a type: only keys of maps are asked; a key that isn't allowed is 13 on the row of its value
 abbrev pub keyFits : Ty → (earlier : List Name) → Name → Bool
 keyFits any earlier n = true
 keyFits (simple l) earlier n = true
@@ -84,14 +87,17 @@ keyFits (mapOf keys ty) earlier n = keyIn keys earlier n
 
 -- ---- the first breach
 
+-- what a search finds: no breach, or a row and a number of the sheet
 pub data Breach : Type 0 where
   nothing : Breach
   found : (row number : ℕ) → Breach
 
+-- the number on this row, unless it is 0; else what is inside
 abbrev pub onRow : (number row : ℕ) → Breach → Breach
 onRow zero row inside = inside
 onRow (suc n) row inside = found row (suc n)
 
+-- the one breach, or the other if there is none
 abbrev pub orElse : Breach → Breach → Breach
 orElse nothing after = after
 orElse (found row number) after = found row number

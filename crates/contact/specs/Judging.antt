@@ -42,6 +42,7 @@ pub record Judges (L : Limits) (text lent : List ℕ) (answer : Verdict) (left :
   pub answered : paperOfVerdict answer ≡ sheetOfJudged (judgedOf L (length lent) text)
   pub table : left ≡ tableOfJudged (length lent) (judgedOf L (length lent) text)
 
+-- all that is shown of judging
 pub record Judging : Type 0 where
   -- the tests of single values tell just what specs/SimpleValues.antt says
   pub ids : (n : Name) → (isId n ≡ true) ↔ Id n

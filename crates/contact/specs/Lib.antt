@@ -1,24 +1,29 @@
+-- What a card must keep: the table of types, and each rule in words.
 pub mod Schema
-pub mod Values
-pub mod SimpleValues
-pub mod Dates
 pub mod AskedKinds
-pub mod Rules
+pub mod SimpleValues
 pub mod BetweenMembers
-pub mod Judge
 pub mod Breaches
+-- The same by tests, the verdict on a text, and what is shown of both.
+pub mod Values
+pub mod Dates
+pub mod Rules
+pub mod Judge
 pub mod Verdict
 pub mod Judging
+-- How a localization is applied, and what localizing answers.
 pub mod Pointer
 pub mod PointerText
 pub mod Patch
 pub mod Localize
+pub mod Contract
+-- What is shown of it: the conditions in words, what a patched card is, and that it is read back.
 pub mod Entries
 pub mod Conditions
 pub mod Likeness
 pub mod Patching
 pub mod Readback
-pub mod Contract
+-- The services as a caller sees them, the three demands, and the specimens.
 pub mod Services
 pub mod Demands
 pub mod Specimens

@@ -24,6 +24,7 @@ use Rattle.contact.specs.declared.Localized.the-variants.{Written, Denie
 
 -- ---- the sheet's lines 21 to 28; 28 hands out the inner refusal's number alone
 
+-- the numbers of a refusal
 unfoldable pub refusedLocal : LocalRefusal → Paper
 refusedLocal (Given r) = refusedCard r
 refusedLocal NoLanguage = numbers 21 0 0
@@ -35,6 +36,7 @@ refusedLocal NoObject = numbers 26 0 0
 refusedLocal (Short n) = numbers 27 n 0
 refusedLocal (Inner r) = numbers 28 (refusedCard r .number) 0
 
+-- the numbers of an answer: 0, the rows and the bytes written, or those of the refusal
 unfoldable pub paperOfLocalized : Localized → Paper
 paperOfLocalized (Written rows n) = numbers 0 rows n
 paperOfLocalized (Denied r) = refusedLocal r
@@ -53,6 +55,10 @@ start card = inObject (without (bytes "localizations")) card
 -- where a language's PatchObject is
 abbrev pub patchAt : Name → Pointer
 patchAt lang = down (bytes "localizations") (last lang)
+
+-- the card as a PatchObject, with these members, leaves it
+abbrev pub patchedDoc : Doc → Members → Doc
+patchedDoc card ms = applied (start card) (entriesOf ms)
 
 module _ (L : Limits) (words room : ℕ) where
   -- 28: the localized card would itself be refused. It is judged as any text is, for the same table, and its rows are those of reading it
@@ -86,6 +92,7 @@ module _ (L : Limits) (words room : ℕ) where
   withPatch d none = denied NoLanguage
   withPatch d (some p) = inPatch d (p .content)
 
+  -- a card that passes: its PatchObject for the language is looked up, and applied to the card without localizations
   unfoldable pub localizedDoc : (card : Doc) → (lang : Name) → Outcome
   localizedDoc card lang = withPatch (start card) (find (patchAt lang) card)
 
@@ -109,10 +116,12 @@ answerOfOutcome (denied r) = Denied r
 unfoldable pub sheetOfOutcome : Outcome → Paper
 sheetOfOutcome o = paperOfLocalized (answerOfOutcome o)
 
+-- the rows of the localized card and zero after them; after a refusal zero
 unfoldable pub tableOfOutcome : (words : ℕ) → Outcome → List ℕ
 tableOfOutcome words (done text f) = filled words (rowsOf f)
 tableOfOutcome words (denied r) = filled words []
 
+-- its text and zero after it; after a refusal zero
 unfoldable pub outputOfOutcome : (room : ℕ) → Outcome → List ℕ
 outputOfOutcome room (done text f) = filled room text
 outputOfOutcome room (denied r) = filled room []

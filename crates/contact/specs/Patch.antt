@@ -13,10 +13,12 @@ use Rattle.contact.specs.Pointer.{Pointer, last, down, pointerOf, badTil
 
 -- ---- entries
 
+-- what an entry does with the property that its pointer names
 pub data Change : Type 0 where
   remove : Change
   set : Doc → Change
 
+-- a pointer and what it does
 pub data Entry : Type 0 where
   entry : Pointer → Change → Entry
 
@@ -33,15 +35,18 @@ entriesOf (member key label d ms) = entry (pointerOf key) (changeOf d) ∷ entri
 
 -- ---- the walk along a pointer: a value reached that is an array is 25, one that isn't an object 26, as is an object that lacks a part before the last
 
+-- where the walk ends: at an object with the last part left, at an array (25), or at no object (26)
 pub data Walk : Type 0 where
   arrives : Walk
   inArray : Walk
   noObject : Walk
 
+-- on from a member, if it is there
 abbrev pub onward : (Doc → Walk) → Option Property → Walk
 onward f none = noObject
 onward f (some p) = f (p .content)
 
+-- one part at a time from a value, until the last part is left
 abbrev pub walk : Pointer → Doc → Walk
 walk (last n) (scalar kind token) = noObject
 walk (last n) (array ms) = inArray
@@ -62,26 +67,29 @@ abbrev pub anyOwn : List Entry → Bool
 anyOwn [] = false
 anyOwn (entry p c ∷ es) = same (firstPart p) (bytes "localizations") || anyOwn es
 
--- 24: one pointer is a prefix of another
+-- 24: one of two pointers is a prefix of the other: of this one and of one of these
 abbrev pub clashWith : Pointer → List Entry → Bool
 clashWith p [] = false
 clashWith p (entry q c ∷ es) = clash p q || clashWith p es
 
+-- of some two of these
 abbrev pub anyClash : List Entry → Bool
 anyClash [] = false
 anyClash (entry p c ∷ es) = clashWith p es || anyClash es
 
--- 25 and 26
+-- 25
 abbrev pub isInArray : Walk → Bool
 isInArray arrives = false
 isInArray inArray = true
 isInArray noObject = false
 
+-- 26
 abbrev pub isNoObject : Walk → Bool
 isNoObject arrives = false
 isNoObject inArray = false
 isNoObject noObject = true
 
+-- some walk over the card ends so
 abbrev pub anyWalk : (Walk → Bool) → List Entry → Doc → Bool
 anyWalk is [] d = false
 anyWalk is (entry p c ∷ es) d = is (walk p d) || anyWalk is es d
@@ -93,10 +101,12 @@ abbrev pub write : Name → Doc → Members → Members
 write n v empty = member n (spelled n) v empty
 write n v (member m label d ms) = let more = write n v ms in cond (same m n) (member m label v ms) (member m label d more)
 
+-- the members but those of the name
 abbrev pub without : Name → Members → Members
 without n empty = empty
 without n (member m label d ms) = let rest = without n ms in cond (same m n) rest (member m label d rest)
 
+-- the member n removed or set
 abbrev pub put : Name → Change → Members → Members
 put n remove ms = without n ms
 put n (set v) ms = write n v ms
@@ -109,6 +119,7 @@ alter n f (member m label d ms) =
     let later = member m label d (alter n f ms) in
     cond (same m n) here later
 
+-- an object with its members changed; another value as it is
 abbrev pub inObject : (Members → Members) → Doc → Doc
 inObject f (scalar kind token) = scalar kind token
 inObject f (array ms) = array ms
@@ -119,14 +130,17 @@ abbrev pub changed : Pointer → Change → Doc → Doc
 changed (last n) c d = inObject (put n c) d
 changed (down n p) c d = inObject (alter n (changed p c)) d
 
+-- a document, if the walk arrived
 abbrev pub whenArrived : Walk → Doc → Option Doc
 whenArrived arrives d = some d
 whenArrived inArray d = none
 whenArrived noObject d = none
 
+-- one entry: its walk arrives, and then it has its way; else there is no document
 abbrev pub step : Entry → Doc → Option Doc
 step (entry p c) d = whenArrived (walk p d) (changed p c d)
 
+-- on from a document, if there is one
 abbrev pub runOn : (Doc → Option Doc) → Option Doc → Option Doc
 runOn f none = none
 runOn f (some d) = f d
@@ -176,6 +190,7 @@ keep (some remove) n label d ms = ms
 keep (some (set v)) n label d ms = member n label v ms
 
 abbrev mutual
+  -- the document as all entries leave it: what they keep of each object, and behind it what they add
   pub applied : Doc → List Entry → Doc
   applied (scalar kind token) es = scalar kind token
   applied (array ms) es = array ms

@@ -35,6 +35,7 @@ pub data AtMember (n : Name) (R : Doc → Doc → Type 0) : Members → Members 
   thisOne : {label : List ℕ} {d e : Doc} {ms : Members} → R d e → AtMember n R (member n label d ms) (member n label e ms)
   laterOne : {m : Name} {label : List ℕ} {d : Doc} {ms ns : Members} → m ≢ n → AtMember n R ms ns → AtMember n R (member m label d ms) (member m label d ns)
 
+-- objects that differ in the value of the member n alone, as R says
 pub data InMember (n : Name) (R : Doc → Doc → Type 0) : Doc → Doc → Type 0 where
   inMember : {ms ns : Members} → AtMember n R ms ns → InMember n R (object ms) (object ns)
 
@@ -80,6 +81,7 @@ pub record PatchedText (card : Doc) (lang : Name) (text : List ℕ) : Type 0 whe
 -- ---- the demand
 
 module _ (L : Limits) (words room : ℕ) where
+  -- all that is shown of localizing, over documents
   pub record Patching : Type 0 where
     -- the card's own refusal comes first; else the answer is that of its document
     pub given : (text : List ℕ) (lang : Name) (r : CardRefusal)

@@ -35,32 +35,38 @@ plain (b ∷ c ∷ bs) =
     let tilde : Name = 126 ∷ plain bs in
     cond (eqb b 126) (cond (eqb c 49) slash (cond (eqb c 48) tilde byte)) byte
 
+-- so in each part
 abbrev pub plainParts : Pointer → Pointer
 plainParts (last n) = last (plain n)
 plainParts (down n p) = down (plain n) (plainParts p)
 
+-- the pointer of a key: split, and then each part made plain
 abbrev pub pointerOf : (key : Name) → Pointer
 pointerOf key = plainParts (split key)
 
--- 22: a `~` that neither `0` nor `1` follows
+-- `0` (48) or `1` (49) comes first
 abbrev pub zeroOrOne : List ℕ → Bool
 zeroOrOne [] = false
 zeroOrOne (b ∷ bs) = eqb b 48 || eqb b 49
 
+-- 22: somewhere stands a `~` that neither `0` nor `1` follows
 abbrev pub badTilde : (key : Name) → Bool
 badTilde [] = false
 badTilde (b ∷ bs) = (eqb b 126 && not (zeroOrOne bs)) || badTilde bs
 
 -- ---- what pointers say of each other
 
+-- the part at which the walk begins
 abbrev pub firstPart : Pointer → Name
 firstPart (last n) = n
 firstPart (down n p) = n
 
+-- the name of the property that it names
 abbrev pub lastPart : Pointer → Name
 lastPart (last n) = n
 lastPart (down n p) = lastPart p
 
+-- all parts in their order
 abbrev pub parts : Pointer → List Name
 parts (last n) = n ∷ []
 parts (down n p) = n ∷ parts p
@@ -74,15 +80,18 @@ clash (down n p) (down m q) = let more = clash p q in cond (same n m) more false
 
 -- ---- the property that a pointer names
 
+-- the member n of a value: only objects have members
 abbrev pub child : Name → Doc → Option Property
 child n (scalar kind token) = none
 child n (array ms) = none
 child n (object ms) = seek n ms
 
+-- on from a property, if there is one
 abbrev pub within : (Doc → Option Property) → Option Property → Option Property
 within f none = none
 within f (some p) = f (p .content)
 
+-- the property that a pointer names in a document, if it is there
 abbrev pub find : Pointer → Doc → Option Property
 find (last n) d = child n d
 find (down n p) d = within (find p) (child n d)

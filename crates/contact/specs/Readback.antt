@@ -17,18 +17,13 @@ use Rattle.text.specs.Writable.{depthIn, ReadsBack}
 use Rattle.text.specs.declared.Refusal.the-variants.{Deep}
 use Rattle.contact.specs.Judge.{cardBreach}
 use Rattle.contact.specs.Verdict.{refusedCard, passed, failed, byBreach, judgedOf}
-use Rattle.contact.specs.Patch.{entriesOf, applied}
-use Rattle.contact.specs.Localize.{done, denied, start, localizedOf}
+use Rattle.contact.specs.Localize.{done, denied, patchedDoc, localizedOf}
 use Rattle.contact.specs.Conditions.{PatchOf, BrokenCondition}
 use Rattle.contact.specs.declared.CardFault.{CardFault}
 use Rattle.contact.specs.declared.CardRefusal.{CardRefusal}
 use Rattle.contact.specs.declared.CardRefusal.the-variants.{Text, Card}
 use Rattle.contact.specs.declared.LocalRefusal.{LocalRefusal}
 use Rattle.contact.specs.declared.LocalRefusal.the-variants.{Short, Inner}
-
--- the card as the language's PatchObject, with these members, leaves it
-abbrev pub patchedDoc : Doc → Members → Doc
-patchedDoc card ms = applied (start card) (entriesOf ms)
 
 -- the document x as it is written, beside a text t of which f is the tree: it is read back, and judged as x is
 pub record WrittenCard (L : Limits) (words : ℕ) (t : List ℕ) (f : Forest) (x : Doc) : Type 0 where
@@ -59,6 +54,7 @@ pub data OnlyInner : CardRefusal → Type 0 where
   fault : {f : CardFault} → OnlyInner (Card f)
 
 module _ (L : Limits) (words room : ℕ) where
+  -- all that is shown of what is written
   pub record Readback : Type 0 where
     -- of a text that passes, if none of 21 to 26 is broken
     pub written-card : (t : List ℕ) (f : Forest) (lang : Name) (ms : Members) → judgedOf L words t ≡ passed f → PatchOf (docOf t f) lang ms

@@ -13,6 +13,7 @@ use Rattle.contact.specs.Schema.{ObjectType, card, name, nameComponent, 
 
 -- ---- members that count
 
+-- a value of the wrong kind counts as absent
 abbrev pub ifFits : Ty → Option Property → Option Doc
 ifFits ty none = none
 ifFits ty (some p) = cond (fits ty (kindOf (p .content))) (some (p .content)) none
@@ -30,12 +31,14 @@ isTrue (some d) = eqb (kindOf d) 3
 unfoldable pub isString : Name → Doc → Bool
 isString n d = let content = same (contentOf (tokenOf d)) n in cond (eqb (kindOf d) 5) content false
 
+-- there, and a String with that content
 abbrev pub isThisString : Name → Option Doc → Bool
 isThisString n none = false
 isThisString n (some d) = isString n d
 
 -- ---- separators
 
+-- the property `kind` is there, and is a String with that content
 abbrev pub hasKind : Name → Option Property → Bool
 hasKind n none = false
 hasKind n (some p) = isString n (p .content)
@@ -49,6 +52,7 @@ unfoldable pub marksOf : Members → List Bool
 marksOf empty = []
 marksOf (member n label d ms) = isSeparator d ∷ marksOf ms
 
+-- the marks of a list; none where there is no list
 abbrev pub marks : Option Doc → List Bool
 marks none = []
 marks (some list) = marksOf (below list)

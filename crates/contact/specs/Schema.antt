@@ -12,6 +12,7 @@ use Rattle.text.specs.Doc.{Name}
 
 -- ---- types
 
+-- the objects that have known properties
 pub data ObjectType : Type 0 where
   card name nameComponent address addressComponent emailAddress phone : ObjectType
 
@@ -34,6 +35,7 @@ pub data SimpleType : Type 0 where
 pub data Keys : Type 0 where
   free ids : Keys
 
+-- what a value is asked to be
 pub data Ty : Type 0 where
   -- of an unknown property, and of what stands below it: nothing is judged
   any : Ty
@@ -56,19 +58,23 @@ keySet = mapOf free (simple yes)
 abbrev pub anyObject : Ty
 anyObject = mapOf free any
 
+-- any String
 abbrev pub string : Ty
 string = simple anyString
 
 -- ---- the table: spelling, type, mandatory
 
+-- a line of the table: a property by its name, the type of its value, and whether it must be there
 pub record Known : Type 0 where
   pub spelling : Name
   pub type : Ty
   pub mandatory : Bool
 
+-- a mandatory property
 abbrev pub must : String → Ty → Known
 must s ty = record { spelling = bytes s; type = ty; mandatory = true }
 
+-- an optional one
 abbrev pub may : String → Ty → Known
 may s ty = record { spelling = bytes s; type = ty; mandatory = false }
 
@@ -94,6 +100,7 @@ component = must "value" string ∷ must "kind" string ∷ may "phonetic" string
 abbrev pub contact : List Known
 contact = may "contexts" keySet ∷ may "pref" pref ∷ may "label" string ∷ []
 
+-- the known properties of each object type
 unfoldable pub properties : ObjectType → List Known
 properties card =
     must "@type" (simple (exactly (bytes "Card")))
@@ -137,6 +144,7 @@ typeIn (k ∷ ks) n = let more = typeIn ks n in cond (same n (k .spelling)) (k .
 
 -- ---- the JSON kinds of a type: 1 null, 2 false, 3 true, 4 number, 5 string, 6 array, 7 object. Null fits no listed type
 
+-- a value that holds no others may be of that kind
 abbrev pub fitsSimple : SimpleType → ℕ → Bool
 fitsSimple anyString kind = eqb kind 5
 fitsSimple (exactly n) kind = eqb kind 5
@@ -145,6 +153,7 @@ fitsSimple yes kind = cond (eqb kind 2) true (eqb kind 3)
 fitsSimple (count low high) kind = eqb kind 4
 fitsSimple time kind = eqb kind 5
 
+-- a value of the type may be of that kind
 abbrev pub fits : Ty → ℕ → Bool
 fits any kind = true
 fits (simple l) kind = fitsSimple l kind

@@ -14,12 +14,13 @@ pub data Call : Type 0 where
   read judge : (text : List ℕ) → (words : ℕ) → Call
   localize : (text : List ℕ) → (language : Name) → (words room : ℕ) → Call
 
+-- the words of the lent table
 abbrev pub wordsOf : Call → ℕ
 wordsOf (read text words) = words
 wordsOf (judge text words) = words
 wordsOf (localize text language words room) = words
 
--- reading and judging are lent no output
+-- the bytes of the lent output; reading and judging are lent none
 abbrev pub roomOf : Call → ℕ
 roomOf (read text words) = 0
 roomOf (judge text words) = 0
@@ -31,9 +32,11 @@ pub record Left : Type 0 where
   pub table : List ℕ
   pub output : List ℕ
 
+-- the three under one name
 abbrev pub leaves : Paper → (table output : List ℕ) → Left
 leaves answer table output = record { answer = answer; table = table; output = output }
 
+-- what a call leaves, by the definitions of the three services
 unfoldable pub served : Limits → Call → Left
 served L (read text words) = let r = wholeOf L words text in leaves (sheetOf r) (tableOf words r) []
 served L (judge text words) = let j = judgedOf L words text in leaves (sheetOfJudged j) (tableOfJudged words j) []

@@ -16,6 +16,7 @@ DigitByte = Between (code "0") (code "9")
 
 -- ---- Id (RFC 9553, 1.4.1): 1 to 255 bytes of A-Z a-z 0-9 - _
 
+-- a byte that an Id may have
 pub data IdByte : ℕ → Type 0 where
   capital : {b : ℕ} → Between (code "A") (code "Z") b → IdByte b
   small : {b : ℕ} → Between (code "a") (code "z") b → IdByte b
@@ -23,6 +24,7 @@ pub data IdByte : ℕ → Type 0 where
   hyphen : IdByte (code "-")
   underscore : IdByte (code "_")
 
+-- 1 to 255 such bytes
 pub record Id (bytes : List ℕ) : Type 0 where
   pub some : 1 ≤ length bytes
   pub few : length bytes ≤ 255
@@ -71,6 +73,7 @@ pub data MonthDays (year : ℕ) : (month days : ℕ) → Type 0 where
   november : MonthDays year 11 30
   december : MonthDays year 12 31
 
+-- a day that its month has in its year
 pub record Day (year month day : ℕ) : Type 0 where
   pub length : ℕ
   pub month-has : MonthDays year month length
@@ -79,9 +82,11 @@ pub record Day (year month day : ℕ) : Type 0 where
 
 -- ---- UTCDateTime (RFC 9553, 1.4.5; RFC 3339): as 2010-10-10T10:10:10Z
 
+-- two digits and their number
 pub data Two : (digits : List ℕ) → (number : ℕ) → Type 0 where
   two : {a b x y : ℕ} → DigitValue a x → DigitValue b y → Two (a ∷ b ∷ []) (10 * x + y)
 
+-- four digits and their number
 pub data Four : (digits : List ℕ) → (number : ℕ) → Type 0 where
   four : {a b c d w x y z : ℕ} → DigitValue a w → DigitValue b x → DigitValue c y → DigitValue d z
       → Four (a ∷ b ∷ c ∷ d ∷ []) (1000 * w + 100 * x + 10 * y + z)

@@ -51,6 +51,7 @@ accepted c count written rows output =
 abbrev refusedUnder : Limits → Call → (number second : ℕ) → Case
 refusedUnder L c number second = record { limits = L; call = c; left = leaves (numbers number second 0) (replicate (wordsOf c) 0) (replicate (roomOf c) 0) }
 
+-- refused under the limits of 01
 abbrev refusedAt : Call → (number second : ℕ) → Case
 refusedAt = refusedUnder base
 
@@ -64,15 +65,19 @@ tight = record { bytes = 9; depth = 2; values = 3; words = rowWords; unique = tr
 abbrev with : List ℕ → List ℕ
 with more = bytes "{\"@type\":\"Card\",\"version\":\"1.0\",\"uid\":\"u1\"" ++ more ++ bytes "}"
 
+-- a card with an EmailAddress of that `pref`
 abbrev withPref : String → List ℕ
 withPref p = with (bytes ",\"emails\":{\"e1\":{\"address\":\"a\",\"pref\":" ++ bytes p ++ bytes "}}")
 
+-- a card with an Address under that Id
 abbrev withId : List ℕ → List ℕ
 withId id = with (bytes ",\"addresses\":{\"" ++ id ++ bytes "\":{}}")
 
+-- a card with that `created`
 abbrev created : String → List ℕ
 created time = with (bytes ",\"created\":\"" ++ bytes time ++ bytes "\"")
 
+-- a member `name` with those members inside
 abbrev name : String → List ℕ
 name inside = bytes ",\"name\":{" ++ bytes inside ++ bytes "}"
 
@@ -89,6 +94,7 @@ localizing text = localize text (bytes "de") 100 99
 
 -- ---- rows
 
+-- the six words of a row
 abbrev row : (kind name-start name-end start end below : ℕ) → List ℕ
 row kind name-start name-end start end below = kind ∷ name-start ∷ name-end ∷ start ∷ end ∷ below ∷ []
 
@@ -96,11 +102,13 @@ row kind name-start name-end start end below = kind ∷ name-start ∷ name-end 
 abbrev cardRows : (end below : ℕ) → List ℕ → List ℕ
 cardRows end below more = row 7 0 0 0 end below ++ row 5 2 7 9 15 0 ++ row 5 17 24 26 31 0 ++ row 5 33 36 38 42 0 ++ more
 
+-- the rows of `withPref`, where the number ends before `end`
 abbrev prefRows : (end : ℕ) → List ℕ
 prefRows end = cardRows (end + 3) 7 (row 7 44 50 52 (end + 2) 3 ++ row 7 54 56 58 (end + 1) 2 ++ row 5 60 67 69 72 0 ++ row 4 74 78 80 end 0)
 
 -- ---- the cases
 
+-- each case after what it shows
 unfoldable pub cases : List Case
 cases =
     -- (P) the empty text: 2 at 0

@@ -23,16 +23,19 @@ use Rattle.contact.specs.declared.Verdict.the-variants.{Passed, Failed}
 
 -- ---- the sheet's lines 11 to 14
 
+-- the numbers of a fault: its line, and the place
 unfoldable pub refusedFault : CardFault → Paper
 refusedFault (Kind p) = numbers 11 p 0
 refusedFault (Missing p) = numbers 12 p 0
 refusedFault (Value p) = numbers 13 p 0
 refusedFault (Rule p) = numbers 14 p 0
 
+-- the numbers of a refusal by reading or by the card rules
 unfoldable pub refusedCard : CardRefusal → Paper
 refusedCard (Text r) = refused r
 refusedCard (Card f) = refusedFault f
 
+-- the numbers of an answer: 0 and the rows, or those of the refusal
 unfoldable pub paperOfVerdict : Verdict → Paper
 paperOfVerdict (Passed n) = numbers 0 n 0
 paperOfVerdict (Failed r) = refusedCard r
@@ -44,6 +47,7 @@ pub data Judged : Type 0 where
   passed : Forest → Judged
   failed : CardRefusal → Judged
 
+-- the fault of a number from 11 to 14 at a place
 unfoldable pub faultOf : (number place : ℕ) → CardFault
 faultOf number p = cond (eqb number 11) (Kind p) (cond (eqb number 12) (Missing p) (cond (eqb number 13) (Value p) (Rule p)))
 
@@ -52,6 +56,7 @@ unfoldable pub byBreach : Forest → Breach → Judged
 byBreach f nothing = passed f
 byBreach f (found row number) = failed (Card (faultOf number (getD (startsOf f) row 0)))
 
+-- what reading refuses is refused so; else the first breach decides
 unfoldable pub judgedRead : List ℕ → Read → Judged
 judgedRead t (bad r) = failed (Text r)
 judgedRead t (good f to) = byBreach f (cardBreach (docOf t f))
@@ -62,6 +67,7 @@ judgedOf L words t = judgedRead t (wholeOf L words t)
 
 -- ---- the answer and the whole table
 
+-- the answer as it is handed out
 abbrev pub answerOfJudged : Judged → Verdict
 answerOfJudged (passed f) = Passed (size f)
 answerOfJudged (failed r) = Failed r

@@ -40,7 +40,7 @@ use Rattle.contact.proofs.Judging.{judging}
 use Rattle.contact.proofs.Demands.Sheet.{OnLine, on-line, line-of, text-line, card-line, card-some, same-number, same-second}
 
 module _ (L : Limits) (words : ℕ) (t : List ℕ) where
-  readable-good : (f : Forest) → Readable L words t f → wholeOf L words t ≡ good f (length t)
+  pub readable-good : (f : Forest) → Readable L words t f → wholeOf L words t ≡ good f (length t)
   unfolding wholeOf fitOf
   readable-good f r = rw (accepts L t f .1 (r .accepts), le-ltb words (L .words * size f) (r .enough))
 

@@ -57,8 +57,8 @@ lacks-test any ms = fails (λ h. elim h [ ])
 lacks-test (simple l) ms = fails (λ h. elim h [ ])
 lacks-test (objectOf o) ms =
     swap
-    (λ h. B.lacks (h .listed) (h .mandatory) (h .nowhere))
-    (λ h. elim h [ B.lacks i m f ↦ record { line = _; listed = i; mandatory = m; nowhere = f } ])
+    (λ h. B.lacks-one (h .listed) (h .mandatory) (h .nowhere))
+    (λ h. elim h [ B.lacks-one i m f ↦ record { line = _; listed = i; mandatory = m; nowhere = f } ])
     (lacking-test (properties o) ms)
 lacks-test (listOf ty) ms = fails (λ h. elim h [ ])
 lacks-test (mapOf keys ty) ms = fails (λ h. elim h [ ])

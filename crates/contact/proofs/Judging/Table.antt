@@ -13,7 +13,7 @@ use Rattle.laws.specs.Order.{orderOf, same}
 use Rattle.laws.proofs.Decides.{Decides, holds, fails, told, itself, swap, equal, bytes-same, both, unless, grants}
 use Rattle.text.specs.Doc.{Name}
 use Rattle.contact.specs.Schema.{ObjectType, card, name, nameComponent, address, addressComponent, emailAddress, phone, anyString, exactly, flag, yes, count, time, Ty, any, simple, objectOf, listOf, mapOf, Known, properties, typeIn, fits}
-use Rattle.contact.specs.AskedKinds.{Suits, Tabled, unknown, string, fixed, utc, integer, off, on, out, within, list, typed, map}
+use Rattle.contact.specs.AskedKinds.{Suits, Tabled, unknown, string, fixed, utc, integer, off, on, left-out, taken-in, list, typed, map}
 
 -- ---- kinds
 
@@ -38,8 +38,8 @@ asked utc = refl
 asked integer = refl
 asked off = inl refl
 asked on = inr refl
-asked out = inl refl
-asked within = inr refl
+asked left-out = inl refl
+asked taken-in = inr refl
 asked list = refl
 asked typed = refl
 asked map = refl
@@ -53,7 +53,7 @@ suits any k e = unknown
 suits (simple anyString) k e = at-kind (simple anyString) string e
 suits (simple (exactly n)) k e = at-kind (simple (exactly n)) fixed e
 suits (simple flag) k e = ⊎-elim (at-kind (simple flag) off) (at-kind (simple flag) on) e
-suits (simple yes) k e = ⊎-elim (at-kind (simple yes) out) (at-kind (simple yes) within) e
+suits (simple yes) k e = ⊎-elim (at-kind (simple yes) left-out) (at-kind (simple yes) taken-in) e
 suits (simple (count low high)) k e = at-kind (simple (count low high)) integer e
 suits (simple time) k e = at-kind (simple time) utc e
 suits (objectOf o) k e = at-kind (objectOf o) typed e

@@ -13,7 +13,7 @@ use Rattle.text.specs.Doc.{Name, Doc, Members, empty, member}
 use Rattle.contact.specs.Pointer.{Pointer, pointerOf, firstPart, badTilde, clash}
 use Rattle.contact.specs.Patch.{Walk, walk, entriesOf, anyBadKey, anyOwn, clashWith, anyClash, isInArray, isNoObject, anyWalk}
 use Rattle.contact.specs.Entries.{Prefix}
-use Rattle.contact.specs.Conditions.{LooseTilde, HasKey, first, later, HasKeys, firstOf, laterOn, EntersArray, LosesWay}
+use Rattle.contact.specs.Conditions.{LooseTilde, HasKey, first, later, HasKeys, firstKey, laterOn, EntersArray, LosesWay}
 use Rattle.contact.proofs.Patching.Names.{same-yes}
 use Rattle.contact.proofs.Patching.Apart.{clash-iff}
 use Rattle.contact.proofs.Patching.Tilde.{tilde-iff}
@@ -119,11 +119,11 @@ clash-found empty e = absurd (true≢false (sym e))
 clash-found (member key label d ms) e =
     or-either (clashWith (pointerOf key) (entriesOf ms)) (anyClash (entriesOf ms)) e
     (λ x. let r = key-found (λ k. clash (pointerOf key) (pointerOf k)) (Clashing key) (λ k. clash-iff (pointerOf key) (pointerOf k)) ms (sym (with-key (pointerOf key) ms) ∙ x) in
-    record { key = key; other = r .key; there = firstOf (r .there); so = r .so })
+    record { key = key; other = r .key; there = firstKey (r .there); so = r .so })
     (λ x. let r = clash-found ms x in record { key = r .key; other = r .other; there = laterOn (r .there); so = r .so })
 
 pub clash-finds : {key other : Name} (ms : Members) → HasKeys key other ms → Clashing key other → anyClash (entriesOf ms) ≡ true
-clash-finds {key} (member key′ label d ms) (firstOf x) h =
+clash-finds {key} (member key′ label d ms) (firstKey x) h =
     or-left (clashWith (pointerOf key) (entriesOf ms)) (anyClash (entriesOf ms))
     (with-key (pointerOf key) ms ∙ key-finds (λ k. clash (pointerOf key) (pointerOf k)) (Clashing key) (λ k. clash-iff (pointerOf key) (pointerOf k)) x h)
 clash-finds (member key′ label d ms) (laterOn x) h =

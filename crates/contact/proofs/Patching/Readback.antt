@@ -24,9 +24,9 @@ use Rattle.text.proofs.Readback.Again.{reads-back}
 use Rattle.text.proofs.Readback.Documents.{text-shorter}
 use Rattle.contact.specs.Judge.{Breach, nothing, found, cardBreach}
 use Rattle.contact.specs.Verdict.{refusedFault, refusedCard, Judged, passed, failed, faultOf, byBreach, judgedRead, judgedOf}
-use Rattle.contact.specs.Localize.{Outcome, refusedLocal, done, denied, localizedOf}
+use Rattle.contact.specs.Localize.{Outcome, refusedLocal, done, denied, localizedOf, patchedDoc}
 use Rattle.contact.specs.Conditions.{PatchOf, BrokenCondition, short, Smallest, Accepted}
-use Rattle.contact.specs.Readback.{patchedDoc, WrittenCard, PatchedRows, OnlyInner, deep, fault, Readback}
+use Rattle.contact.specs.Readback.{WrittenCard, PatchedRows, OnlyInner, deep, fault, Readback}
 use Rattle.contact.specs.declared.CardFault.the-variants.{Kind, Missing, Value, Rule}
 use Rattle.contact.specs.declared.CardRefusal.{CardRefusal}
 use Rattle.contact.specs.declared.CardRefusal.the-variants.{Text, Card}

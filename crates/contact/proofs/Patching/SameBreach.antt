@@ -1,0 +1,129 @@
+-- A card with the entries of a PatchObject in another order has the same first breach: `order-breach`. The entries aren't judged, and they take up
+-- as many rows.
+-- Assumes nothing.
+use Prim.Native.Nat.{ℕ, suc, _+_}
+use mathlib.Core.Path.{_≡_, refl, sym, ap, ap₂, _∙_}
+use mathlib.Core.Bool.{Bool, true, not, cond, _&&_, true≢false}
+use mathlib.Core.Logic.{_≢_}
+use mathlib.Core.List.{List, [], _∷_}
+use native.Mathlib.Omega.{arith}
+use Rattle.laws.specs.Order.{same, orderOf}
+use Rattle.laws.proofs.Bools.{byTest}
+use Rattle.text.specs.Text.{bytes}
+use Rattle.text.specs.Doc.{Name, Doc, scalar, array, object, Members, empty, member, countOf, countAll, seek, isThere}
+use Rattle.contact.specs.Schema.{Ty, any, objectOf, mapOf, free, anyObject, card, Known, properties, typeIn}
+use Rattle.contact.specs.Rules.{present, breaksCard}
+use Rattle.contact.specs.Judge.{lacking, rowNumber, memberType, keyFits, Breach, nothing, onRow, orElse, breachOf, breachAmong, cardBreach}
+use Rattle.contact.specs.Entries.{Shuffled, asIs, keepFirst, swapFirst, andOn}
+use Rattle.contact.specs.Patching.{Rearranged, rearranged, AtMember, thisOne, laterOne, InMember, inMember, OrderOnly}
+use Rattle.contact.proofs.Patching.Names.{same-yes, same-no}
+
+-- ---- below a PatchObject nothing is asked
+
+mutual
+  unfolding breachOf breachAmong rowNumber
+
+  any-clean : (row : ℕ) (d : Doc) → breachOf any true row d ≡ nothing
+  any-clean row (scalar kind token) = refl
+  any-clean row (array ms) = any-among [] (row + 1) ms
+  any-clean row (object ms) = any-among [] (row + 1) ms
+
+  any-among : (earlier : List Name) (row : ℕ) (ms : Members) → breachAmong any earlier row ms ≡ nothing
+  any-among earlier row empty = refl
+  any-among earlier row (member n label d ms) = ap₂ orElse (any-clean row d) (any-among (n ∷ earlier) (row + countOf d) ms)
+
+entries-clean : (earlier : List Name) (row : ℕ) (ms : Members) → breachAmong anyObject earlier row ms ≡ nothing
+unfolding breachAmong
+entries-clean earlier row empty = refl
+entries-clean earlier row (member n label d ms) = ap₂ orElse (any-clean row d) (entries-clean (n ∷ earlier) (row + countOf d) ms)
+
+patch-clean : (row : ℕ) (ms : Members) → breachOf anyObject true row (object ms) ≡ nothing
+unfolding breachOf rowNumber
+patch-clean row ms = entries-clean [] (row + 1) ms
+
+-- ---- as many rows
+
+shuffled-count : {ms ns : Members} → Shuffled ms ns → countAll ms ≡ countAll ns
+unfolding countAll
+shuffled-count asIs = refl
+shuffled-count (keepFirst {d = d} σ) = ap (λ (k : ℕ). countOf d + k) (shuffled-count σ)
+shuffled-count (swapFirst {d = d} {e = e} {ms = ms}) = omega arith
+shuffled-count (andOn σ τ) = shuffled-count σ ∙ shuffled-count τ
+
+-- ---- a difference in one member, of as many rows and of the same breach
+
+module _ {n : Name} {R : Doc → Doc → Type 0} (counts : (d e : Doc) → R d e → countOf d ≡ countOf e) where
+  at-count : {ms ns : Members} → AtMember n R ms ns → countAll ms ≡ countAll ns
+  unfolding countAll
+  at-count (thisOne {d = d} {e = e} {ms = ms} r) = ap (λ (k : ℕ). k + countAll ms) (counts d e r)
+  at-count (laterOne {d = d} h x) = ap (λ (k : ℕ). countOf d + k) (at-count x)
+
+  in-count : (d e : Doc) → InMember n R d e → countOf d ≡ countOf e
+  unfolding countOf
+  in-count d e (inMember x) = ap suc (at-count x)
+
+  at-among : (ty : Ty) → ((earlier : List Name) (row : ℕ) (d e : Doc) → R d e
+      → breachOf (memberType ty n) (keyFits ty earlier n) row d ≡ breachOf (memberType ty n) (keyFits ty earlier n) row e)
+      → (earlier : List Name) (row : ℕ) {ms ns : Members} → AtMember n R ms ns → breachAmong ty earlier row ms ≡ breachAmong ty earlier row ns
+  unfolding breachAmong
+  at-among ty alike earlier row (thisOne {d = d} {e = e} {ms = ms} r) =
+      ap₂ orElse (alike earlier row d e r) (ap (λ (k : ℕ). breachAmong ty (n ∷ earlier) (row + k) ms) (counts d e r))
+  at-among ty alike earlier row (laterOne {m = m} {d = d} h x) =
+      ap (orElse (breachOf (memberType ty m) (keyFits ty earlier m) row d)) (at-among ty alike (m ∷ earlier) (row + countOf d) x)
+
+-- ---- what is asked of the members
+
+module _ {n : Name} {R : Doc → Doc → Type 0} where
+  at-there : {ms ns : Members} → AtMember n R ms ns → (m : Name) → isThere (seek m ms) ≡ isThere (seek m ns)
+  at-there (thisOne r) m = byTest (same n m) (λ b. simp b) (λ b. simp b)
+  at-there (laterOne {m = k} h x) m = byTest (same k m) (λ b. simp b) (λ b. simp b (at-there x m))
+
+  at-else : {ms ns : Members} → AtMember n R ms ns → (m : Name) → n ≢ m → seek m ms ≡ seek m ns
+  at-else (thisOne r) m h = simp (same-no h)
+  at-else (laterOne {m = k} g x) m h = byTest (same k m) (λ b. simp b) (λ b. simp b (at-else x m h))
+
+  at-lacking : (ks : List Known) {ms ns : Members} → AtMember n R ms ns → lacking ks ms ≡ lacking ks ns
+  unfolding lacking
+  at-lacking [] x = refl
+  at-lacking (k ∷ ks) x = ap₂ (λ (a b : Bool). cond (k .mandatory && not a) true b) (at-there x (k .spelling)) (at-lacking ks x)
+
+-- ---- cards
+
+rearranged-count : (d e : Doc) → Rearranged d e → countOf d ≡ countOf e
+unfolding countOf
+rearranged-count d e (rearranged σ) = ap suc (shuffled-count σ)
+
+lang-breach : {lang : Name} (row : ℕ) (d e : Doc) → InMember lang Rearranged d e
+    → breachOf (mapOf free anyObject) true row d ≡ breachOf (mapOf free anyObject) true row e
+unfolding breachOf rowNumber
+lang-breach row d e (inMember x) = at-among rearranged-count (mapOf free anyObject) (λ earlier r y z. clean r y z) [] (row + 1) x
+  where
+    clean : (row : ℕ) (d e : Doc) → Rearranged d e → breachOf anyObject true row d ≡ breachOf anyObject true row e
+    clean row d e (rearranged {ms = ms} {ns = ns} σ) = patch-clean row ms ∙ sym (patch-clean row ns)
+
+localizations-type : typeIn (properties card) (bytes "localizations") ≡ mapOf free anyObject
+unfolding typeIn properties orderOf
+localizations-type = refl
+
+not-members : bytes "localizations" ≢ bytes "members"
+unfolding orderOf
+not-members e = true≢false (sym (same-yes e))
+
+not-kind : bytes "localizations" ≢ bytes "kind"
+unfolding orderOf
+not-kind e = true≢false (sym (same-yes e))
+
+module _ {R : Doc → Doc → Type 0} {ms ns : Members} (x : AtMember (bytes "localizations") R ms ns) where
+  card-breaks : breaksCard ms ≡ breaksCard ns
+  unfolding breaksCard present
+  card-breaks = rw (at-else x (bytes "members") not-members, at-else x (bytes "kind") not-kind)
+
+  card-number : rowNumber (objectOf card) true (object ms) ≡ rowNumber (objectOf card) true (object ns)
+  unfolding rowNumber
+  card-number = rw (at-lacking (properties card) x, card-breaks)
+
+pub order-breach : (lang : Name) (one other : Doc) → OrderOnly lang one other → cardBreach one ≡ cardBreach other
+unfolding breachOf
+order-breach lang one other (inMember x) =
+    ap₂ (λ (k : ℕ) (b : Breach). onRow k 0 b) (card-number x)
+    (at-among (in-count rearranged-count) (objectOf card) (λ earlier row d e r. rw localizations-type (lang-breach row d e r)) [] 1 x)
