@@ -27,7 +27,8 @@ module _ (card : Doc) (ms : Members) where
     pub noneOwn : anyOwn (entriesOf ms) ≡ false
     pub noClash : NoClash (entriesOf ms)
     pub parents : ParentsThere (entriesOf ms) (start card)
-    pub goes-on : (L : Limits) (words room : ℕ) → byEntries L words room (start card) ms (entriesOf ms) ≡ byRoom L words room (written (applied (start card) (entriesOf ms)))
+    pub goes-on : (L : Limits) (words room : ℕ)
+        → byEntries L words room (start card) ms (entriesOf ms) ≡ byRoom L words room (written (applied (start card) (entriesOf ms)))
 
   -- what a condition says of the outcome
   abbrev pub Says : Condition → Type 0

@@ -47,7 +47,8 @@ module _ (t : List ℕ) where
   copied-scalar g s h = rw (doc-scalar t g s h)
 
   -- its kind is 6 or 7
-  pub copied-inside : (g : Forest) → HasFirst g → Kinds g → (kind : ℕ) → kind ≡ kindAt g → 6 ≤ kind → written (docOf t g) ≡ openOf kind ∷ insideOf t kind (insideAt g) true
+  pub copied-inside : (g : Forest) → HasFirst g → Kinds g → (kind : ℕ) → kind ≡ kindAt g → 6 ≤ kind
+      → written (docOf t g) ≡ openOf kind ∷ insideOf t kind (insideAt g) true
   unfolding insideOf
   copied-inside g s k kind is h =
       elim (ℕ-discrete kind 7) [

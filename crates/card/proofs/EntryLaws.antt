@@ -118,8 +118,10 @@ abbrev pub clashAmong : Members → Bool
 clashAmong ms = anyClash (entriesOf ms)
 
 -- the pointers before i clash with none after them, and the one at i with none up to j
-module _ {t table rows : List ℕ} {n i j : ℕ} (outer : Walked t table rows 0 n clashAmong clashAmong i) (lt : i < n) (inner : Walked t table rows (i + 1) n (clashIn (nameAt t table rows i)) (clashIn (nameAt t table rows i)) j) where
-  pub pair-found : j < n → clash (pointerOf (nameAt t table rows i)) (pointerOf (nameAt t table rows j)) ≡ true → (ms : Members) → Listed t table rows 0 n ms → true ≡ clashAmong ms
+module _ {t table rows : List ℕ} {n i j : ℕ} (outer : Walked t table rows 0 n clashAmong clashAmong i) (lt : i < n)
+    (inner : Walked t table rows (i + 1) n (clashIn (nameAt t table rows i)) (clashIn (nameAt t table rows i)) j) where
+  pub pair-found : j < n → clash (pointerOf (nameAt t table rows i)) (pointerOf (nameAt t table rows j)) ≡ true → (ms : Members)
+      → Listed t table rows 0 n ms → true ≡ clashAmong ms
   pair-found less e =
       let found = walk-hit inner less {r = true} (λ label d rest m. rw e) in
       walk-hit outer lt (λ label d rest m. rw (← found rest m))

@@ -121,7 +121,8 @@ module _ (j : ℕ) (n : Name) (ls ms rs : Members) where
       rw (stripped-joined j ls (joined ms rs), stripped-joined j ms rs)
       (mine-append n (stripped j ls) (stripped j ms ++ stripped j rs) l ∙ mine-before n (stripped j ms) (stripped j rs) r)
 
-  middle-under : Side false n true (stripped j ls) → Side true n false (stripped j rs) → under n (stripped j (joined ls (joined ms rs))) ≡ under n (stripped j ms)
+  middle-under : Side false n true (stripped j ls) → Side true n false (stripped j rs)
+      → under n (stripped j (joined ls (joined ms rs))) ≡ under n (stripped j ms)
   middle-under before after =
       let l = aside-under false n true (λ e. let z : _≡_ {A = ℕ} 0 1 = cc in omega arith) before in
       let r = aside-under true n false (λ e. let z : _≡_ {A = ℕ} 0 1 = cc in omega arith) after in

@@ -34,7 +34,8 @@ use Rattle.card.proofs.CardLaws.{card-there}
 -- ---- 28
 
 module _ {t lent table : List ℕ} (room : ℕ) where
-  pub judged-passed : {rows n : ℕ} → Judges base t lent (Passed rows) table → length t ≡ n → Rejudged (length lent) (judgedOutcome (length lent) room t) (Written rows n) table
+  pub judged-passed : {rows n : ℕ} → Judges base t lent (Passed rows) table → length t ≡ n
+      → Rejudged (length lent) (judgedOutcome (length lent) room t) (Written rows n) table
   unfolding byJudge answerOfOutcome tableOfOutcome tableOfJudged
   judged-passed {rows} {n} j long =
       go (judgedOf base (length lent) t) (judged-answer (Passed rows) (judgedOf base (length lent) t) (j .answered)) (j .table)
@@ -44,7 +45,8 @@ module _ {t lent table : List ℕ} (room : ℕ) where
       go (passed f) e k = record { answer = cc; rows = k }
       go (failed r) e k = let z : _≡_ {A = ℕ} 0 1 = cc in absurd (omega arith)
 
-  pub judged-failed : {r : CardRefusal} → Judges base t lent (Failed r) table → Rejudged (length lent) (judgedOutcome (length lent) room t) (Denied (Inner r)) table
+  pub judged-failed : {r : CardRefusal} → Judges base t lent (Failed r) table
+      → Rejudged (length lent) (judgedOutcome (length lent) room t) (Denied (Inner r)) table
   unfolding byJudge answerOfOutcome tableOfOutcome tableOfJudged
   judged-failed {r} j =
       go (judgedOf base (length lent) t) (judged-answer (Failed r) (judgedOf base (length lent) t) (j .answered)) (j .table)

@@ -103,7 +103,8 @@ by-name key (Byte b c) = refl
 by-name key Over = refl
 
 -- a byte that is handed out is the first of those that were left
-pub named : (part : Bool) (key : List ℕ) (c : Cursor) {r : Next} {b : ℕ} {d : Cursor} → nameUnread part key r ≡ nameLeft part key c → r ≡ Byte b d → nameLeft part key c ≡ b ∷ nameLeft part key d
+pub named : (part : Bool) (key : List ℕ) (c : Cursor) {r : Next} {b : ℕ} {d : Cursor} → nameUnread part key r ≡ nameLeft part key c → r ≡ Byte b d
+    → nameLeft part key c ≡ b ∷ nameLeft part key d
 named part key c e g = sym e ∙ ap (nameUnread part key) g
 
 -- where none is handed out, none is left

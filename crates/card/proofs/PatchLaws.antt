@@ -153,7 +153,8 @@ seek-based : (root : Bool) (n : Name) (ms : Members) → isOut root n ≡ false 
 seek-based true n ms e = without-other n (bytes "localizations") e ms
 seek-based false n ms e = refl
 
-pub there-found : (root : Bool) (n : Name) (ms : Members) → isOut root n ≡ false → {p : Property} → seek n ms ≡ some p → true ≡ isThere (seek n (basedAll root ms))
+pub there-found : (root : Bool) (n : Name) (ms : Members) → isOut root n ≡ false → {p : Property} → seek n ms ≡ some p
+    → true ≡ isThere (seek n (basedAll root ms))
 there-found root n ms e h = rw (seek-based root n ms e, h)
 
 pub there-none : (root : Bool) (n : Name) (ms : Members) → isOut root n ≡ false → seek n ms ≡ none → false ≡ isThere (seek n (basedAll root ms))

@@ -44,5 +44,6 @@ module _ (t : List ℕ) (f : Forest) (s : HasFirst f) (k : Kinds f) where
     pub walk-lacks : {p q : Pointer} {n : Name} → p ≡ down n q → seek n (membersOf t (insideAt f)) ≡ none → noObject ≡ walk p (docOf t f)
     walk-lacks {p} {q} {n} e none-there = rw (go-down p q n e, none-there)
 
-    pub walk-on : {p q : Pointer} {n : Name} (g : Forest) → p ≡ down n q → seek n (membersOf t (insideAt f)) ≡ some (firstMember t g) → walk q (docOf t g) ≡ walk p (docOf t f)
+    pub walk-on : {p q : Pointer} {n : Name} (g : Forest) → p ≡ down n q → seek n (membersOf t (insideAt f)) ≡ some (firstMember t g)
+        → walk q (docOf t g) ≡ walk p (docOf t f)
     walk-on {p} {q} {n} g e there = rw (go-down p q n e, there)

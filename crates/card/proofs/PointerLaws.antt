@@ -43,7 +43,8 @@ clash-on p q {p'} {q'} d g e = go p q (firstPart p) (firstPart q) d g e
 
 -- ---- the order ----
 
-pub order-first : (p q : Pointer) (o : Order) → orderOf (firstPart p) (firstPart q) ≡ o → (orThen o Same ≡ o) → (orThen o Less ≡ o) → (orThen o More ≡ o) → pointerOrder p q ≡ o
+pub order-first : (p q : Pointer) (o : Order) → orderOf (firstPart p) (firstPart q) ≡ o → (orThen o Same ≡ o) → (orThen o Less ≡ o)
+    → (orThen o More ≡ o) → pointerOrder p q ≡ o
 unfolding pointerOrder
 order-first (last n) (last m) o e s l g = e
 order-first (last n) (down m q) o e s l g = rw (e, l)

@@ -86,7 +86,8 @@ pointer-eq (down n p) (down m q) e =
     cc
 
 -- it leads on if what follows the first parts does
-trans-by : (p q r : Pointer) → (behind p q ≡ Less → behind q r ≡ Less → behind p r ≡ Less) → pointerOrder p q ≡ Less → pointerOrder q r ≡ Less → pointerOrder p r ≡ Less
+trans-by : (p q r : Pointer) → (behind p q ≡ Less → behind q r ≡ Less → behind p r ≡ Less) → pointerOrder p q ≡ Less → pointerOrder q r ≡ Less
+    → pointerOrder p r ≡ Less
 trans-by p q r on e f =
     by-parts p r ∙ go (then-less (orderOf n m) (behind p q) (sym (by-parts p q) ∙ e)) (then-less (orderOf m l) (behind q r) (sym (by-parts q r) ∙ f))
   where

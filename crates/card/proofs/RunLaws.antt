@@ -49,7 +49,8 @@ module _ (t table rows : List ℕ) (parts : ℕ) where
   abbrev pub pointAt : ℕ → Pointer
   pointAt k = strip parts (pointerOf (keyAt t table (getD rows k 0)))
 
-  leads-at : {p : Pointer} {i n : ℕ} {ms : Members} → Listed t table rows i n ms → Leads p (stripped parts ms) → (l : ℕ) → i ≤ l → l < n → pointerOrder p (pointAt l) ≡ Less
+  leads-at : {p : Pointer} {i n : ℕ} {ms : Members} → Listed t table rows i n ms → Leads p (stripped parts ms) → (l : ℕ) → i ≤ l → l < n
+      → pointerOrder p (pointAt l) ≡ Less
   unfolding stripped
   leads-at over u l a b = absurd (omega arith)
   leads-at (next {i} g h s k stands r) (leads-more e u) l a b =
@@ -113,7 +114,8 @@ module _ {t table rows : List ℕ} where
             }
       ]
 
-module _ (t table rows : List ℕ) (parts : ℕ) (n : Name) (past : Bool) {lo hi a b : ℕ} (h : Halved (aheadAt t table rows parts n past) lo hi a b) (met : b ≤ a) where
+module _ (t table rows : List ℕ) (parts : ℕ) (n : Name) (past : Bool) {lo hi a b : ℕ} (h : Halved (aheadAt t table rows parts n past) lo hi a b)
+    (met : b ≤ a) where
   pub bound-made : Bound t table rows lo hi parts n past a
   bound-made =
       record {

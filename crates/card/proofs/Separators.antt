@@ -121,7 +121,8 @@ truly (some p) = go (eqb (kindOf (p .content)) 3) refl
     either true e = e
     either false e = refl
 
-    go : (b : Bool) → eqb (kindOf (p .content)) 3 ≡ b → isTrue (cond (fits (simple flag) (kindOf (p .content))) (some (p .content)) none) ≡ isThere (cond b (some p) none)
+    go : (b : Bool) → eqb (kindOf (p .content)) 3 ≡ b
+        → isTrue (cond (fits (simple flag) (kindOf (p .content))) (some (p .content)) none) ≡ isThere (cond b (some p) none)
     go true e = rw (eqb-true (kindOf (p .content)) 3 e) e
     go false e = either (fits (simple flag) (kindOf (p .content))) e
 

@@ -73,11 +73,13 @@ module _ (t lent new : List ℕ) where
   unfolding judgedOf judgedRead byBreach paperOfVerdict sheetOfJudged tableOfJudged
   fails f to row number r w e p q = record { answered = rw (p, w, e); table = rw (w, e, sub-zero) q }
 
-  pub text-refused : (r : Refusal) → paper (Refused r) ≡ sheetOf (wholeOf base (length lent) t) → new ≡ tableOf (length lent) (wholeOf base (length lent) t) → Judges base t lent (Failed (Text r)) new
+  pub text-refused : (r : Refusal) → paper (Refused r) ≡ sheetOf (wholeOf base (length lent) t)
+      → new ≡ tableOf (length lent) (wholeOf base (length lent) t) → Judges base t lent (Failed (Text r)) new
   unfolding judgedOf judgedRead paperOfVerdict sheetOfJudged tableOfJudged tableOf
   text-refused r e is = let x = refusal-is base (length lent) t new is r e in record { answered = rw (x .whole); table = rw (x .whole) (x .cleared) }
 
-pub rows-judged : (t lent old new : List ℕ) (n : ℕ) (f : Forest) (r : Verdict) → length old ≡ length lent → ReadInto t old n f → JudgedRows t old n f r new → Judges base t lent r new
+pub rows-judged : (t lent old new : List ℕ) (n : ℕ) (f : Forest) (r : Verdict) → length old ≡ length lent → ReadInto t old n f
+    → JudgedRows t old n f r new → Judges base t lent r new
 rows-judged t lent old new n f r l h j = go (cardBreach (docOf t f)) refl j
   where
     whole : wholeOf base (length lent) t ≡ good f (h .end)

@@ -48,7 +48,8 @@ module _ (t : List ℕ) (f : Forest) (s : HasFirst f) where
   unfolding rowNumber
   row-unfit ty key e = rw (doc-kind t f s, e)
 
-  pub row-object : (o : ObjectType) (key : Bool) → fits (objectOf o) (kindAt f) ≡ true → objectNumber o key (membersOf t (insideAt f)) ≡ rowNumber (objectOf o) key (docOf t f)
+  pub row-object : (o : ObjectType) (key : Bool) → fits (objectOf o) (kindAt f) ≡ true
+      → objectNumber o key (membersOf t (insideAt f)) ≡ rowNumber (objectOf o) key (docOf t f)
   unfolding rowNumber objectNumber
   row-object o key e = rw (doc-below t f, doc-kind t f s, e, and-true key)
 

@@ -32,7 +32,12 @@ enum-known-r : tie.Need-enum-known-r
 enum-known-r c = search needs
 
 returns : tie.Need-returns
-returns c = made-broken (now (c .before .before .before .before .before .before .before .before .before .before .before .before .before .before .args .card)) (listing (c .before .before .before .before .before .before .before .before .below .ensures) (c .before .before .before .before .before .before .collect .ensures .1)) (c .before .before .before .first-broken .ensures) _ (c .before .r .given .1)
+returns c =
+    let a = c .before .before .before .before .before .before .before .before .before .before .before .before .before .before .args in
+    let below = c .before .before .before .before .before .before .before .before .below in
+    let collect = c .before .before .before .before .before .before .collect in
+    let first-broken = c .before .before .before .first-broken in
+    made-broken (now (a .card)) (listing (below .ensures) (collect .ensures .1)) (first-broken .ensures) _ (c .before .r .given .1)
 
 enum-told : tie.Need-enum-told
 enum-told c = search needs
@@ -47,13 +52,31 @@ same-length : tie.Need-same-length
 same-length c = search needs
 
 returns-2 : tie.Need-returns-2
-returns-2 c = made-short (now (c .before .before .before .before .before .before .before .before .before .before .before .before .before .before .before .before .before .before .before .before .args .card)) (listing (c .before .before .before .before .before .before .before .before .before .before .before .before .before .before .below .ensures) (c .before .before .before .before .before .before .before .before .before .before .before .before .collect .ensures .1)) (c .before .before .before .before .before .before .before .before .before .first-broken .ensures) (c .before .before .before .before .before .before .before .enum-told .given .1) (c .before .before .before .before .put-sorted .ensures) (c .if1 .taken)
+returns-2 c =
+    let early = c .before .before .before .before .before .before .before .before .before .before .before .before in
+    let a = early .before .before .before .before .before .before .before .before .args in
+    let below = c .before .before .before .before .before .before .before .before .before .before .before .before .before .before .below in
+    let collect = c .before .before .before .before .before .before .before .before .before .before .before .before .collect in
+    let first-broken = c .before .before .before .before .before .before .before .before .before .first-broken in
+    let enum-told = c .before .before .before .before .before .before .before .enum-told in
+    let put-sorted = c .before .before .before .before .put-sorted in
+    made-short (now (a .card)) (listing (below .ensures) (collect .ensures .1)) (first-broken .ensures) (enum-told .given .1) (put-sorted .ensures)
+    (c .if1 .taken)
 
 same-length-2 : tie.Need-same-length-2
 same-length-2 c = search needs
 
 returns-3 : tie.Need-returns-3
-returns-3 c = made-whole (now (c .before .before .before .before .before .before .before .before .before .before .before .before .before .before .before .before .before .before .before .before .args .card)) (listing (c .before .before .before .before .before .before .before .before .before .before .before .before .before .before .below .ensures) (c .before .before .before .before .before .before .before .before .before .before .before .before .collect .ensures .1)) (c .before .before .before .before .before .before .before .before .before .first-broken .ensures) (c .before .before .before .before .before .before .before .enum-told .given .1) (c .before .before .before .before .put-sorted .ensures) (c .if1 .left)
+returns-3 c =
+    let early = c .before .before .before .before .before .before .before .before .before .before .before .before in
+    let a = early .before .before .before .before .before .before .before .before .args in
+    let below = c .before .before .before .before .before .before .before .before .before .before .before .before .before .before .below in
+    let collect = c .before .before .before .before .before .before .before .before .before .before .before .before .collect in
+    let first-broken = c .before .before .before .before .before .before .before .before .before .first-broken in
+    let enum-told = c .before .before .before .before .before .before .before .enum-told in
+    let put-sorted = c .before .before .before .before .put-sorted in
+    made-whole (now (a .card)) (listing (below .ensures) (collect .ensures .1)) (first-broken .ensures) (enum-told .given .1) (put-sorted .ensures)
+    (c .if1 .left)
 
 pub compose-spec : {M : Type 1} → statement M
 compose-spec =

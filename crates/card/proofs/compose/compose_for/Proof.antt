@@ -16,22 +16,40 @@ enum-told : tie.Need-enum-told
 enum-told c = search needs
 
 returns : tie.Need-returns
-returns c = for-nothing (now (c .before .before .before .before .before .before .before .args .language)) (c .before .before .patch-row .ensures) _ (c .enum-told .given .1)
+returns c =
+    let a = c .before .before .before .before .before .before .before .args in
+    for-nothing (now (a .language)) (c .before .before .patch-row .ensures) _ (c .enum-told .given .1)
 
 kind-requires : tie.Need-kind-requires
 kind-requires c κs = search needs
 
 returns-2 : tie.Need-returns-2
-returns-2 c = for-other (now (c .before .before .before .before .before .before .before .before .before .before .args .language)) (c .before .before .before .before .before .patch-row .ensures) (c .before .before .before .patch .given .1) _ (λ e. c .if1 .taken (c .before .kind .ensures ∙ e))
+returns-2 c =
+    let a = c .before .before .before .before .before .before .before .before .before .before .args in
+    let patch-row = c .before .before .before .before .before .patch-row in
+    let patch = c .before .before .before .patch in
+    for-other (now (a .language)) (patch-row .ensures) (patch .given .1) _ (λ e. c .if1 .taken (c .before .kind .ensures ∙ e))
 
 compose-requires : tie.Need-compose-requires
-compose-requires c κs = for-needs (now (c .before .before .before .before .before .before .before .before .before .before .before .args .language)) (c .before .before .before .before .before .before .patch-row .ensures) (c .before .before .before .before .patch .given .1) (c .before .before .before .before .before .before .before .before .before .before .before .pre .0) (c .before .before .before .before .before .before .before .before .before .before .before .pre .1)
+compose-requires c κs =
+    let a = c .before .before .before .before .before .before .before .before .before .before .before .args in
+    let p = c .before .before .before .before .before .before .before .before .before .before .before .pre in
+    let patch-row = c .before .before .before .before .before .before .patch-row in
+    let patch = c .before .before .before .before .patch in
+    for-needs (now (a .language)) (patch-row .ensures) (patch .given .1) (p .0) (p .1)
 
 same-length : tie.Need-same-length
 same-length c = search needs
 
 returns-3 : tie.Need-returns-3
-returns-3 c = for-object (now (c .before .before .before .before .before .before .before .before .before .before .before .before .before .before .args .language)) (c .before .before .before .before .before .before .before .before .before .patch-row .ensures) (c .before .before .before .before .before .before .before .patch .given .1) _ _ (c .before .before .compose .result) (sym (c .before .before .before .before .before .kind .ensures) ∙ c .before .before .before .before .if1 .left) (c .before .before .compose .ensures)
+returns-3 c =
+    let a = c .before .before .before .before .before .before .before .before .before .before .before .before .before .before .args in
+    let patch-row = c .before .before .before .before .before .before .before .before .before .patch-row in
+    let patch = c .before .before .before .before .before .before .before .patch in
+    let kind = c .before .before .before .before .before .kind in
+    let if1 = c .before .before .before .before .if1 in
+    let compose = c .before .before .compose in
+    for-object (now (a .language)) (patch-row .ensures) (patch .given .1) _ _ (compose .result) (sym (kind .ensures) ∙ if1 .left) (compose .ensures)
 
 pub compose-for-spec : {M : Type 1} → statement M
 compose-for-spec =

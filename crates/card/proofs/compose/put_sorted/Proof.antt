@@ -23,7 +23,13 @@ same-length-2 : tie.Need-same-length-2
 same-length-2 c = search needs
 
 returns : tie.Need-returns
-returns c = λ g ms v l nc. sorted-wrote (start (docOf (now (c .before .before .before .before .before .before .before .before .before .before .before .before .before .before .before .before .before .args .card)) g)) ms (c .before .before .before .before .before .before .before .before .before .before .before .before .before .before .before .before .before .pre .0) (c .before .before .before .before .before .before .before .before .sort-rows .ensures) l nc (λ ns m a. c .before .before .put-card .ensures g ns v m a)
+returns c =
+    λ g ms v l nc.
+    let early = c .before .before .before .before .before .before .before .before .before .before .before .before in
+    let args = early .before .before .before .before .before .args in
+    let p = early .before .before .before .before .before .pre in
+    let sort-rows = c .before .before .before .before .before .before .before .before .sort-rows in
+    sorted-wrote (start (docOf (now (args .card)) g)) ms (p .0) (sort-rows .ensures) l nc (λ ns m a. c .before .before .put-card .ensures g ns v m a)
 
 pub put-sorted-spec : {M : Type 1} → statement M
 put-sorted-spec =

@@ -25,13 +25,21 @@ enum-told-2 c = search needs
 
 returns-3 : tie.Need-returns-3
 returns-3 c =
+    let p = c .before .before .before .before .before .before .pre in
     let x = c .before .before .before .before .before .before .args in
-    sym (fraction-end (x .last) (x .b) (c .before .before .before .before .before .before .pre) (rest (now (x .content)) (x .after)) (none-left (now (x .content)) (x .after) (c .before .before .next-byte .ensures .0) (c .enum-told .given .1)) (c .before .before .before .before .if1 .left) (c .before .before .before .if2 .left))
+    let content = now (x .content) in
+    let if1 = c .before .before .before .before .if1 in
+    let if2 = c .before .before .before .if2 in
+    sym (fraction-end (x .last) (x .b) p (rest content (x .after))
+    (none-left content (x .after) (c .before .before .next-byte .ensures .0) (c .enum-told .given .1)) (if1 .left) (if2 .left))
 
 returns-4 : tie.Need-returns-4
 returns-4 c =
+    let p = c .before .before .before .before .before .before .pre in
     let x = c .before .before .before .before .before .before .args in
-    sym (fraction-more (x .last) (x .b) (c .before .before .before .before .before .before .pre) (rest (now (x .content)) (x .after)) (byte-left (now (x .content)) (x .after) (c .before .before .next-byte .ensures .0) (c .enum-told2 .given .1)))
+    let content = now (x .content) in
+    sym (fraction-more (x .last) (x .b) p (rest content (x .after))
+    (byte-left content (x .after) (c .before .before .next-byte .ensures .0) (c .enum-told2 .given .1)))
 
 pub closes-spec : {M : Type 1} → statement M
 closes-spec =

@@ -29,7 +29,10 @@ enum-told c = search needs
 
 returns : tie.Need-returns Inv-loop μ-loop
 unfolding fractionEnds
-returns c = rw (← c .before .before .before .loop .inv, none-left (now (c .before .before .before .before .before .args .content)) (c .before .before .before .loop .at) (c .before .before .next-byte .ensures .0) (c .enum-told .given .1))
+returns c =
+    let a = c .before .before .before .before .before .args in
+    let loop = c .before .before .before .loop in
+    rw (← loop .inv, none-left (now (a .content)) (loop .at) (c .before .before .next-byte .ensures .0) (c .enum-told .given .1))
 
 enum-known-b : tie.Need-enum-known-b Inv-loop μ-loop
 enum-known-b c = search needs
@@ -41,15 +44,29 @@ closes-requires : tie.Need-closes-requires Inv-loop μ-loop
 closes-requires c κs = sym (c .before .is-digit .ensures) ∙ not-true _ (c .if1 .taken)
 
 returns-2 : tie.Need-returns-2 Inv-loop μ-loop
-returns-2 c = rw (← c .before .before .before .before .before .before .before .loop .inv, byte-left (now (c .before .before .before .before .before .before .before .before .before .args .content)) (c .before .before .before .before .before .before .before .loop .at) (c .before .before .before .before .before .before .next-byte .ensures .0) (c .before .before .before .before .b .given .1)) (c .closes .ensures)
+returns-2 c =
+    let a = c .before .before .before .before .before .before .before .before .before .args in
+    let loop = c .before .before .before .before .before .before .before .loop in
+    let next-byte = c .before .before .before .before .before .before .next-byte in
+    let b = c .before .before .before .before .b in
+    rw (← loop .inv, byte-left (now (a .content)) (loop .at) (next-byte .ensures .0) (b .given .1)) (c .closes .ensures)
 
 loop-less : tie.Need-loop-less Inv-loop μ-loop
-loop-less c = omega (arith, ap length (byte-left (now (c .before .before .before .before .before .before .before .before .args .content)) (c .before .before .before .before .before .before .loop .at) (c .before .before .before .before .before .next-byte .ensures .0) (c .before .before .before .b .given .1)))
+loop-less c =
+    let a = c .before .before .before .before .before .before .before .before .args in
+    let loop = c .before .before .before .before .before .before .loop in
+    let next-byte = c .before .before .before .before .before .next-byte in
+    let b = c .before .before .before .b in
+    omega (arith, ap length (byte-left (now (a .content)) (loop .at) (next-byte .ensures .0) (b .given .1)))
 
 loop-again : tie.Need-loop-again Inv-loop μ-loop
 loop-again c =
-    rw (← c .before .before .before .before .before .before .loop .inv, byte-left (now (c .before .before .before .before .before .before .before .before .args .content)) (c .before .before .before .before .before .before .loop .at) (c .before .before .before .before .before .next-byte .ensures .0) (c .before .before .before .b .given .1))
-    (sym (fraction-on (c .before .before .before .before .before .before .loop .last) (c .before .before .before .b .given .0 .0) _ (sym (c .before .is-digit .ensures) ∙ not-false _ (c .if1 .left))))
+    let a = c .before .before .before .before .before .before .before .before .args in
+    let loop = c .before .before .before .before .before .before .loop in
+    let next-byte = c .before .before .before .before .before .next-byte in
+    let b = c .before .before .before .b in
+    rw (← loop .inv, byte-left (now (a .content)) (loop .at) (next-byte .ensures .0) (b .given .1))
+    (sym (fraction-on (loop .last) (b .given .0 .0) _ (sym (c .before .is-digit .ensures) ∙ not-false _ (c .if1 .left))))
 
 pub fraction-ends-spec : {M : Type 1} → statement M
 fraction-ends-spec =

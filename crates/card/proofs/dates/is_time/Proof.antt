@@ -35,7 +35,12 @@ enum-told : tie.Need-enum-told Inv-loop μ-loop
 enum-told c = search needs
 
 returns : tie.Need-returns Inv-loop μ-loop
-returns c = sym (begun-over (c .before .before .before .before .loop .inv) (c .before .before .before .loop-test .taken) (none-left (now (c .before .before .before .before .before .before .before .args .content)) (c .before .before .before .before .loop .at) (c .before .before .next-byte .ensures .0) (c .enum-told .given .1)))
+returns c =
+    let a = c .before .before .before .before .before .before .before .args in
+    let loop = c .before .before .before .before .loop in
+    let loop-test = c .before .before .before .loop-test in
+    sym (begun-over (loop .inv) (loop-test .taken)
+    (none-left (now (a .content)) (loop .at) (c .before .before .next-byte .ensures .0) (c .enum-told .given .1)))
 
 array-read-suits : tie.Need-array-read-suits Inv-loop μ-loop
 array-read-suits c = search needs
@@ -44,7 +49,14 @@ suits-requires : tie.Need-suits-requires Inv-loop μ-loop
 suits-requires c κs = search needs
 
 returns-2 : tie.Need-returns-2 Inv-loop μ-loop
-returns-2 c = sym (begun-other (c .before .before .before .before .before .before .before .loop .inv) (c .before .before .before .before .before .before .loop-test .taken) (byte-left (now (c .before .before .before .before .before .before .before .before .before .before .args .content)) (c .before .before .before .before .before .before .before .loop .at) (c .before .before .before .before .before .next-byte .ensures .0) (c .before .before .before .b .given .1)) (sym (c .before .suits .ensures) ∙ not-true _ (c .if1 .taken)))
+returns-2 c =
+    let a = c .before .before .before .before .before .before .before .before .before .before .args in
+    let loop = c .before .before .before .before .before .before .before .loop in
+    let loop-test = c .before .before .before .before .before .before .loop-test in
+    let next-byte = c .before .before .before .before .before .next-byte in
+    let b = c .before .before .before .b in
+    sym (begun-other (loop .inv) (loop-test .taken) (byte-left (now (a .content)) (loop .at) (next-byte .ensures .0) (b .given .1))
+    (sym (c .before .suits .ensures) ∙ not-true _ (c .if1 .taken)))
 
 array-write-head : tie.Need-array-write-head Inv-loop μ-loop
 array-write-head c = search needs
@@ -56,7 +68,14 @@ loop-less : tie.Need-loop-less Inv-loop μ-loop
 loop-less c = search needs
 
 loop-again : tie.Need-loop-again Inv-loop μ-loop
-loop-again c = begun-on (c .before .before .before .before .before .before .before .loop .inv) (c .before .before .before .before .before .before .loop-test .taken) (byte-left (now (c .before .before .before .before .before .before .before .before .before .before .args .content)) (c .before .before .before .before .before .before .before .loop .at) (c .before .before .before .before .before .next-byte .ensures .0) (c .before .before .before .b .given .1)) (sym (c .before .suits .ensures) ∙ not-false _ (c .if1 .left))
+loop-again c =
+    let a = c .before .before .before .before .before .before .before .before .before .before .args in
+    let loop = c .before .before .before .before .before .before .before .loop in
+    let loop-test = c .before .before .before .before .before .before .loop-test in
+    let next-byte = c .before .before .before .before .before .next-byte in
+    let b = c .before .before .before .b in
+    begun-on (loop .inv) (loop-test .taken) (byte-left (now (a .content)) (loop .at) (next-byte .ensures .0) (b .given .1))
+    (sym (c .before .suits .ensures) ∙ not-false _ (c .if1 .left))
 
 slice-aggregate-in-range : tie.Need-slice-aggregate-in-range Inv-loop μ-loop
 slice-aggregate-in-range c = sym (c .before .before .loop .inv .full)
@@ -65,13 +84,21 @@ in-range-requires : tie.Need-in-range-requires Inv-loop μ-loop
 in-range-requires c κs = search needs
 
 returns-3 : tie.Need-returns-3 Inv-loop μ-loop
-returns-3 c = sym (begun-done (c .before .before .before .before .loop .inv) (c .before .before .before .loop-test .left) ∙ rw (← c .before .in-range .ensures, not-true (c .before .in-range .result) (c .if2 .taken)))
+returns-3 c =
+    let loop = c .before .before .before .before .loop in
+    let loop-test = c .before .before .before .loop-test in
+    sym (begun-done (loop .inv) (loop-test .left) ∙ rw (← c .before .in-range .ensures, not-true (c .before .in-range .result) (c .if2 .taken)))
 
 time-ends-requires : tie.Need-time-ends-requires Inv-loop μ-loop
 time-ends-requires c κs = search needs
 
 returns-4 : tie.Need-returns-4 Inv-loop μ-loop
-returns-4 c = c .time-ends .ensures ∙ sym (begun-done (c .before .before .before .before .before .loop .inv) (c .before .before .before .before .loop-test .left) ∙ rw (← c .before .before .in-range .ensures, not-false (c .before .before .in-range .result) (c .before .if2 .left)))
+returns-4 c =
+    let loop = c .before .before .before .before .before .loop in
+    let loop-test = c .before .before .before .before .loop-test in
+    let in-range = c .before .before .in-range in
+    c .time-ends .ensures
+    ∙ sym (begun-done (loop .inv) (loop-test .left) ∙ rw (← in-range .ensures, not-false (in-range .result) (c .before .if2 .left)))
 
 pub is-time-spec : {M : Type 1} → statement M
 is-time-spec =

@@ -19,16 +19,27 @@ enum-told c = search needs
 
 returns : tie.Need-returns
 unfolding ends
-returns c = rw (none-left (now (c .before .before .before .before .args .content)) (c .before .before .before .before .args .from) (c .before .before .next-byte .ensures .0) (c .enum-told .given .1))
+returns c =
+    let a = c .before .before .before .before .args in
+    rw (none-left (now (a .content)) (a .from) (c .before .before .next-byte .ensures .0) (c .enum-told .given .1))
 
 fraction-ends-requires : tie.Need-fraction-ends-requires
 fraction-ends-requires c κs = search needs
 
 returns-2 : tie.Need-returns-2
-returns-2 c = rw (byte-left (now (c .before .before .before .before .before .before .before .args .content)) (c .before .before .before .before .before .before .before .args .from) (c .before .before .before .before .before .next-byte .ensures .0) (c .before .before .before .b .given .1)) (c .fraction-ends .ensures ∙ sym (ends-fraction _ _ (c .before .if1 .taken)))
+returns-2 c =
+    let a = c .before .before .before .before .before .before .before .args in
+    let next-byte = c .before .before .before .before .before .next-byte in
+    let b = c .before .before .before .b in
+    rw (byte-left (now (a .content)) (a .from) (next-byte .ensures .0) (b .given .1))
+    (c .fraction-ends .ensures ∙ sym (ends-fraction _ _ (c .before .if1 .taken)))
 
 returns-3 : tie.Need-returns-3
-returns-3 c = rw (byte-left (now (c .before .before .before .before .before .before .before .args .content)) (c .before .before .before .before .before .before .before .args .from) (c .before .before .before .before .before .next-byte .ensures .0) (c .before .before .before .b .given .1)) (sym (ends-other _ _ (c .before .if1 .left) (c .if2 .taken)))
+returns-3 c =
+    let a = c .before .before .before .before .before .before .before .args in
+    let next-byte = c .before .before .before .before .before .next-byte in
+    let b = c .before .before .before .b in
+    rw (byte-left (now (a .content)) (a .from) (next-byte .ensures .0) (b .given .1)) (sym (ends-other _ _ (c .before .if1 .left) (c .if2 .taken)))
 
 next-byte-requires-2 : tie.Need-next-byte-requires-2
 next-byte-requires-2 c κs = search needs
@@ -40,10 +51,24 @@ enum-told-3 : tie.Need-enum-told-3
 enum-told-3 c = search needs
 
 returns-4 : tie.Need-returns-4
-returns-4 c = rw (byte-left (now (c .before .before .before .before .before .before .before .before .before .before .args .content)) (c .before .before .before .before .before .before .before .before .before .before .args .from) (c .before .before .before .before .before .before .before .before .next-byte .ensures .0) (c .before .before .before .before .before .before .b .given .1)) (sym (ends-here _ _ (c .before .before .before .if2 .left) (none-left (now (c .before .before .before .before .before .before .before .before .before .before .args .content)) _ (c .before .before .next-byte2 .ensures .0) (c .enum-told2 .given .1))))
+returns-4 c =
+    let a = c .before .before .before .before .before .before .before .before .before .before .args in
+    let content = now (a .content) in
+    let next-byte = c .before .before .before .before .before .before .before .before .next-byte in
+    let b = c .before .before .before .before .before .before .b in
+    let if2 = c .before .before .before .if2 in
+    rw (byte-left content (a .from) (next-byte .ensures .0) (b .given .1))
+    (sym (ends-here _ _ (if2 .left) (none-left content _ (c .before .before .next-byte2 .ensures .0) (c .enum-told2 .given .1))))
 
 returns-5 : tie.Need-returns-5
-returns-5 c = rw (byte-left (now (c .before .before .before .before .before .before .before .before .before .before .args .content)) (c .before .before .before .before .before .before .before .before .before .before .args .from) (c .before .before .before .before .before .before .before .before .next-byte .ensures .0) (c .before .before .before .before .before .before .b .given .1)) (sym (ends-later _ _ (c .before .before .before .if2 .left) (byte-left (now (c .before .before .before .before .before .before .before .before .before .before .args .content)) _ (c .before .before .next-byte2 .ensures .0) (c .enum-told3 .given .1))))
+returns-5 c =
+    let a = c .before .before .before .before .before .before .before .before .before .before .args in
+    let content = now (a .content) in
+    let next-byte = c .before .before .before .before .before .before .before .before .next-byte in
+    let b = c .before .before .before .before .before .before .b in
+    let if2 = c .before .before .before .if2 in
+    rw (byte-left content (a .from) (next-byte .ensures .0) (b .given .1))
+    (sym (ends-later _ _ (if2 .left) (byte-left content _ (c .before .before .next-byte2 .ensures .0) (c .enum-told3 .given .1))))
 
 pub time-ends-spec : {M : Type 1} → statement M
 time-ends-spec =

@@ -15,7 +15,9 @@ abbrev μ-loop : tie.MeasureT-loop
 μ-loop table from end rows₀ n₀ at₀ rows n at = end - at
 
 loop-holds : tie.Need-loop-holds Inv-loop μ-loop
-loop-holds c = (refl, omega (arith, c .before .before .pre .stand .ends, c .before .before .pre .room-for), omega (arith, c .before .before .pre .stand .ends), fill-start _ _ _ _)
+loop-holds c =
+    let p = c .before .before .pre in
+    (refl, omega (arith, p .stand .ends, p .room-for), omega (arith, p .stand .ends), fill-start _ _ _ _)
 
 cast-rows : tie.Need-cast-rows Inv-loop μ-loop
 cast-rows c = omega (arith, c .before .before .before .before .pre .few)
@@ -36,13 +38,22 @@ add-at : tie.Need-add-at Inv-loop μ-loop
 add-at c = omega (arith, c .before .before .before .before .before .pre .few)
 
 add-at-2 : tie.Need-add-at-2 Inv-loop μ-loop
-add-at-2 c = omega (arith, c .before .before .before .before .before .pre .few, c .below .ensures, fill-room (c .before .before .loop .inv .3) (c .before .before .before .before .before .pre .values) (c .before .before .before .before .before .pre .stand) (c .before .loop-test .taken))
+add-at-2 c =
+    let p = c .before .before .before .before .before .pre in
+    omega (arith, p .few, c .below .ensures, fill-room (c .before .before .loop .inv .3) (p .values) (p .stand) (c .before .loop-test .taken))
 
 loop-less : tie.Need-loop-less Inv-loop μ-loop
 loop-less c = omega arith
 
 loop-again : tie.Need-loop-again Inv-loop μ-loop
-loop-again c = (rw length-set (c .before .before .loop .inv .0), rw length-set (omega arith), omega (arith, c .below .ensures, fill-room (c .before .before .loop .inv .3) (c .before .before .before .before .before .pre .values) (c .before .before .before .before .before .pre .stand) (c .before .loop-test .taken)), λ f h. rw (c .below .ensures) (fill-on (c .before .before .loop .inv .3) f h (c .before .loop-test .taken) (omega arith)))
+loop-again c =
+    let p = c .before .before .before .before .before .pre in
+    let loop = c .before .before .loop in (
+      rw length-set (loop .inv .0),
+      rw length-set (omega arith),
+      omega (arith, c .below .ensures, fill-room (loop .inv .3) (p .values) (p .stand) (c .before .loop-test .taken)),
+      λ f h. rw (c .below .ensures) (fill-on (loop .inv .3) f h (c .before .loop-test .taken) (omega arith)),
+    )
 
 same-length : tie.Need-same-length Inv-loop μ-loop
 same-length c = c .before .loop .inv .0

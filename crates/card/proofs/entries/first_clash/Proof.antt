@@ -66,7 +66,17 @@ loop-less : tie.Need-loop-less Inv-loop μ-loop Inv-pairs μ-pairs
 loop-less c = omega arith
 
 loop-again : tie.Need-loop-again Inv-loop μ-loop Inv-pairs μ-pairs
-loop-again c = (omega arith, c .before .before .before .before .before .before .loop .inv .1, pair-passed (c .before .before .before .before .before .before .before .before .before .pairs .inv .2) (c .before .before .before .before .before .before .before .before .pairs-test .taken) (c .before .before .before .before .before .before .loop .inv .2) (c .before .before .before .before .before .loop-test .taken) (sym (rw (c .before .before .key-at2 .ensures, c .before .before .before .key-at .ensures) at (c .before .clashes .ensures)) ∙ c .if1 .left))
+loop-again c =
+    let pairs = c .before .before .before .before .before .before .before .before .before .pairs in
+    let pairs-test = c .before .before .before .before .before .before .before .before .pairs-test in
+    let loop = c .before .before .before .before .before .before .loop in
+    let loop-test = c .before .before .before .before .before .loop-test in
+    let key-at = c .before .before .before .key-at in (
+      omega arith,
+      loop .inv .1,
+      pair-passed (pairs .inv .2) (pairs-test .taken) (loop .inv .2) (loop-test .taken)
+          (sym (rw (c .before .before .key-at2 .ensures, key-at .ensures) at (c .before .clashes .ensures)) ∙ c .if1 .left),
+    )
 
 add-i : tie.Need-add-i Inv-loop μ-loop Inv-pairs μ-pairs
 add-i c = omega arith
@@ -75,13 +85,23 @@ pairs-less : tie.Need-pairs-less Inv-loop μ-loop Inv-pairs μ-pairs
 pairs-less c = omega arith
 
 pairs-again : tie.Need-pairs-again Inv-loop μ-loop Inv-pairs μ-pairs
-pairs-again c = (omega arith, c .before .loop .inv .1, pairs-passed (c .before .before .before .before .pairs .inv .2) (c .before .before .before .pairs-test .taken) (c .before .loop .inv .2) (omega arith))
+pairs-again c =
+    let pairs = c .before .before .before .before .pairs in
+    let pairs-test = c .before .before .before .pairs-test in
+    (omega arith, c .before .loop .inv .1, pairs-passed (pairs .inv .2) (pairs-test .taken) (c .before .loop .inv .2) (omega arith))
 
 returns : tie.Need-returns Inv-loop μ-loop Inv-pairs μ-pairs
 returns c = λ ms l. ap isPair (c .before .pairs .inv .1) ∙ walk-end (c .before .pairs .inv .2) (omega arith) ms l
 
 returns-2 : tie.Need-returns-2 Inv-loop μ-loop Inv-pairs μ-pairs
-returns-2 c = pair-found (c .before .before .before .before .before .before .before .before .before .pairs .inv .2) (c .before .before .before .before .before .before .before .before .pairs-test .taken) (c .before .before .before .before .before .before .loop .inv .2) (c .before .before .before .before .before .loop-test .taken) (sym (rw (c .before .before .key-at2 .ensures, c .before .before .before .key-at .ensures) at (c .before .clashes .ensures)) ∙ c .if1 .taken)
+returns-2 c =
+    let pairs = c .before .before .before .before .before .before .before .before .before .pairs in
+    let pairs-test = c .before .before .before .before .before .before .before .before .pairs-test in
+    let loop = c .before .before .before .before .before .before .loop in
+    let loop-test = c .before .before .before .before .before .loop-test in
+    let key-at = c .before .before .before .key-at in
+    pair-found (pairs .inv .2) (pairs-test .taken) (loop .inv .2) (loop-test .taken)
+    (sym (rw (c .before .before .key-at2 .ensures, key-at .ensures) at (c .before .clashes .ensures)) ∙ c .if1 .taken)
 
 pub first-clash-spec : {M : Type 1} → statement M
 first-clash-spec =

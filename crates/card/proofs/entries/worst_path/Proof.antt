@@ -16,7 +16,9 @@ use Rattle.card.proofs.entries.worst_path.Statement.{statement}
 use Rattle.card.proofs.entries.worst_path.Tie as tie
 
 abbrev Inv-loop : tie.InvT-loop
-Inv-loop card card-table row text table rows n missing₀ i₀ missing i = (i ≤ n) × ((f : Forest) → HasFirst f → Stands card-table row f → Kinds f → Walked text table rows 0 n (worst (docOf card f) false) (worst (docOf card f) missing) i)
+Inv-loop card card-table row text table rows n missing₀ i₀ missing i =
+    (i ≤ n) × ((f : Forest) → HasFirst f → Stands card-table row f → Kinds f → Walked text table rows 0 n (worst (docOf card f) false)
+    (worst (docOf card f) missing) i)
 
 abbrev μ-loop : tie.MeasureT-loop
 μ-loop card card-table row text table rows n missing₀ i₀ missing i = n - i
@@ -47,7 +49,16 @@ is-in-array-requires c κs = search needs
 
 returns : tie.Need-returns Inv-loop μ-loop
 unfolding conts worstWalk
-returns c = λ f ms s h k l. worst-hit (docOf (now (c .before .before .before .before .before .before .before .before .before .before .before .before .before .args .card)) f) (c .before .before .before .before .before .before .before .loop .missing) (c .before .before .before .before .before .before .before .loop .inv .1 f s h k) (c .before .before .before .before .before .before .loop-test .taken) (rw (c .before .before .before .start .ensures, c .before .before .before .before .key-at .ensures) at (c .before .before .follow .ensures f s h k)) (sym (c .before .is-in-array .ensures) ∙ c .if1 .taken) ms l
+returns c =
+    λ f ms s h k l.
+    let a = c .before .before .before .before .before .before .before .before .before .before .before .before .before .args in
+    let loop = c .before .before .before .before .before .before .before .loop in
+    let loop-test = c .before .before .before .before .before .before .loop-test in
+    let key-at = c .before .before .before .before .key-at in
+    let start = c .before .before .before .start in
+    worst-hit (docOf (now (a .card)) f) (loop .missing) (loop .inv .1 f s h k) (loop-test .taken)
+    (rw (start .ensures, key-at .ensures) at (c .before .before .follow .ensures f s h k)) (sym (c .before .is-in-array .ensures) ∙ c .if1 .taken) ms
+    l
 
 or-no-object-requires : tie.Need-or-no-object-requires Inv-loop μ-loop
 or-no-object-requires c κs = search needs
@@ -60,7 +71,18 @@ loop-less c = omega arith
 
 loop-again : tie.Need-loop-again Inv-loop μ-loop
 unfolding conts
-loop-again c = (omega arith, λ f s h k. worst-on (docOf (now (c .before .before .before .before .before .before .before .before .before .before .before .before .before .before .args .card)) f) (c .before .before .before .before .before .before .before .before .loop .missing) (c .before .before .before .before .before .before .before .before .loop .inv .1 f s h k) (c .before .before .before .before .before .before .before .loop-test .taken) (rw (c .before .before .before .before .start .ensures, c .before .before .before .before .before .key-at .ensures) at (c .before .before .before .follow .ensures f s h k)) (sym (c .before .before .is-in-array .ensures) ∙ c .before .if1 .left) (c .or-no-object .ensures))
+loop-again c =
+    let a = c .before .before .before .before .before .before .before .before .before .before .before .before .before .before .args in
+    let loop = c .before .before .before .before .before .before .before .before .loop in
+    let loop-test = c .before .before .before .before .before .before .before .loop-test in
+    let key-at = c .before .before .before .before .before .key-at in
+    let start = c .before .before .before .before .start in
+    let follow = c .before .before .before .follow in (
+      omega arith,
+      λ f s h k. worst-on (docOf (now (a .card)) f) (loop .missing) (loop .inv .1 f s h k) (loop-test .taken)
+          (rw (start .ensures, key-at .ensures) at (follow .ensures f s h k)) (sym (c .before .before .is-in-array .ensures) ∙ c .before .if1 .left)
+          (c .or-no-object .ensures),
+    )
 
 returns-2 : tie.Need-returns-2 Inv-loop μ-loop
 unfolding worstWalk

@@ -14,19 +14,38 @@ enum-known-n : tie.Need-enum-known-n
 enum-known-n c = search needs
 
 judge-rows-requires : tie.Need-judge-rows-requires
-judge-rows-requires c κs = (read-into (now (c .before .before .before .before .before .before .before .before .before .before .args .text)) (now (c .before .before .before .before .before .before .before .before .before .before .args .table)) (c .before .before .before .before .before .before .read .last .1 .0) (c .before .before .n .given .0 .0) (c .before .before .before .before .before .before .read .kept .1 .0) (rw (c .before .before .n .given .1) at (c .before .before .before .before .before .before .read .ensures .0)) (c .before .before .before .before .before .before .read .ensures .1))
+judge-rows-requires c κs =
+    let a = c .before .before .before .before .before .before .before .before .before .before .args in
+    let read = c .before .before .before .before .before .before .read in
+    let n = c .before .before .n in
+    (read-into (now (a .text)) (now (a .table)) (read .last .1 .0) (n .given .0 .0) (read .kept .1 .0) (rw (n .given .1) at (read .ensures .0))
+    (read .ensures .1))
 
 same-length : tie.Need-same-length
 same-length c = search needs
 
 returns : tie.Need-returns
-returns c = text-refused (now (c .before .before .before .before .before .before .before .before .before .args .text)) (now (c .before .before .before .before .before .before .before .before .before .args .table)) (c .before .before .before .before .before .read .last .1 .0) (c .before .r .given .0 .0) (rw (c .before .r .given .1) at (c .before .before .before .before .before .read .ensures .0)) (c .before .before .before .before .before .read .ensures .1)
+returns c =
+    let a = c .before .before .before .before .before .before .before .before .before .args in
+    let read = c .before .before .before .before .before .read in
+    text-refused (now (a .text)) (now (a .table)) (read .last .1 .0) (c .before .r .given .0 .0) (rw (c .before .r .given .1) at (read .ensures .0))
+    (read .ensures .1)
 
 same-length-2 : tie.Need-same-length-2
 same-length-2 c = search needs
 
 returns-2 : tie.Need-returns-2
-returns-2 c = let (f, h) = (read-into (now (c .before .before .before .before .before .before .before .before .before .before .before .before .before .args .text)) (now (c .before .before .before .before .before .before .before .before .before .before .before .before .before .args .table)) (c .before .before .before .before .before .before .before .before .before .read .last .1 .0) (c .before .before .before .before .before .n .given .0 .0) (c .before .before .before .before .before .before .before .before .before .read .kept .1 .0) (rw (c .before .before .before .before .before .n .given .1) at (c .before .before .before .before .before .before .before .before .before .read .ensures .0)) (c .before .before .before .before .before .before .before .before .before .read .ensures .1)) in rows-judged (now (c .before .before .before .before .before .before .before .before .before .before .before .before .before .args .text)) (now (c .before .before .before .before .before .before .before .before .before .before .before .before .before .args .table)) (c .before .before .before .before .before .before .before .before .before .read .last .1 .0) (c .before .before .judge-rows .last .1 .0) (c .before .before .before .before .before .n .given .0 .0) f (c .before .before .judge-rows .result) (c .before .before .before .before .before .before .before .before .before .read .kept .1 .0) h (c .before .before .judge-rows .ensures f h)
+returns-2 c =
+    let a = c .before .before .before .before .before .before .before .before .before .before .before .before .before .args in
+    let text = now (a .text) in
+    let table = now (a .table) in
+    let read = c .before .before .before .before .before .before .before .before .before .read in
+    let n = c .before .before .before .before .before .n in
+    let judge-rows = c .before .before .judge-rows in
+    let (f, h) =
+    (read-into text table (read .last .1 .0) (n .given .0 .0) (read .kept .1 .0) (rw (n .given .1) at (read .ensures .0)) (read .ensures .1)) in
+    rows-judged text table (read .last .1 .0) (judge-rows .last .1 .0) (n .given .0 .0) f (judge-rows .result) (read .kept .1 .0) h
+    (judge-rows .ensures f h)
 
 pub judge-spec : {M : Type 1} → statement M
 judge-spec =

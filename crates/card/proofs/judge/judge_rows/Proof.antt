@@ -36,7 +36,18 @@ same-length-2 : tie.Need-same-length-2
 same-length-2 c = search needs
 
 returns-2 : tie.Need-returns-2
-returns-2 c = λ f h. let e = (sym (c .before .before .before .before .before .before .before .before .before .before .breach-at .ensures f (card-value h) (card-kinds h)) ∙ ap foundOf (c .before .before .before .before .before .before .before .before .row .given .1)) in rw e (ap (λ x. Failed (Card x)) (c .fault-of .ensures ∙ ap (faultOf (c .before .before .before .before .before .before .before .before .row .given .0 .1 .0)) (c .before .before .before .before .before .value-start .ensures ∙ sym (card-place h (c .before .before .before .before .before .before .before .before .row .given .0 .0) (c .before .before .before .before .before .before .before .before .row .given .0 .1 .0) e))), c .before .before .before .clear-words .ensures)
+returns-2 c =
+    λ f h.
+    let breach-at = c .before .before .before .before .before .before .before .before .before .before .breach-at in
+    let row = c .before .before .before .before .before .before .before .before .row in
+    let value-start = c .before .before .before .before .before .value-start in
+    let clear-words = c .before .before .before .clear-words in
+    let e = (sym (breach-at .ensures f (card-value h) (card-kinds h)) ∙ ap foundOf (row .given .1)) in
+    rw e (
+      ap (λ x. Failed (Card x)) (c .fault-of .ensures
+          ∙ ap (faultOf (row .given .0 .1 .0)) (value-start .ensures ∙ sym (card-place h (row .given .0 .0) (row .given .0 .1 .0) e))),
+      clear-words .ensures,
+    )
 
 pub judge-rows-spec : {M : Type 1} → statement M
 judge-rows-spec =

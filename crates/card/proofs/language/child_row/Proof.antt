@@ -23,10 +23,16 @@ add-end : tie.Need-add-end
 add-end c = omega (arith, c .below .ensures, far (c .before .before .before .before .before .before .pre .1))
 
 named-row-requires : tie.Need-named-row-requires
-named-row-requires c κs = (insideAt (c .before .before .before .before .before .before .pre .0), rw (c .below .ensures) (inside-to (c .before .before .before .before .before .before .pre .1)))
+named-row-requires c κs =
+    let p = c .before .before .before .before .before .before .pre in
+    (insideAt (p .0), rw (c .below .ensures) (inside-to (p .1)))
 
 returns-2 : tie.Need-returns-2
-returns-2 c = λ g limit h. child-is h _ _ (sym (c .before .before .before .kind .ensures) ∙ c .before .before .if1 .left) (c .named-row .result) (rw (c .before .below .ensures) at (c .named-row .ensures (insideAt g) (rw (c .before .below .ensures) (inside-to (h .value)))))
+returns-2 c =
+    λ g limit h.
+    let kind = c .before .before .before .kind in
+    child-is h _ _ (sym (kind .ensures) ∙ c .before .before .if1 .left) (c .named-row .result)
+    (rw (c .before .below .ensures) at (c .named-row .ensures (insideAt g) (rw (c .before .below .ensures) (inside-to (h .value)))))
 
 pub child-row-spec : {M : Type 1} → statement M
 child-row-spec =

@@ -26,22 +26,43 @@ name-is-requires : tie.Need-name-is-requires Inv-loop μ-loop
 name-is-requires c κs = search needs
 
 returns : tie.Need-returns Inv-loop μ-loop
-returns c = λ f h. seek-hit _ _ _ _ _ _ (c .before .before .before .before .before .loop .inv) f h (c .before .before .before .before .loop-test .taken) (sym (rw (c .before .before .before .name-start .ensures, c .before .before .name-end .ensures) at (c .before .name-is .ensures)) ∙ c .if1 .taken)
+returns c =
+    λ f h.
+    let loop = c .before .before .before .before .before .loop in
+    let loop-test = c .before .before .before .before .loop-test in
+    let name-start = c .before .before .before .name-start in
+    seek-hit _ _ _ _ _ _ (loop .inv) f h (loop-test .taken)
+    (sym (rw (name-start .ensures, c .before .before .name-end .ensures) at (c .before .name-is .ensures)) ∙ c .if1 .taken)
 
 below-requires : tie.Need-below-requires Inv-loop μ-loop
 below-requires c κs = search needs
 
 add-at : tie.Need-add-at Inv-loop μ-loop
-add-at c = omega (arith, seek-room _ _ _ _ _ _ (c .before .before .before .before .before .before .loop .inv) (c .before .before .before .before .before .before .before .before .before .before .pre .0) (c .before .before .before .before .before .before .before .before .before .before .pre .1) (c .before .before .before .before .before .loop-test .taken))
+add-at c =
+    let p = c .before .before .before .before .before .before .before .before .before .before .pre in
+    let loop = c .before .before .before .before .before .before .loop in
+    let loop-test = c .before .before .before .before .before .loop-test in
+    omega (arith, seek-room _ _ _ _ _ _ (loop .inv) (p .0) (p .1) (loop-test .taken))
 
 add-at-2 : tie.Need-add-at-2 Inv-loop μ-loop
-add-at-2 c = omega (arith, c .below .ensures, seek-room _ _ _ _ _ _ (c .before .before .before .before .before .before .loop .inv) (c .before .before .before .before .before .before .before .before .before .before .pre .0) (c .before .before .before .before .before .before .before .before .before .before .pre .1) (c .before .before .before .before .before .loop-test .taken))
+add-at-2 c =
+    let p = c .before .before .before .before .before .before .before .before .before .before .pre in
+    let loop = c .before .before .before .before .before .before .loop in
+    let loop-test = c .before .before .before .before .before .loop-test in
+    omega (arith, c .below .ensures, seek-room _ _ _ _ _ _ (loop .inv) (p .0) (p .1) (loop-test .taken))
 
 loop-less : tie.Need-loop-less Inv-loop μ-loop
 loop-less c = omega arith
 
 loop-again : tie.Need-loop-again Inv-loop μ-loop
-loop-again c = λ f h. rw (c .below .ensures) (seek-next _ _ _ _ _ _ (c .before .before .before .before .before .before .loop .inv) f h (c .before .before .before .before .before .loop-test .taken) (sym (rw (c .before .before .before .before .name-start .ensures, c .before .before .before .name-end .ensures) at (c .before .before .name-is .ensures)) ∙ c .before .if1 .left))
+loop-again c =
+    λ f h.
+    let loop = c .before .before .before .before .before .before .loop in
+    let loop-test = c .before .before .before .before .before .loop-test in
+    let name-start = c .before .before .before .before .name-start in
+    let name-end = c .before .before .before .name-end in
+    rw (c .below .ensures) (seek-next _ _ _ _ _ _ (loop .inv) f h (loop-test .taken)
+    (sym (rw (name-start .ensures, name-end .ensures) at (c .before .before .name-is .ensures)) ∙ c .before .if1 .left))
 
 returns-2 : tie.Need-returns-2 Inv-loop μ-loop
 returns-2 c = λ f h. seek-none _ _ _ _ _ _ (c .before .loop .inv) f h (omega arith)

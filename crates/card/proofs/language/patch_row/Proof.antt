@@ -22,13 +22,21 @@ enum-told : tie.Need-enum-told
 enum-told c = search needs
 
 returns : tie.Need-returns
-returns c = λ g limit h. no-patch-in (now (c .before .before .before .before .before .before .before .args .language)) (docOf (now (c .before .before .before .before .before .before .before .args .text)) g) (rw (c .enum-told .given .1) at (c .before .before .child-row .ensures g limit h))
+returns c =
+    λ g limit h.
+    let a = c .before .before .before .before .before .before .before .args in
+    no-patch-in (now (a .language)) (docOf (now (a .text)) g) (rw (c .enum-told .given .1) at (c .before .before .child-row .ensures g limit h))
 
 child-row-requires-2 : tie.Need-child-row-requires-2
 child-row-requires-2 c κs = let g = c .before .before .before .before .before .before .before .before .pre .0 in let a = at-row (rw (c .before .all .given .1) at (c .before .before .before .child-row .ensures g (0 + size g) (record { value = c .before .before .before .before .before .before .before .before .pre .1; within = omega arith }))) in (a .found, a .held .value)
 
 returns-2 : tie.Need-returns-2
-returns-2 c = λ g limit h. let a = at-row (rw (c .before .before .all .given .1) at (c .before .before .before .before .child-row .ensures g limit h)) in patch-in (now (c .before .before .before .before .before .before .before .before .before .args .language)) (docOf (now (c .before .before .before .before .before .before .before .before .before .args .text)) g) a (c .child-row2 .result) (c .child-row2 .ensures (a .found) limit (a .held))
+returns-2 c =
+    λ g limit h.
+    let args = c .before .before .before .before .before .before .before .before .before .args in
+    let child-row = c .before .before .before .before .child-row in
+    let a = at-row (rw (c .before .before .all .given .1) at (child-row .ensures g limit h)) in
+    patch-in (now (args .language)) (docOf (now (args .text)) g) a (c .child-row2 .result) (c .child-row2 .ensures (a .found) limit (a .held))
 
 pub patch-row-spec : {M : Type 1} → statement M
 patch-row-spec =

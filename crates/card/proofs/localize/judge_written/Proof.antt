@@ -23,7 +23,12 @@ same-length : tie.Need-same-length
 same-length c = search needs
 
 returns : tie.Need-returns
-returns c = λ room. judged-passed room (rw (c .before .rows .given .1) at (c .before .before .before .before .before .judge .ensures)) (length-take-le (c .before .before .before .before .before .before .before .before .before .before .args .n) (now (c .before .before .before .before .before .before .before .before .before .before .args .out)) (c .before .before .before .before .before .before .before .before .before .before .pre))
+returns c =
+    λ room.
+    let a = c .before .before .before .before .before .before .before .before .before .before .args in
+    let p = c .before .before .before .before .before .before .before .before .before .before .pre in
+    let judge = c .before .before .before .before .before .judge in
+    judged-passed room (rw (c .before .rows .given .1) at (judge .ensures)) (length-take-le (a .n) (now (a .out)) p)
 
 same-length-2 : tie.Need-same-length-2
 same-length-2 c = search needs

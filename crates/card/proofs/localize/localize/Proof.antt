@@ -39,7 +39,13 @@ same-length-2 : tie.Need-same-length-2
 same-length-2 c = search needs
 
 returns : tie.Need-returns
-returns c = denied-left (c .before .before .before .before .before .before .before .before .before .before .before .before .before .before .before .localize-in .ensures) (omega arith) (c .before .before .before .before .before .before .before .before .before .before .bytes-used .ensures) (c .before .before .before .before .before .before .before .before .clear-bytes .ensures) (omega arith) (c .before .before .before .before .enum-told .given .1) (c .before .before .clear-words .ensures)
+returns c =
+    let localize-in = c .before .before .before .before .before .before .before .before .before .before .before .before .before .before .before .localize-in in
+    let bytes-used = c .before .before .before .before .before .before .before .before .before .before .bytes-used in
+    let clear-bytes = c .before .before .before .before .before .before .before .before .clear-bytes in
+    let enum-told = c .before .before .before .before .enum-told in
+    denied-left (localize-in .ensures) (omega arith) (bytes-used .ensures) (clear-bytes .ensures) (omega arith) (enum-told .given .1)
+    (c .before .before .clear-words .ensures)
 
 same-length-3 : tie.Need-same-length-3
 same-length-3 c = search needs
@@ -48,7 +54,11 @@ same-length-4 : tie.Need-same-length-4
 same-length-4 c = search needs
 
 returns-2 : tie.Need-returns-2
-returns-2 c = written-left (c .before .before .before .before .before .before .before .before .before .before .before .localize-in .ensures) (omega arith) (c .before .before .before .before .before .before .bytes-used .ensures) (c .before .before .before .before .clear-bytes .ensures) (c .enum-told2 .given .1)
+returns-2 c =
+    let localize-in = c .before .before .before .before .before .before .before .before .before .before .before .localize-in in
+    let bytes-used = c .before .before .before .before .before .before .bytes-used in
+    let clear-bytes = c .before .before .before .before .clear-bytes in
+    written-left (localize-in .ensures) (omega arith) (bytes-used .ensures) (clear-bytes .ensures) (c .enum-told2 .given .1)
 
 pub localize-spec : {M : Type 1} → statement M
 localize-spec =

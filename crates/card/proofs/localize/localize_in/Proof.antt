@@ -18,13 +18,18 @@ same-length : tie.Need-same-length
 same-length c = search needs
 
 returns : tie.Need-returns
-returns c = given-so (now (c .before .before .before .before .before .before .before .before .before .before .before .args .language)) (now (c .before .before .before .before .before .before .before .before .before .before .before .args .out)) (rw (c .before .r .given .1) at (c .before .before .before .before .before .judge .ensures))
+returns c =
+    let a = c .before .before .before .before .before .before .before .before .before .before .before .args in
+    let judge = c .before .before .before .before .before .judge in
+    given-so (now (a .language)) (now (a .out)) (rw (c .before .r .given .1) at (judge .ensures))
 
 enum-told : tie.Need-enum-told
 enum-told c = search needs
 
 compose-for-requires : tie.Need-compose-for-requires
-compose-for-requires c κs = card-there (rw (c .before .before .enum-told .given .1) at (c .before .before .before .before .before .before .judge .ensures)) (omega arith)
+compose-for-requires c κs =
+    let judge = c .before .before .before .before .before .before .judge in
+    card-there (rw (c .before .before .enum-told .given .1) at (judge .ensures)) (omega arith)
 
 enum-known-r-2 : tie.Need-enum-known-r-2
 enum-known-r-2 c = search needs
@@ -33,7 +38,15 @@ enum-known-n : tie.Need-enum-known-n
 enum-known-n c = search needs
 
 judge-written-requires : tie.Need-judge-written-requires
-judge-written-requires c κs = fits-so (rw (c .before .before .before .before .before .before .before .before .before .before .enum-told .given .1) at (c .before .before .before .before .before .before .before .before .before .before .before .before .before .before .judge .ensures)) (omega arith) (length (now (c .before .before .before .before .before .before .before .before .before .before .before .before .before .before .before .before .before .before .before .before .args .out))) (now (c .before .before .before .before .before .before .before .before .before .before .before .before .before .before .before .before .before .before .before .before .args .language)) (rw (c .before .before .before .n .given .1) at (c .before .before .before .before .before .before .before .compose-for .ensures))
+judge-written-requires c κs =
+    let early = c .before .before .before .before .before .before .before .before .before .before .before .before in
+    let a = early .before .before .before .before .before .before .before .before .args in
+    let judge = c .before .before .before .before .before .before .before .before .before .before .before .before .before .before .judge in
+    let enum-told = c .before .before .before .before .before .before .before .before .before .before .enum-told in
+    let compose-for = c .before .before .before .before .before .before .before .compose-for in
+    let n = c .before .before .before .n in
+    fits-so (rw (enum-told .given .1) at (judge .ensures)) (omega arith) (length (now (a .out))) (now (a .language))
+    (rw (n .given .1) at (compose-for .ensures))
 
 same-length-2 : tie.Need-same-length-2
 same-length-2 c = search needs
@@ -42,7 +55,14 @@ same-length-3 : tie.Need-same-length-3
 same-length-3 c = search needs
 
 returns-2 : tie.Need-returns-2
-returns-2 c = refused-so (rw (c .before .before .before .before .before .before .before .before .enum-told .given .1) at (c .before .before .before .before .before .before .before .before .before .before .before .before .judge .ensures)) (omega arith) (length (now (c .before .before .before .before .before .before .before .before .before .before .before .before .before .before .before .before .before .before .args .out))) (now (c .before .before .before .before .before .before .before .before .before .before .before .before .before .before .before .before .before .before .args .language)) _ _ (rw (c .before .r2 .given .1) at (c .before .before .before .before .before .compose-for .ensures))
+returns-2 c =
+    let early = c .before .before .before .before .before .before .before .before .before .before .before .before in
+    let a = early .before .before .before .before .before .before .args in
+    let judge = c .before .before .before .before .before .before .before .before .before .before .before .before .judge in
+    let enum-told = c .before .before .before .before .before .before .before .before .enum-told in
+    let compose-for = c .before .before .before .before .before .compose-for in
+    refused-so (rw (enum-told .given .1) at (judge .ensures)) (omega arith) (length (now (a .out))) (now (a .language)) _ _
+    (rw (c .before .r2 .given .1) at (compose-for .ensures))
 
 same-length-4 : tie.Need-same-length-4
 same-length-4 c = search needs
@@ -51,7 +71,16 @@ same-length-5 : tie.Need-same-length-5
 same-length-5 c = search needs
 
 returns-3 : tie.Need-returns-3
-returns-3 c = written-so (rw (c .before .before .before .before .before .before .before .before .before .before .before .before .before .enum-told .given .1) at (c .before .before .before .before .before .before .before .before .before .before .before .before .before .before .before .before .before .judge .ensures)) (omega arith) (length (now (c .before .before .before .before .before .before .before .before .before .before .before .before .before .before .before .before .before .before .before .before .before .before .before .args .out))) (now (c .before .before .before .before .before .before .before .before .before .before .before .before .before .before .before .before .before .before .before .before .before .before .before .args .language)) (rw (c .before .before .before .before .before .before .n .given .1) at (c .before .before .before .before .before .before .before .before .before .before .compose-for .ensures)) (c .before .before .judge-written .ensures (length (now (c .before .before .before .before .before .before .before .before .before .before .before .before .before .before .before .before .before .before .before .before .before .before .before .args .out))))
+returns-3 c =
+    let early = c .before .before .before .before .before .before .before .before .before .before .before .before in
+    let a = early .before .before .before .before .before .before .before .before .before .before .before .args in
+    let out = now (a .out) in
+    let judge = early .before .before .before .before .before .judge in
+    let enum-told = c .before .before .before .before .before .before .before .before .before .before .before .before .before .enum-told in
+    let compose-for = c .before .before .before .before .before .before .before .before .before .before .compose-for in
+    let n = c .before .before .before .before .before .before .n in
+    written-so (rw (enum-told .given .1) at (judge .ensures)) (omega arith) (length out) (now (a .language))
+    (rw (n .given .1) at (compose-for .ensures)) (c .before .before .judge-written .ensures (length out))
 
 pub localize-in-spec : {M : Type 1} → statement M
 localize-in-spec =

@@ -35,7 +35,18 @@ names-same-requires c κs = search needs
 
 returns : tie.Need-returns Inv-loop μ-loop
 unfolding conts
-returns c = λ f h. seek-hit (now (c .before .before .before .before .before .before .before .before .before .before .before .args .text)) (now (c .before .before .before .before .before .before .before .before .before .before .before .args .table)) (c .before .before .before .before .before .before .before .before .before .before .before .args .from) (c .before .before .before .before .before .before .before .before .before .before .before .args .end) (nameLeft (c .before .before .before .before .before .before .before .before .before .before .before .args .is-part) (now (c .before .before .before .before .before .before .before .before .before .before .before .args .key)) (c .before .before .before .before .before .before .before .before .before .before .before .args .c)) (c .before .before .before .before .before .before .before .loop .at) (c .before .before .before .before .before .before .before .loop .inv) f h (c .before .before .before .before .before .before .loop-test .taken) (sym (rw (c .before .before .before .part .ensures, c .before .before .start .ensures, c .before .before .before .before .before .name-start .ensures, c .before .before .before .before .name-end .ensures) at (c .before .names-same .ensures)) ∙ c .if1 .taken)
+returns c =
+    λ f h.
+    let a = c .before .before .before .before .before .before .before .before .before .before .before .args in
+    let loop = c .before .before .before .before .before .before .before .loop in
+    let loop-test = c .before .before .before .before .before .before .loop-test in
+    let name-start = c .before .before .before .before .before .name-start in
+    let name-end = c .before .before .before .before .name-end in
+    let part = c .before .before .before .part in
+    seek-hit (now (a .text)) (now (a .table)) (a .from) (a .end) (nameLeft (a .is-part) (now (a .key)) (a .c)) (loop .at) (loop .inv) f h
+    (loop-test .taken)
+    (sym (rw (part .ensures, c .before .before .start .ensures, name-start .ensures, name-end .ensures) at (c .before .names-same .ensures))
+    ∙ c .if1 .taken)
 
 below-requires : tie.Need-below-requires Inv-loop μ-loop
 below-requires c κs = search needs
@@ -54,10 +65,26 @@ loop-less c = omega arith
 
 loop-again : tie.Need-loop-again Inv-loop μ-loop
 unfolding conts
-loop-again c = λ f h. rw (c .below .ensures) (seek-next (now (c .before .before .before .before .before .before .before .before .before .before .before .before .args .text)) (now (c .before .before .before .before .before .before .before .before .before .before .before .before .args .table)) (c .before .before .before .before .before .before .before .before .before .before .before .before .args .from) (c .before .before .before .before .before .before .before .before .before .before .before .before .args .end) (nameLeft (c .before .before .before .before .before .before .before .before .before .before .before .before .args .is-part) (now (c .before .before .before .before .before .before .before .before .before .before .before .before .args .key)) (c .before .before .before .before .before .before .before .before .before .before .before .before .args .c)) (c .before .before .before .before .before .before .before .before .loop .at) (c .before .before .before .before .before .before .before .before .loop .inv) f h (c .before .before .before .before .before .before .before .loop-test .taken) (sym (rw (c .before .before .before .before .part .ensures, c .before .before .before .start .ensures, c .before .before .before .before .before .before .name-start .ensures, c .before .before .before .before .before .name-end .ensures) at (c .before .before .names-same .ensures)) ∙ c .before .if1 .left))
+loop-again c =
+    λ f h.
+    let a = c .before .before .before .before .before .before .before .before .before .before .before .before .args in
+    let loop = c .before .before .before .before .before .before .before .before .loop in
+    let loop-test = c .before .before .before .before .before .before .before .loop-test in
+    let name-start = c .before .before .before .before .before .before .name-start in
+    let name-end = c .before .before .before .before .before .name-end in
+    let part = c .before .before .before .before .part in
+    let start = c .before .before .before .start in
+    rw (c .below .ensures) (seek-next (now (a .text)) (now (a .table)) (a .from) (a .end) (nameLeft (a .is-part) (now (a .key)) (a .c)) (loop .at)
+    (loop .inv) f h (loop-test .taken)
+    (sym (rw (part .ensures, start .ensures, name-start .ensures, name-end .ensures) at (c .before .before .names-same .ensures))
+    ∙ c .before .if1 .left))
 
 returns-2 : tie.Need-returns-2 Inv-loop μ-loop
-returns-2 c = λ f h. seek-none (now (c .before .before .before .before .before .args .text)) (now (c .before .before .before .before .before .args .table)) (c .before .before .before .before .before .args .from) (c .before .before .before .before .before .args .end) (nameLeft (c .before .before .before .before .before .args .is-part) (now (c .before .before .before .before .before .args .key)) (c .before .before .before .before .before .args .c)) (c .before .loop .at) (c .before .loop .inv) f h (omega arith)
+returns-2 c =
+    λ f h.
+    let a = c .before .before .before .before .before .args in
+    seek-none (now (a .text)) (now (a .table)) (a .from) (a .end) (nameLeft (a .is-part) (now (a .key)) (a .c)) (c .before .loop .at)
+    (c .before .loop .inv) f h (omega arith)
 
 pub member-row-spec : {M : Type 1} → statement M
 member-row-spec =

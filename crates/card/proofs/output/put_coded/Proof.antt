@@ -32,11 +32,17 @@ same-length c = search needs
 returns : tie.Need-returns
 unfolding partOf
 returns c =
-    let b = c .before .before .before .before .before .before .before .before .before .before .before .before .before .before .before .before .args .b in
-    let high = rw (c .before .before .before .before .before .before .before .before .small-hex .ensures) at (c .before .before .before .before .before .before .before .put-byte .ensures) in
-    let low = rw (c .before .before .before .small-hex2 .ensures) at (c .before .before .put-byte2 .ensures) in
+    let early = c .before .before .before .before .before .before .before .before .before .before .before .before in
+    let a = early .before .before .before .before .args in
+    let put-part = c .before .before .before .before .before .before .before .before .before .before .before .before .put-part in
+    let small-hex = c .before .before .before .before .before .before .before .before .small-hex in
+    let put-byte = c .before .before .before .before .before .before .before .put-byte in
+    let small-hex2 = c .before .before .before .small-hex2 in
+    let b = a .b in
+    let high = rw (small-hex .ensures) at (put-byte .ensures) in
+    let low = rw (small-hex2 .ensures) at (c .before .before .put-byte2 .ensures) in
     wrote-then (92 ∷ 117 ∷ 48 ∷ 48 ∷ smallHex (b / 16) ∷ []) (smallHex (b % 16) ∷ [])
-    (wrote-then (92 ∷ 117 ∷ 48 ∷ 48 ∷ []) (smallHex (b / 16) ∷ []) (c .before .before .before .before .before .before .before .before .before .before .before .before .put-part .ensures) high) low
+    (wrote-then (92 ∷ 117 ∷ 48 ∷ 48 ∷ []) (smallHex (b / 16) ∷ []) (put-part .ensures) high) low
 
 pub put-coded-spec : {M : Type 1} → statement M
 put-coded-spec =

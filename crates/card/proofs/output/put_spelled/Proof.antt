@@ -39,19 +39,33 @@ put-byte-requires-2 : tie.Need-put-byte-requires-2 Inv-loop μ-loop
 put-byte-requires-2 c κs = tt
 
 -- the byte that is handed out, and those after it
-handed : (c : tie.After-slice-known4 Inv-loop μ-loop) → let k = now (c .before .before .before .before .before .before .before .before .before .before .before .before .before .before .before .args .key) in
+handed : (c : tie.After-slice-known4 Inv-loop μ-loop)
+    → let k = now (c .before .before .before .before .before .before .before .before .before .before .before .before .before .before .before .args .key) in
     partLeft (rest k (c .before .before .before .before .before .before .before .before .loop .c)) ≡ c .before .before .before .before .before .b .given .0 .0 ∷ partLeft (rest k (c .before .before .before .before .before .b .given .0 .1 .0))
-handed c = named true (now (c .before .before .before .before .before .before .before .before .before .before .before .before .before .before .before .args .key)) (c .before .before .before .before .before .before .before .before .loop .c) (c .before .before .before .before .before .before .before .name-byte .ensures) (c .before .before .before .before .before .b .given .1)
+handed c =
+    let a = c .before .before .before .before .before .before .before .before .before .before .before .before .before .before .before .args in
+    let loop = c .before .before .before .before .before .before .before .before .loop in
+    let name-byte = c .before .before .before .before .before .before .before .name-byte in
+    let b = c .before .before .before .before .before .b in
+    named true (now (a .key)) (loop .c) (name-byte .ensures) (b .given .1)
 
 same-length : tie.Need-same-length Inv-loop μ-loop
-same-length c = c .before .before .put-byte2 .kept .0 ∙ left-length (c .before .before .before .before .before .before .before .loop .inv) ∙ c .before .before .before .before .before .before .before .before .before .before .put-byte .kept .0
+same-length c =
+    let put-byte = c .before .before .before .before .before .before .before .before .before .before .put-byte in
+    let loop = c .before .before .before .before .before .before .before .loop in
+    c .before .before .put-byte2 .kept .0 ∙ left-length (loop .inv) ∙ put-byte .kept .0
 
 returns : tie.Need-returns Inv-loop μ-loop
 returns c =
-    let n = partLeft (rest (now (c .before .before .before .before .before .before .before .before .before .before .before .before .before .before .args .key)) (c .before .before .before .before .before .before .before .before .before .before .before .before .before .before .args .from)) in
-    let l = left-as (ap (λ m. spelledBytes m ++ (34 ∷ [])) (over (now (c .before .before .before .before .before .before .before .before .before .before .before .before .before .before .args .key)) (c .before .before .before .before .before .before .before .loop .c) (c .before .before .before .before .before .before .name-byte .ensures) (c .before .before .before .before .enum-told .given .1))) (c .before .before .before .before .before .before .before .loop .inv) in
-    wrote-then (34 ∷ []) (spelledBytes n ++ (34 ∷ [])) (c .before .before .before .before .before .before .before .before .before .before .put-byte .ensures)
-    (left-last (34 ∷ []) l (c .before .before .put-byte2 .ensures))
+    let a = c .before .before .before .before .before .before .before .before .before .before .before .before .before .before .args in
+    let key = now (a .key) in
+    let put-byte = c .before .before .before .before .before .before .before .before .before .before .put-byte in
+    let loop = c .before .before .before .before .before .before .before .loop in
+    let name-byte = c .before .before .before .before .before .before .name-byte in
+    let enum-told = c .before .before .before .before .enum-told in
+    let n = partLeft (rest key (a .from)) in
+    let l = left-as (ap (λ m. spelledBytes m ++ (34 ∷ [])) (over key (loop .c) (name-byte .ensures) (enum-told .given .1))) (loop .inv) in
+    wrote-then (34 ∷ []) (spelledBytes n ++ (34 ∷ [])) (put-byte .ensures) (left-last (34 ∷ []) l (c .before .before .put-byte2 .ensures))
 
 put-spelled-byte-requires : tie.Need-put-spelled-byte-requires Inv-loop μ-loop
 put-spelled-byte-requires c κs = tt
@@ -61,11 +75,14 @@ loop-less c = omega (arith, ap length (handed c))
 
 loop-again : tie.Need-loop-again Inv-loop μ-loop
 loop-again c =
-    let k = now (c .before .before .before .before .before .before .before .before .before .before .before .before .before .before .before .args .key) in
-    let b = c .before .before .before .before .before .b .given .0 .0 in
-    let n = partLeft (rest k (c .before .before .before .before .before .b .given .0 .1 .0)) in
+    let a = c .before .before .before .before .before .before .before .before .before .before .before .before .before .before .before .args in
+    let loop = c .before .before .before .before .before .before .before .before .loop in
+    let b-then = c .before .before .before .before .before .b in
+    let k = now (a .key) in
+    let b = b-then .given .0 .0 in
+    let n = partLeft (rest k (b-then .given .0 .1 .0)) in
     left-on (spelledByte b) (spelledBytes n ++ (34 ∷ []))
-    (left-as (ap (λ m. spelledBytes m ++ (34 ∷ [])) (handed c) ∙ append-assoc (spelledByte b) (spelledBytes n) (34 ∷ [])) (c .before .before .before .before .before .before .before .before .loop .inv))
+    (left-as (ap (λ m. spelledBytes m ++ (34 ∷ [])) (handed c) ∙ append-assoc (spelledByte b) (spelledBytes n) (34 ∷ [])) (loop .inv))
     (c .before .before .put-spelled-byte .ensures)
 
 pub put-spelled-spec : {M : Type 1} → statement M

@@ -22,10 +22,14 @@ same-length c = search needs
 
 returns : tie.Need-returns
 returns c =
-    let b = c .before .before .before .before .before .before .before .before .before .before .before .args .b in
-    let is : c .before .before .before .before .before .before .before .before .before .short-of .result ≡ shortOf b = c .before .before .before .before .before .before .before .before .before .short-of .ensures in
-    rw (ne-eqb (shortOf b) 0 (λ e. c .before .before .before .before .before .before .before .before .if1 .taken (is ∙ e)))
-    (wrote-then (92 ∷ []) (shortOf b ∷ []) (c .before .before .before .before .before .before .put-byte .ensures) (rw is at (c .before .before .put-byte2 .ensures)))
+    let a = c .before .before .before .before .before .before .before .before .before .before .before .args in
+    let short-of = c .before .before .before .before .before .before .before .before .before .short-of in
+    let if1 = c .before .before .before .before .before .before .before .before .if1 in
+    let put-byte = c .before .before .before .before .before .before .put-byte in
+    let b = a .b in
+    let is : c .before .before .before .before .before .before .before .before .before .short-of .result ≡ shortOf b = short-of .ensures in
+    rw (ne-eqb (shortOf b) 0 (λ e. if1 .taken (is ∙ e)))
+    (wrote-then (92 ∷ []) (shortOf b ∷ []) (put-byte .ensures) (rw is at (c .before .before .put-byte2 .ensures)))
 
 put-coded-requires : tie.Need-put-coded-requires
 put-coded-requires c κs = search needs
@@ -35,8 +39,12 @@ same-length-2 c = search needs
 
 returns-2 : tie.Need-returns-2
 returns-2 c =
-    let b = c .before .before .before .before .before .before .before .before .args .b in
-    rw (eq-eqb (shortOf b) 0 (sym (c .before .before .before .before .before .before .short-of .ensures) ∙ c .before .before .before .before .before .if1 .left), lt-ltb b 32 (c .before .before .before .before .if2 .taken)) (c .before .before .put-coded .ensures)
+    let a = c .before .before .before .before .before .before .before .before .args in
+    let short-of = c .before .before .before .before .before .before .short-of in
+    let if1 = c .before .before .before .before .before .if1 in
+    let if2 = c .before .before .before .before .if2 in
+    let b = a .b in
+    rw (eq-eqb (shortOf b) 0 (sym (short-of .ensures) ∙ if1 .left), lt-ltb b 32 (if2 .taken)) (c .before .before .put-coded .ensures)
 
 put-byte-requires-3 : tie.Need-put-byte-requires-3
 put-byte-requires-3 c κs = search needs
@@ -46,8 +54,12 @@ same-length-3 c = search needs
 
 returns-3 : tie.Need-returns-3
 returns-3 c =
-    let b = c .before .before .before .before .before .before .before .before .args .b in
-    rw (eq-eqb (shortOf b) 0 (sym (c .before .before .before .before .before .before .short-of .ensures) ∙ c .before .before .before .before .before .if1 .left), le-ltb b 32 (c .before .before .before .before .if2 .left)) (c .before .before .put-byte3 .ensures)
+    let a = c .before .before .before .before .before .before .before .before .args in
+    let short-of = c .before .before .before .before .before .before .short-of in
+    let if1 = c .before .before .before .before .before .if1 in
+    let if2 = c .before .before .before .before .if2 in
+    let b = a .b in
+    rw (eq-eqb (shortOf b) 0 (sym (short-of .ensures) ∙ if1 .left), le-ltb b 32 (if2 .left)) (c .before .before .put-byte3 .ensures)
 
 pub put-spelled-byte-spec : {M : Type 1} → statement M
 put-spelled-byte-spec =

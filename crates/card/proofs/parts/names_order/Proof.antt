@@ -36,11 +36,19 @@ enum-told-3 c = search needs
 
 returns : tie.Need-returns Inv-loop μ-loop
 unfolding orderOf
-returns c = rw (← c .before .before .before .before .before .before .loop .inv, ← c .before .before .before .before .before .name-byte .ensures, c .before .before .before .enum-told .given .1, ← c .before .before .name-byte2 .ensures, c .enum-told2 .given .1)
+returns c =
+    let loop = c .before .before .before .before .before .before .loop in
+    let name-byte = c .before .before .before .before .before .name-byte in
+    let enum-told = c .before .before .before .enum-told in
+    rw (← loop .inv, ← name-byte .ensures, enum-told .given .1, ← c .before .before .name-byte2 .ensures, c .enum-told2 .given .1)
 
 returns-2 : tie.Need-returns-2 Inv-loop μ-loop
 unfolding orderOf
-returns-2 c = rw (← c .before .before .before .before .before .before .loop .inv, ← c .before .before .before .before .before .name-byte .ensures, c .before .before .before .enum-told .given .1, ← c .before .before .name-byte2 .ensures, c .enum-told3 .given .1)
+returns-2 c =
+    let loop = c .before .before .before .before .before .before .loop in
+    let name-byte = c .before .before .before .before .before .name-byte in
+    let enum-told = c .before .before .before .enum-told in
+    rw (← loop .inv, ← name-byte .ensures, enum-told .given .1, ← c .before .before .name-byte2 .ensures, c .enum-told3 .given .1)
 
 enum-known-p : tie.Need-enum-known-p Inv-loop μ-loop
 enum-known-p c = search needs
@@ -53,25 +61,51 @@ enum-told-4 c = search needs
 
 returns-3 : tie.Need-returns-3 Inv-loop μ-loop
 unfolding orderOf
-returns-3 c = rw (← c .before .before .before .before .before .before .before .loop .inv, ← c .before .before .before .before .before .before .name-byte .ensures, c .before .before .before .before .p .given .1, ← c .before .before .name-byte3 .ensures, c .enum-told4 .given .1)
+returns-3 c =
+    let loop = c .before .before .before .before .before .before .before .loop in
+    let name-byte = c .before .before .before .before .before .before .name-byte in
+    let p = c .before .before .before .before .p in
+    rw (← loop .inv, ← name-byte .ensures, p .given .1, ← c .before .before .name-byte3 .ensures, c .enum-told4 .given .1)
 
 enum-known-q : tie.Need-enum-known-q Inv-loop μ-loop
 enum-known-q c = search needs
 
 returns-4 : tie.Need-returns-4 Inv-loop μ-loop
 unfolding orderOf
-returns-4 c = rw (← c .before .before .before .before .before .before .before .before .before .loop .inv, ← c .before .before .before .before .before .before .before .before .name-byte .ensures, c .before .before .before .before .before .before .p .given .1, ← c .before .before .before .before .name-byte3 .ensures, c .before .before .q .given .1) (search picks)
+returns-4 c =
+    let loop = c .before .before .before .before .before .before .before .before .before .loop in
+    let name-byte = c .before .before .before .before .before .before .before .before .name-byte in
+    let p = c .before .before .before .before .before .before .p in
+    let name-byte3 = c .before .before .before .before .name-byte3 in
+    rw (← loop .inv, ← name-byte .ensures, p .given .1, ← name-byte3 .ensures, c .before .before .q .given .1) (search picks)
 
 returns-5 : tie.Need-returns-5 Inv-loop μ-loop
 unfolding orderOf
-returns-5 c = rw (← c .before .before .before .before .before .before .before .before .before .before .loop .inv, ← c .before .before .before .before .before .before .before .before .before .name-byte .ensures, c .before .before .before .before .before .before .before .p .given .1, ← c .before .before .before .before .before .name-byte3 .ensures, c .before .before .before .q .given .1) (search picks)
+returns-5 c =
+    let loop = c .before .before .before .before .before .before .before .before .before .before .loop in
+    let name-byte = c .before .before .before .before .before .before .before .before .before .name-byte in
+    let p = c .before .before .before .before .before .before .before .p in
+    let name-byte3 = c .before .before .before .before .before .name-byte3 in
+    let q = c .before .before .before .q in
+    rw (← loop .inv, ← name-byte .ensures, p .given .1, ← name-byte3 .ensures, q .given .1) (search picks)
 
 loop-less : tie.Need-loop-less Inv-loop μ-loop
-loop-less c = omega (arith, ap length (named (c .before .before .before .before .before .before .before .before .before .before .before .before .before .args .a-part) (now (c .before .before .before .before .before .before .before .before .before .before .before .before .before .args .a)) (c .before .before .before .before .before .before .before .before .before .before .loop .x) (c .before .before .before .before .before .before .before .before .before .name-byte .ensures) (c .before .before .before .before .before .before .before .p .given .1)))
+loop-less c =
+    let a = c .before .before .before .before .before .before .before .before .before .before .before .before .before .args in
+    let loop = c .before .before .before .before .before .before .before .before .before .before .loop in
+    let name-byte = c .before .before .before .before .before .before .before .before .before .name-byte in
+    let p = c .before .before .before .before .before .before .before .p in
+    omega (arith, ap length (named (a .a-part) (now (a .a)) (loop .x) (name-byte .ensures) (p .given .1)))
 
 loop-again : tie.Need-loop-again Inv-loop μ-loop
 unfolding orderOf
-loop-again c = rw (← c .before .before .before .before .before .before .before .before .before .before .loop .inv, ← c .before .before .before .before .before .before .before .before .before .name-byte .ensures, c .before .before .before .before .before .before .before .p .given .1, ← c .before .before .before .before .before .name-byte3 .ensures, c .before .before .before .q .given .1) (search picks)
+loop-again c =
+    let loop = c .before .before .before .before .before .before .before .before .before .before .loop in
+    let name-byte = c .before .before .before .before .before .before .before .before .before .name-byte in
+    let p = c .before .before .before .before .before .before .before .p in
+    let name-byte3 = c .before .before .before .before .before .name-byte3 in
+    let q = c .before .before .before .q in
+    rw (← loop .inv, ← name-byte .ensures, p .given .1, ← name-byte3 .ensures, q .given .1) (search picks)
 
 pub names-order-spec : {M : Type 1} → statement M
 names-order-spec =

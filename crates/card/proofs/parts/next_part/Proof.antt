@@ -32,13 +32,25 @@ enum-known-b : tie.Need-enum-known-b Inv-loop μ-loop
 enum-known-b c = search needs
 
 returns-2 : tie.Need-returns-2 Inv-loop μ-loop
-returns-2 c = goes _ _ (rw (← c .before .before .before .before .before .loop .inv, ← c .before .before .before .before .next-byte .ensures .0, c .before .before .b .given .1, c .if1 .taken))
+returns-2 c =
+    let loop = c .before .before .before .before .before .loop in
+    let next-byte = c .before .before .before .before .next-byte in
+    goes _ _ (rw (← loop .inv, ← next-byte .ensures .0, c .before .before .b .given .1, c .if1 .taken))
 
 loop-less : tie.Need-loop-less Inv-loop μ-loop
-loop-less c = omega (arith, ap length (handed (now (c .before .before .before .before .before .before .before .args .key)) (c .before .before .before .before .before .loop .c) (c .before .before .before .before .next-byte .ensures .0) (c .before .before .b .given .1)))
+loop-less c =
+    let a = c .before .before .before .before .before .before .before .args in
+    let loop = c .before .before .before .before .before .loop in
+    let next-byte = c .before .before .before .before .next-byte in
+    omega (arith, ap length (handed (now (a .key)) (loop .c) (next-byte .ensures .0) (c .before .before .b .given .1)))
 
 loop-again : tie.Need-loop-again Inv-loop μ-loop
-loop-again c = rw (← c .before .before .before .before .before .loop .inv, ← c .before .before .before .before .next-byte .ensures .0, c .before .before .b .given .1) (sym (tail-on _ (rest (now (c .before .before .before .before .before .before .before .args .key)) (c .before .before .b .given .0 .1 .0)) (c .if1 .left)))
+loop-again c =
+    let a = c .before .before .before .before .before .before .before .args in
+    let loop = c .before .before .before .before .before .loop in
+    let next-byte = c .before .before .before .before .next-byte in
+    let b = c .before .before .b in
+    rw (← loop .inv, ← next-byte .ensures .0, b .given .1) (sym (tail-on _ (rest (now (a .key)) (b .given .0 .1 .0)) (c .if1 .left)))
 
 pub next-part-spec : {M : Type 1} → statement M
 next-part-spec =

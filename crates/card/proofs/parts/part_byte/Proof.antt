@@ -25,10 +25,17 @@ tilde-byte-requires : tie.Need-tilde-byte-requires
 tilde-byte-requires c κs = search needs
 
 returns-3 : tie.Need-returns-3
-returns-3 c = rw (← c .before .before .before .before .before .before .next-byte .ensures .0, c .before .before .before .before .b .given .1, c .before .if2 .taken) (c .tilde-byte .ensures ∙ sym (part-tilde _))
+returns-3 c =
+    let next-byte = c .before .before .before .before .before .before .next-byte in
+    let b = c .before .before .before .before .b in
+    rw (← next-byte .ensures .0, b .given .1, c .before .if2 .taken) (c .tilde-byte .ensures ∙ sym (part-tilde _))
 
 returns-4 : tie.Need-returns-4
-returns-4 c = rw (← c .before .before .before .before .before .next-byte .ensures .0, c .before .before .before .b .given .1) (sym (part-plain _ (rest (now (c .before .before .before .before .before .before .before .args .key)) (c .before .before .before .b .given .0 .1 .0)) (c .before .if1 .left) (c .if2 .left)))
+returns-4 c =
+    let a = c .before .before .before .before .before .before .before .args in
+    let next-byte = c .before .before .before .before .before .next-byte in
+    let b = c .before .before .before .b in
+    rw (← next-byte .ensures .0, b .given .1) (sym (part-plain _ (rest (now (a .key)) (b .given .0 .1 .0)) (c .before .if1 .left) (c .if2 .left)))
 
 pub part-byte-spec : {M : Type 1} → statement M
 part-byte-spec =

@@ -32,59 +32,127 @@ follow-at t = and 3 follow-kinds.ps (is 3 follow-kinds.ps μ-follow t) follow.Pr
 abbrev follow-below : ℕ → In 3 follow-kinds.ps
 follow-below t = and 3 follow-kinds.ps (falls 3 follow-kinds.ps _<_ μ-follow t) follow.Pre
 
-follow-kind-requires : (t : ℕ) → follow-lts.Need-kind-requires (kind-reads.Asked, kind-reads.Learnt, next-part-reads.Asked, next-part-reads.Learnt, below-reads.Asked, below-reads.Learnt, member-row-reads.Asked, member-row-reads.Learnt, follow-below t, follow.Post) (follow-at t) follow.Post
+-- what is asked of the callees and learnt from them
+abbrev given : ℕ → follow-lts.Claims
+given t = (
+  kind-reads.Asked,
+  kind-reads.Learnt,
+  next-part-reads.Asked,
+  next-part-reads.Learnt,
+  below-reads.Asked,
+  below-reads.Learnt,
+  member-row-reads.Asked,
+  member-row-reads.Learnt,
+  follow-below t,
+  follow.Post,
+)
+
+follow-kind-requires : (t : ℕ) → follow-lts.Need-kind-requires (given t) (follow-at t) follow.Post
 follow-kind-requires t c κs = search needs
 
-follow-returns : (t : ℕ) → follow-lts.Need-returns (kind-reads.Asked, kind-reads.Learnt, next-part-reads.Asked, next-part-reads.Learnt, below-reads.Asked, below-reads.Learnt, member-row-reads.Asked, member-row-reads.Learnt, follow-below t, follow.Post) (follow-at t) follow.Post
-follow-returns t c = λ f s h k. walk-array (now (c .before .before .before .before .before .args .text)) f s k (pointerOf (rest (now (c .before .before .before .before .before .args .key)) (c .before .before .before .before .before .args .c))) (sym (row-at f s h .kind) ∙ sym (c .before .kind .ensures) ∙ c .if1 .taken)
+follow-returns : (t : ℕ) → follow-lts.Need-returns (given t) (follow-at t) follow.Post
+follow-returns t c =
+    λ f s h k.
+    let a = c .before .before .before .before .before .args in
+    walk-array (now (a .text)) f s k (pointerOf (rest (now (a .key)) (a .c)))
+    (sym (row-at f s h .kind) ∙ sym (c .before .kind .ensures) ∙ c .if1 .taken)
 
-follow-returns-2 : (t : ℕ) → follow-lts.Need-returns-2 (kind-reads.Asked, kind-reads.Learnt, next-part-reads.Asked, next-part-reads.Learnt, below-reads.Asked, below-reads.Learnt, member-row-reads.Asked, member-row-reads.Learnt, follow-below t, follow.Post) (follow-at t) follow.Post
-follow-returns-2 t c = λ f s h k. walk-scalar (now (c .before .before .before .before .before .before .args .text)) f s k (pointerOf (rest (now (c .before .before .before .before .before .before .args .key)) (c .before .before .before .before .before .before .args .c))) (λ e. c .before .if1 .left (c .before .before .kind .ensures ∙ row-at f s h .kind ∙ e)) (λ e. c .if2 .taken (c .before .before .kind .ensures ∙ row-at f s h .kind ∙ e))
+follow-returns-2 : (t : ℕ) → follow-lts.Need-returns-2 (given t) (follow-at t) follow.Post
+follow-returns-2 t c =
+    λ f s h k.
+    let a = c .before .before .before .before .before .before .args in
+    let kind = c .before .before .kind in
+    walk-scalar (now (a .text)) f s k (pointerOf (rest (now (a .key)) (a .c))) (λ e. c .before .if1 .left (kind .ensures ∙ row-at f s h .kind ∙ e))
+    (λ e. c .if2 .taken (kind .ensures ∙ row-at f s h .kind ∙ e))
 
-follow-next-part-requires : (t : ℕ) → follow-lts.Need-next-part-requires (kind-reads.Asked, kind-reads.Learnt, next-part-reads.Asked, next-part-reads.Learnt, below-reads.Asked, below-reads.Learnt, member-row-reads.Asked, member-row-reads.Learnt, follow-below t, follow.Post) (follow-at t) follow.Post
+follow-next-part-requires : (t : ℕ) → follow-lts.Need-next-part-requires (given t) (follow-at t) follow.Post
 follow-next-part-requires t c κs = search needs
 
-follow-enum-known-on : (t : ℕ) → follow-lts.Need-enum-known-on (kind-reads.Asked, kind-reads.Learnt, next-part-reads.Asked, next-part-reads.Learnt, below-reads.Asked, below-reads.Learnt, member-row-reads.Asked, member-row-reads.Learnt, follow-below t, follow.Post) (follow-at t) follow.Post
+follow-enum-known-on : (t : ℕ) → follow-lts.Need-enum-known-on (given t) (follow-at t) follow.Post
 follow-enum-known-on t c = search needs
 
-follow-enum-told : (t : ℕ) → follow-lts.Need-enum-told (kind-reads.Asked, kind-reads.Learnt, next-part-reads.Asked, next-part-reads.Learnt, below-reads.Asked, below-reads.Learnt, member-row-reads.Asked, member-row-reads.Learnt, follow-below t, follow.Post) (follow-at t) follow.Post
+follow-enum-told : (t : ℕ) → follow-lts.Need-enum-told (given t) (follow-at t) follow.Post
 follow-enum-told t c = search needs
 
-follow-returns-3 : (t : ℕ) → follow-lts.Need-returns-3 (kind-reads.Asked, kind-reads.Learnt, next-part-reads.Asked, next-part-reads.Learnt, below-reads.Asked, below-reads.Learnt, member-row-reads.Asked, member-row-reads.Learnt, follow-below t, follow.Post) (follow-at t) follow.Post
-follow-returns-3 t c = λ f s h k. walk-last (now (c .before .before .before .before .before .before .before .before .before .args .text)) f s k (sym (row-at f s h .kind) ∙ sym (c .before .before .before .before .before .kind .ensures) ∙ c .before .before .before .if2 .left) (rw (c .enum-told .given .1) at (c .before .before .next-part .ensures))
+follow-returns-3 : (t : ℕ) → follow-lts.Need-returns-3 (given t) (follow-at t) follow.Post
+follow-returns-3 t c =
+    λ f s h k.
+    let a = c .before .before .before .before .before .before .before .before .before .args in
+    let kind = c .before .before .before .before .before .kind in
+    let if2 = c .before .before .before .if2 in
+    walk-last (now (a .text)) f s k (sym (row-at f s h .kind) ∙ sym (kind .ensures) ∙ if2 .left)
+    (rw (c .enum-told .given .1) at (c .before .before .next-part .ensures))
 
-follow-add-first : (t : ℕ) → follow-lts.Need-add-first (kind-reads.Asked, kind-reads.Learnt, next-part-reads.Asked, next-part-reads.Learnt, below-reads.Asked, below-reads.Learnt, member-row-reads.Asked, member-row-reads.Learnt, follow-below t, follow.Post) (follow-at t) follow.Post
-follow-add-first t c = let (f, s, h, k) = c .before .before .before .before .before .before .before .before .before .before .pre .1 in omega (arith, row-at f s h .room)
+follow-add-first : (t : ℕ) → follow-lts.Need-add-first (given t) (follow-at t) follow.Post
+follow-add-first t c =
+    let (f, s, h, k) = c .before .before .before .before .before .before .before .before .before .before .pre .1 in
+    omega (arith, row-at f s h .room)
 
-follow-below-requires : (t : ℕ) → follow-lts.Need-below-requires (kind-reads.Asked, kind-reads.Learnt, next-part-reads.Asked, next-part-reads.Learnt, below-reads.Asked, below-reads.Learnt, member-row-reads.Asked, member-row-reads.Learnt, follow-below t, follow.Post) (follow-at t) follow.Post
+follow-below-requires : (t : ℕ) → follow-lts.Need-below-requires (given t) (follow-at t) follow.Post
 follow-below-requires t c κs = search needs
 
-follow-add-end : (t : ℕ) → follow-lts.Need-add-end (kind-reads.Asked, kind-reads.Learnt, next-part-reads.Asked, next-part-reads.Learnt, below-reads.Asked, below-reads.Learnt, member-row-reads.Asked, member-row-reads.Learnt, follow-below t, follow.Post) (follow-at t) follow.Post
-follow-add-end t c = let (f, s, h, k) = c .before .before .before .before .before .before .before .before .before .before .before .pre .1 in omega (arith, c .below .ensures, row-at f s h .below, row-at f s h .room-all)
+follow-add-end : (t : ℕ) → follow-lts.Need-add-end (given t) (follow-at t) follow.Post
+follow-add-end t c =
+    let (f, s, h, k) = c .before .before .before .before .before .before .before .before .before .before .before .pre .1 in
+    omega (arith, c .below .ensures, row-at f s h .below, row-at f s h .room-all)
 
-follow-member-row-requires : (t : ℕ) → follow-lts.Need-member-row-requires (kind-reads.Asked, kind-reads.Learnt, next-part-reads.Asked, next-part-reads.Learnt, below-reads.Asked, below-reads.Learnt, member-row-reads.Asked, member-row-reads.Learnt, follow-below t, follow.Post) (follow-at t) follow.Post
+follow-member-row-requires : (t : ℕ) → follow-lts.Need-member-row-requires (given t) (follow-at t) follow.Post
 follow-member-row-requires t c κs =
     let start = c .before .before .before .before .before .before .before .before .before .before .before in
     let (f, s, h, k) = start .pre .1 in
     omega (arith, c .below .ensures, row-at f s h .below, row-at f s h .room-all, start .good .1 .0 .0)
 
-follow-enum-known-m : (t : ℕ) → follow-lts.Need-enum-known-m (kind-reads.Asked, kind-reads.Learnt, next-part-reads.Asked, next-part-reads.Learnt, below-reads.Asked, below-reads.Learnt, member-row-reads.Asked, member-row-reads.Learnt, follow-below t, follow.Post) (follow-at t) follow.Post
+follow-enum-known-m : (t : ℕ) → follow-lts.Need-enum-known-m (given t) (follow-at t) follow.Post
 follow-enum-known-m t c = search needs
 
-follow-enum-told-2 : (t : ℕ) → follow-lts.Need-enum-told-2 (kind-reads.Asked, kind-reads.Learnt, next-part-reads.Asked, next-part-reads.Learnt, below-reads.Asked, below-reads.Learnt, member-row-reads.Asked, member-row-reads.Learnt, follow-below t, follow.Post) (follow-at t) follow.Post
+follow-enum-told-2 : (t : ℕ) → follow-lts.Need-enum-told-2 (given t) (follow-at t) follow.Post
 follow-enum-told-2 t c = search needs
 
-follow-returns-4 : (t : ℕ) → follow-lts.Need-returns-4 (kind-reads.Asked, kind-reads.Learnt, next-part-reads.Asked, next-part-reads.Learnt, below-reads.Asked, below-reads.Learnt, member-row-reads.Asked, member-row-reads.Learnt, follow-below t, follow.Post) (follow-at t) follow.Post
-follow-returns-4 t c = λ f s h k. walk-lacks (now (c .before .before .before .before .before .before .before .before .before .before .before .before .before .before .args .text)) f s k (sym (row-at f s h .kind) ∙ sym (c .before .before .before .before .before .before .before .before .before .before .kind .ensures) ∙ c .before .before .before .before .before .before .before .before .if2 .left) (rw (c .before .before .before .before .before .on .given .1) at (c .before .before .before .before .before .before .before .next-part .ensures)) (rw (c .enum-told2 .given .1) at (c .before .before .member-row .ensures (insideAt f) (rw (c .before .before .before .below .ensures ∙ row-at f s h .below) (inside f s h))))
+follow-returns-4 : (t : ℕ) → follow-lts.Need-returns-4 (given t) (follow-at t) follow.Post
+follow-returns-4 t c =
+    λ f s h k.
+    let a = c .before .before .before .before .before .before .before .before .before .before .before .before .before .before .args in
+    let kind = c .before .before .before .before .before .before .before .before .before .before .kind in
+    let if2 = c .before .before .before .before .before .before .before .before .if2 in
+    let next-part = c .before .before .before .before .before .before .before .next-part in
+    let on = c .before .before .before .before .before .on in
+    let below = c .before .before .before .below in
+    walk-lacks (now (a .text)) f s k (sym (row-at f s h .kind) ∙ sym (kind .ensures) ∙ if2 .left) (rw (on .given .1) at (next-part .ensures))
+    (rw (c .enum-told2 .given .1) at (c .before .before .member-row .ensures (insideAt f) (rw (below .ensures ∙ row-at f s h .below) (inside f s h))))
 
-follow-follow-requires : (t : ℕ) → follow-lts.Need-follow-requires (kind-reads.Asked, kind-reads.Learnt, next-part-reads.Asked, next-part-reads.Learnt, below-reads.Asked, below-reads.Learnt, member-row-reads.Asked, member-row-reads.Learnt, follow-below t, follow.Post) (follow-at t) follow.Post
-follow-follow-requires t c κs = let (f, s, h, k) = c .before .before .before .before .before .before .before .before .before .before .before .before .before .before .before .pre .1 in let found = standing (rw (c .before .m .given .1) at (c .before .before .before .member-row .ensures (insideAt f) (rw (c .before .before .before .before .below .ensures ∙ row-at f s h .below) (inside f s h)))) in (omega (arith, c .before .before .before .before .before .before .before .before .before .before .before .before .before .before .before .pre .0, fewer (pointerOf (rest (now (c .before .before .before .before .before .before .before .before .before .before .before .before .before .before .before .args .key)) (c .before .before .before .before .before .before .before .before .before .before .before .before .before .before .before .args .c))) (rw (c .before .before .before .before .before .before .on .given .1) at (c .before .before .before .before .before .before .before .before .next-part .ensures))), (found .found, found .some-found, found .stands .stands, found .kinds (inside-kinds f k)))
+follow-follow-requires : (t : ℕ) → follow-lts.Need-follow-requires (given t) (follow-at t) follow.Post
+follow-follow-requires t c κs =
+    let p = c .before .before .before .before .before .before .before .before .before .before .before .before .before .before .before .pre in
+    let a = c .before .before .before .before .before .before .before .before .before .before .before .before .before .before .before .args in
+    let next-part = c .before .before .before .before .before .before .before .before .next-part in
+    let on = c .before .before .before .before .before .before .on in
+    let below = c .before .before .before .before .below in
+    let member-row = c .before .before .before .member-row in
+    let (f, s, h, k) = p .1 in
+    let found = standing
+    (rw (c .before .m .given .1) at (member-row .ensures (insideAt f) (rw (below .ensures ∙ row-at f s h .below) (inside f s h)))) in (
+      omega (arith, p .0, fewer (pointerOf (rest (now (a .key)) (a .c))) (rw (on .given .1) at (next-part .ensures))),
+      (found .found, found .some-found, found .stands .stands, found .kinds (inside-kinds f k)),
+    )
 
-follow-returns-5 : (t : ℕ) → follow-lts.Need-returns-5 (kind-reads.Asked, kind-reads.Learnt, next-part-reads.Asked, next-part-reads.Learnt, below-reads.Asked, below-reads.Learnt, member-row-reads.Asked, member-row-reads.Learnt, follow-below t, follow.Post) (follow-at t) follow.Post
-follow-returns-5 t c = λ f s h k. let found = standing (rw (c .before .before .m .given .1) at (c .before .before .before .before .member-row .ensures (insideAt f) (rw (c .before .before .before .before .before .below .ensures ∙ row-at f s h .below) (inside f s h)))) in c .follow .ensures (found .found) (found .some-found) (found .stands .stands) (found .kinds (inside-kinds f k)) ∙ walk-on (now (c .before .before .before .before .before .before .before .before .before .before .before .before .before .before .before .before .args .text)) f s k (sym (row-at f s h .kind) ∙ sym (c .before .before .before .before .before .before .before .before .before .before .before .before .kind .ensures) ∙ c .before .before .before .before .before .before .before .before .before .before .if2 .left) (found .found) (rw (c .before .before .before .before .before .before .before .on .given .1) at (c .before .before .before .before .before .before .before .before .before .next-part .ensures)) (found .is)
+follow-returns-5 : (t : ℕ) → follow-lts.Need-returns-5 (given t) (follow-at t) follow.Post
+follow-returns-5 t c =
+    λ f s h k.
+    let early = c .before .before .before .before .before .before .before .before .before .before .before .before in
+    let a = early .before .before .before .before .args in
+    let kind = c .before .before .before .before .before .before .before .before .before .before .before .before .kind in
+    let if2 = c .before .before .before .before .before .before .before .before .before .before .if2 in
+    let next-part = c .before .before .before .before .before .before .before .before .before .next-part in
+    let on = c .before .before .before .before .before .before .before .on in
+    let below = c .before .before .before .before .before .below in
+    let member-row = c .before .before .before .before .member-row in
+    let found = standing
+    (rw (c .before .before .m .given .1) at (member-row .ensures (insideAt f) (rw (below .ensures ∙ row-at f s h .below) (inside f s h)))) in
+    c .follow .ensures (found .found) (found .some-found) (found .stands .stands) (found .kinds (inside-kinds f k)) ∙ walk-on (now (a .text)) f s k
+    (sym (row-at f s h .kind) ∙ sym (kind .ensures) ∙ if2 .left) (found .found) (rw (on .given .1) at (next-part .ensures)) (found .is)
 
 pub +follow-spec : {M : Type 1} → statement M
-+follow-spec = close μ-follow λ t. follow-lts.spec (kind-reads.Asked, kind-reads.Learnt, next-part-reads.Asked, next-part-reads.Learnt, below-reads.Asked, below-reads.Learnt, member-row-reads.Asked, member-row-reads.Learnt, follow-below t, follow.Post)
++follow-spec = close μ-follow λ t. follow-lts.spec (given t)
     (follow-at t)
     follow.Post
     (follow-kind-requires t)

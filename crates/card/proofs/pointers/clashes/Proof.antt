@@ -30,7 +30,11 @@ names-same-requires : tie.Need-names-same-requires Inv-loop μ-loop
 names-same-requires c κs = search needs
 
 returns : tie.Need-returns Inv-loop μ-loop
-returns c = sym (clash-differ (pointerOf (rest (now (c .before .before .before .before .before .before .before .args .a)) (c .before .before .loop .x))) (pointerOf (rest (now (c .before .before .before .before .before .before .before .args .b)) (c .before .before .loop .y))) (sym (c .before .names-same .ensures) ∙ denied (c .before .names-same .result) (c .if1 .taken))) ∙ c .before .before .loop .inv
+returns c =
+    let a = c .before .before .before .before .before .before .before .args in
+    let loop = c .before .before .loop in
+    sym (clash-differ (pointerOf (rest (now (a .a)) (loop .x))) (pointerOf (rest (now (a .b)) (loop .y)))
+    (sym (c .before .names-same .ensures) ∙ denied (c .before .names-same .result) (c .if1 .taken))) ∙ loop .inv
 
 next-part-requires : tie.Need-next-part-requires Inv-loop μ-loop
 next-part-requires c κs = search needs
@@ -42,7 +46,14 @@ enum-told : tie.Need-enum-told Inv-loop μ-loop
 enum-told c = search needs
 
 returns-2 : tie.Need-returns-2 Inv-loop μ-loop
-returns-2 c = sym (clash-left (pointerOf (rest (now (c .before .before .before .before .before .before .before .before .before .before .args .a)) (c .before .before .before .before .before .loop .x))) (pointerOf (rest (now (c .before .before .before .before .before .before .before .before .before .before .args .b)) (c .before .before .before .before .before .loop .y))) (rw (c .enum-told .given .1) at (c .before .before .next-part .ensures)) (sym (c .before .before .before .before .names-same .ensures) ∙ granted (c .before .before .before .before .names-same .result) (c .before .before .before .if1 .left))) ∙ c .before .before .before .before .before .loop .inv
+returns-2 c =
+    let a = c .before .before .before .before .before .before .before .before .before .before .args in
+    let loop = c .before .before .before .before .before .loop in
+    let names-same = c .before .before .before .before .names-same in
+    let if1 = c .before .before .before .if1 in
+    sym (clash-left (pointerOf (rest (now (a .a)) (loop .x))) (pointerOf (rest (now (a .b)) (loop .y)))
+    (rw (c .enum-told .given .1) at (c .before .before .next-part .ensures)) (sym (names-same .ensures) ∙ granted (names-same .result) (if1 .left)))
+    ∙ loop .inv
 
 next-part-requires-2 : tie.Need-next-part-requires-2 Inv-loop μ-loop
 next-part-requires-2 c κs = search needs
@@ -54,13 +65,34 @@ enum-told-2 : tie.Need-enum-told-2 Inv-loop μ-loop
 enum-told-2 c = search needs
 
 returns-3 : tie.Need-returns-3 Inv-loop μ-loop
-returns-3 c = sym (clash-right (pointerOf (rest (now (c .before .before .before .before .before .before .before .before .before .before .before .before .before .before .args .a)) (c .before .before .before .before .before .before .before .before .before .loop .x))) (pointerOf (rest (now (c .before .before .before .before .before .before .before .before .before .before .before .before .before .before .args .b)) (c .before .before .before .before .before .before .before .before .before .loop .y))) (rw (c .enum-told2 .given .1) at (c .before .before .next-part2 .ensures)) (sym (c .before .before .before .before .before .before .before .before .names-same .ensures) ∙ granted (c .before .before .before .before .before .before .before .before .names-same .result) (c .before .before .before .before .before .before .before .if1 .left))) ∙ c .before .before .before .before .before .before .before .before .before .loop .inv
+returns-3 c =
+    let a = c .before .before .before .before .before .before .before .before .before .before .before .before .before .before .args in
+    let loop = c .before .before .before .before .before .before .before .before .before .loop in
+    let names-same = c .before .before .before .before .before .before .before .before .names-same in
+    let if1 = c .before .before .before .before .before .before .before .if1 in
+    sym (clash-right (pointerOf (rest (now (a .a)) (loop .x))) (pointerOf (rest (now (a .b)) (loop .y)))
+    (rw (c .enum-told2 .given .1) at (c .before .before .next-part2 .ensures)) (sym (names-same .ensures) ∙ granted (names-same .result) (if1 .left)))
+    ∙ loop .inv
 
 loop-less : tie.Need-loop-less Inv-loop μ-loop
-loop-less c = fewer (pointerOf (rest (now (c .before .before .before .before .before .before .before .before .before .before .before .before .before .before .before .args .a)) (c .before .before .before .before .before .before .before .before .before .before .loop .x))) (rw (c .before .before .before .before .before .x2 .given .1) at (c .before .before .before .before .before .before .before .next-part .ensures))
+loop-less c =
+    let a = c .before .before .before .before .before .before .before .before .before .before .before .before .before .before .before .args in
+    let loop = c .before .before .before .before .before .before .before .before .before .before .loop in
+    let next-part = c .before .before .before .before .before .before .before .next-part in
+    let x2 = c .before .before .before .before .before .x2 in
+    fewer (pointerOf (rest (now (a .a)) (loop .x))) (rw (x2 .given .1) at (next-part .ensures))
 
 loop-again : tie.Need-loop-again Inv-loop μ-loop
-loop-again c = sym (clash-on (pointerOf (rest (now (c .before .before .before .before .before .before .before .before .before .before .before .before .before .before .before .args .a)) (c .before .before .before .before .before .before .before .before .before .before .loop .x))) (pointerOf (rest (now (c .before .before .before .before .before .before .before .before .before .before .before .before .before .before .before .args .b)) (c .before .before .before .before .before .before .before .before .before .before .loop .y))) (rw (c .before .before .before .before .before .x2 .given .1) at (c .before .before .before .before .before .before .before .next-part .ensures)) (rw (c .before .y2 .given .1) at (c .before .before .before .next-part2 .ensures)) (sym (c .before .before .before .before .before .before .before .before .before .names-same .ensures) ∙ granted (c .before .before .before .before .before .before .before .before .before .names-same .result) (c .before .before .before .before .before .before .before .before .if1 .left))) ∙ c .before .before .before .before .before .before .before .before .before .before .loop .inv
+loop-again c =
+    let a = c .before .before .before .before .before .before .before .before .before .before .before .before .before .before .before .args in
+    let loop = c .before .before .before .before .before .before .before .before .before .before .loop in
+    let names-same = c .before .before .before .before .before .before .before .before .before .names-same in
+    let if1 = c .before .before .before .before .before .before .before .before .if1 in
+    let next-part = c .before .before .before .before .before .before .before .next-part in
+    let x2 = c .before .before .before .before .before .x2 in
+    let next-part2 = c .before .before .before .next-part2 in
+    sym (clash-on (pointerOf (rest (now (a .a)) (loop .x))) (pointerOf (rest (now (a .b)) (loop .y))) (rw (x2 .given .1) at (next-part .ensures))
+    (rw (c .before .y2 .given .1) at (next-part2 .ensures)) (sym (names-same .ensures) ∙ granted (names-same .result) (if1 .left))) ∙ loop .inv
 
 pub clashes-spec : {M : Type 1} → statement M
 clashes-spec =

@@ -40,19 +40,39 @@ zero-or-one-requires : tie.Need-zero-or-one-requires Inv-loop μ-loop
 zero-or-one-requires c κs = search needs
 
 returns-2 : tie.Need-returns-2 Inv-loop μ-loop
-returns-2 c = rw (← c .before .before .before .before .before .before .before .loop .inv, ← c .before .before .before .before .before .before .next-byte .ensures .0, c .before .before .before .before .b .given .1, c .before .before .if1 .taken, ← c .before .zero-or-one .ensures, c .if2 .taken)
+returns-2 c =
+    let loop = c .before .before .before .before .before .before .before .loop in
+    let next-byte = c .before .before .before .before .before .before .next-byte in
+    let b = c .before .before .before .before .b in
+    rw (← loop .inv, ← next-byte .ensures .0, b .given .1, c .before .before .if1 .taken, ← c .before .zero-or-one .ensures, c .if2 .taken)
 
 loop-less : tie.Need-loop-less Inv-loop μ-loop
-loop-less c = omega (arith, ap length (handed (now (c .before .before .before .before .before .before .before .before .before .before .args .key)) (c .before .before .before .before .before .before .before .loop .c) (c .before .before .before .before .before .before .next-byte .ensures .0) (c .before .before .before .before .b .given .1)))
+loop-less c =
+    let a = c .before .before .before .before .before .before .before .before .before .before .args in
+    let loop = c .before .before .before .before .before .before .before .loop in
+    let next-byte = c .before .before .before .before .before .before .next-byte in
+    let b = c .before .before .before .before .b in
+    omega (arith, ap length (handed (now (a .key)) (loop .c) (next-byte .ensures .0) (b .given .1)))
 
 loop-again : tie.Need-loop-again Inv-loop μ-loop
-loop-again c = rw (← c .before .before .before .before .before .before .before .loop .inv, ← c .before .before .before .before .before .before .next-byte .ensures .0, c .before .before .before .before .b .given .1, c .before .before .if1 .taken, ← c .before .zero-or-one .ensures, c .if2 .left)
+loop-again c =
+    let loop = c .before .before .before .before .before .before .before .loop in
+    let next-byte = c .before .before .before .before .before .before .next-byte in
+    let b = c .before .before .before .before .b in
+    rw (← loop .inv, ← next-byte .ensures .0, b .given .1, c .before .before .if1 .taken, ← c .before .zero-or-one .ensures, c .if2 .left)
 
 loop-less-2 : tie.Need-loop-less-2 Inv-loop μ-loop
-loop-less-2 c = omega (arith, ap length (handed (now (c .before .before .before .before .before .before .before .before .args .key)) (c .before .before .before .before .before .loop .c) (c .before .before .before .before .next-byte .ensures .0) (c .before .before .b .given .1)))
+loop-less-2 c =
+    let a = c .before .before .before .before .before .before .before .before .args in
+    let loop = c .before .before .before .before .before .loop in
+    let next-byte = c .before .before .before .before .next-byte in
+    omega (arith, ap length (handed (now (a .key)) (loop .c) (next-byte .ensures .0) (c .before .before .b .given .1)))
 
 loop-again-2 : tie.Need-loop-again-2 Inv-loop μ-loop
-loop-again-2 c = rw (← c .before .before .before .before .before .loop .inv, ← c .before .before .before .before .next-byte .ensures .0, c .before .before .b .given .1, ne-eqb _ 126 (c .if1 .left))
+loop-again-2 c =
+    let loop = c .before .before .before .before .before .loop in
+    let next-byte = c .before .before .before .before .next-byte in
+    rw (← loop .inv, ← next-byte .ensures .0, c .before .before .b .given .1, ne-eqb _ 126 (c .if1 .left))
 
 pub has-bad-tilde-spec : {M : Type 1} → statement M
 has-bad-tilde-spec =

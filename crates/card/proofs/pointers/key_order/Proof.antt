@@ -34,13 +34,21 @@ enum-told : tie.Need-enum-told Inv-loop μ-loop
 enum-told c = search needs
 
 returns : tie.Need-returns Inv-loop μ-loop
-returns c = sym (order-first (pointerOf (rest (now (c .before .before .before .before .before .before .before .before .args .a)) (c .before .before .before .loop .x))) (pointerOf (rest (now (c .before .before .before .before .before .before .before .before .args .b)) (c .before .before .before .loop .y))) Less (sym (c .before .before .names-order .ensures) ∙ c .enum-told .given .1) refl refl refl) ∙ c .before .before .before .loop .inv
+returns c =
+    let a = c .before .before .before .before .before .before .before .before .args in
+    let loop = c .before .before .before .loop in
+    sym (order-first (pointerOf (rest (now (a .a)) (loop .x))) (pointerOf (rest (now (a .b)) (loop .y))) Less
+    (sym (c .before .before .names-order .ensures) ∙ c .enum-told .given .1) refl refl refl) ∙ loop .inv
 
 enum-told-2 : tie.Need-enum-told-2 Inv-loop μ-loop
 enum-told-2 c = search needs
 
 returns-2 : tie.Need-returns-2 Inv-loop μ-loop
-returns-2 c = sym (order-first (pointerOf (rest (now (c .before .before .before .before .before .before .before .before .args .a)) (c .before .before .before .loop .x))) (pointerOf (rest (now (c .before .before .before .before .before .before .before .before .args .b)) (c .before .before .before .loop .y))) More (sym (c .before .before .names-order .ensures) ∙ c .enum-told2 .given .1) refl refl refl) ∙ c .before .before .before .loop .inv
+returns-2 c =
+    let a = c .before .before .before .before .before .before .before .before .args in
+    let loop = c .before .before .before .loop in
+    sym (order-first (pointerOf (rest (now (a .a)) (loop .x))) (pointerOf (rest (now (a .b)) (loop .y))) More
+    (sym (c .before .before .names-order .ensures) ∙ c .enum-told2 .given .1) refl refl refl) ∙ loop .inv
 
 enum-told-3 : tie.Need-enum-told-3 Inv-loop μ-loop
 enum-told-3 c = search needs
@@ -61,10 +69,28 @@ enum-told-6 : tie.Need-enum-told-6 Inv-loop μ-loop
 enum-told-6 c = search needs
 
 returns-3 : tie.Need-returns-3 Inv-loop μ-loop
-returns-3 c = sym (order-ends (pointerOf (rest (now (c .before .before .before .before .before .before .before .before .before .before .before .before .before .before .args .a)) (c .before .before .before .before .before .before .before .before .before .loop .x))) (pointerOf (rest (now (c .before .before .before .before .before .before .before .before .before .before .before .before .before .before .args .b)) (c .before .before .before .before .before .before .before .before .before .loop .y))) (sym (c .before .before .before .before .before .before .before .before .names-order .ensures) ∙ c .before .before .before .before .before .before .enum-told3 .given .1) (rw (c .before .before .before .enum-told4 .given .1) at (c .before .before .before .before .before .next-part .ensures)) (rw (c .enum-told5 .given .1) at (c .before .before .next-part2 .ensures))) ∙ c .before .before .before .before .before .before .before .before .before .loop .inv
+returns-3 c =
+    let a = c .before .before .before .before .before .before .before .before .before .before .before .before .before .before .args in
+    let loop = c .before .before .before .before .before .before .before .before .before .loop in
+    let names-order = c .before .before .before .before .before .before .before .before .names-order in
+    let enum-told3 = c .before .before .before .before .before .before .enum-told3 in
+    let next-part = c .before .before .before .before .before .next-part in
+    let enum-told4 = c .before .before .before .enum-told4 in
+    sym (order-ends (pointerOf (rest (now (a .a)) (loop .x))) (pointerOf (rest (now (a .b)) (loop .y)))
+    (sym (names-order .ensures) ∙ enum-told3 .given .1) (rw (enum-told4 .given .1) at (next-part .ensures))
+    (rw (c .enum-told5 .given .1) at (c .before .before .next-part2 .ensures))) ∙ loop .inv
 
 returns-4 : tie.Need-returns-4 Inv-loop μ-loop
-returns-4 c = sym (order-left (pointerOf (rest (now (c .before .before .before .before .before .before .before .before .before .before .before .before .before .before .args .a)) (c .before .before .before .before .before .before .before .before .before .loop .x))) (pointerOf (rest (now (c .before .before .before .before .before .before .before .before .before .before .before .before .before .before .args .b)) (c .before .before .before .before .before .before .before .before .before .loop .y))) (sym (c .before .before .before .before .before .before .before .before .names-order .ensures) ∙ c .before .before .before .before .before .before .enum-told3 .given .1) (rw (c .before .before .before .enum-told4 .given .1) at (c .before .before .before .before .before .next-part .ensures)) (rw (c .enum-told6 .given .1) at (c .before .before .next-part2 .ensures))) ∙ c .before .before .before .before .before .before .before .before .before .loop .inv
+returns-4 c =
+    let a = c .before .before .before .before .before .before .before .before .before .before .before .before .before .before .args in
+    let loop = c .before .before .before .before .before .before .before .before .before .loop in
+    let names-order = c .before .before .before .before .before .before .before .before .names-order in
+    let enum-told3 = c .before .before .before .before .before .before .enum-told3 in
+    let next-part = c .before .before .before .before .before .next-part in
+    let enum-told4 = c .before .before .before .enum-told4 in
+    sym (order-left (pointerOf (rest (now (a .a)) (loop .x))) (pointerOf (rest (now (a .b)) (loop .y)))
+    (sym (names-order .ensures) ∙ enum-told3 .given .1) (rw (enum-told4 .given .1) at (next-part .ensures))
+    (rw (c .enum-told6 .given .1) at (c .before .before .next-part2 .ensures))) ∙ loop .inv
 
 enum-known-x2 : tie.Need-enum-known-x2 Inv-loop μ-loop
 enum-known-x2 c = search needs
@@ -76,16 +102,42 @@ enum-told-7 : tie.Need-enum-told-7 Inv-loop μ-loop
 enum-told-7 c = search needs
 
 returns-5 : tie.Need-returns-5 Inv-loop μ-loop
-returns-5 c = sym (order-right (pointerOf (rest (now (c .before .before .before .before .before .before .before .before .before .before .before .before .before .before .before .args .a)) (c .before .before .before .before .before .before .before .before .before .before .loop .x))) (pointerOf (rest (now (c .before .before .before .before .before .before .before .before .before .before .before .before .before .before .before .args .b)) (c .before .before .before .before .before .before .before .before .before .before .loop .y))) (sym (c .before .before .before .before .before .before .before .before .before .names-order .ensures) ∙ c .before .before .before .before .before .before .before .enum-told3 .given .1) (rw (c .before .before .before .before .x2 .given .1) at (c .before .before .before .before .before .before .next-part .ensures)) (rw (c .enum-told7 .given .1) at (c .before .before .next-part3 .ensures))) ∙ c .before .before .before .before .before .before .before .before .before .before .loop .inv
+returns-5 c =
+    let a = c .before .before .before .before .before .before .before .before .before .before .before .before .before .before .before .args in
+    let loop = c .before .before .before .before .before .before .before .before .before .before .loop in
+    let names-order = c .before .before .before .before .before .before .before .before .before .names-order in
+    let enum-told3 = c .before .before .before .before .before .before .before .enum-told3 in
+    let next-part = c .before .before .before .before .before .before .next-part in
+    let x2 = c .before .before .before .before .x2 in
+    sym (order-right (pointerOf (rest (now (a .a)) (loop .x))) (pointerOf (rest (now (a .b)) (loop .y)))
+    (sym (names-order .ensures) ∙ enum-told3 .given .1) (rw (x2 .given .1) at (next-part .ensures))
+    (rw (c .enum-told7 .given .1) at (c .before .before .next-part3 .ensures))) ∙ loop .inv
 
 enum-known-y2 : tie.Need-enum-known-y2 Inv-loop μ-loop
 enum-known-y2 c = search needs
 
 loop-less : tie.Need-loop-less Inv-loop μ-loop
-loop-less c = fewer (pointerOf (rest (now (c .before .before .before .before .before .before .before .before .before .before .before .before .before .before .before .before .args .a)) (c .before .before .before .before .before .before .before .before .before .before .before .loop .x))) (rw (c .before .before .before .before .before .x2 .given .1) at (c .before .before .before .before .before .before .before .next-part .ensures))
+loop-less c =
+    let early = c .before .before .before .before .before .before .before .before .before .before .before .before in
+    let a = early .before .before .before .before .args in
+    let loop = c .before .before .before .before .before .before .before .before .before .before .before .loop in
+    let next-part = c .before .before .before .before .before .before .before .next-part in
+    let x2 = c .before .before .before .before .before .x2 in
+    fewer (pointerOf (rest (now (a .a)) (loop .x))) (rw (x2 .given .1) at (next-part .ensures))
 
 loop-again : tie.Need-loop-again Inv-loop μ-loop
-loop-again c = sym (order-on (pointerOf (rest (now (c .before .before .before .before .before .before .before .before .before .before .before .before .before .before .before .before .args .a)) (c .before .before .before .before .before .before .before .before .before .before .before .loop .x))) (pointerOf (rest (now (c .before .before .before .before .before .before .before .before .before .before .before .before .before .before .before .before .args .b)) (c .before .before .before .before .before .before .before .before .before .before .before .loop .y))) (sym (c .before .before .before .before .before .before .before .before .before .before .names-order .ensures) ∙ c .before .before .before .before .before .before .before .before .enum-told3 .given .1) (rw (c .before .before .before .before .before .x2 .given .1) at (c .before .before .before .before .before .before .before .next-part .ensures)) (rw (c .before .y2 .given .1) at (c .before .before .before .next-part3 .ensures))) ∙ c .before .before .before .before .before .before .before .before .before .before .before .loop .inv
+loop-again c =
+    let early = c .before .before .before .before .before .before .before .before .before .before .before .before in
+    let a = early .before .before .before .before .args in
+    let loop = c .before .before .before .before .before .before .before .before .before .before .before .loop in
+    let names-order = c .before .before .before .before .before .before .before .before .before .before .names-order in
+    let enum-told3 = c .before .before .before .before .before .before .before .before .enum-told3 in
+    let next-part = c .before .before .before .before .before .before .before .next-part in
+    let x2 = c .before .before .before .before .before .x2 in
+    let next-part3 = c .before .before .before .next-part3 in
+    sym (order-on (pointerOf (rest (now (a .a)) (loop .x))) (pointerOf (rest (now (a .b)) (loop .y)))
+    (sym (names-order .ensures) ∙ enum-told3 .given .1) (rw (x2 .given .1) at (next-part .ensures))
+    (rw (c .before .y2 .given .1) at (next-part3 .ensures))) ∙ loop .inv
 
 pub key-order-spec : {M : Type 1} → statement M
 key-order-spec =

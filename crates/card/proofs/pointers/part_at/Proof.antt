@@ -34,7 +34,11 @@ enum-told : tie.Need-enum-told Inv-loop μ-loop
 enum-told c = search needs
 
 returns : tie.Need-returns Inv-loop μ-loop
-returns c = c .before .before .before .before .loop .inv .0 ∙ strip-keeps (c .before .before .before .before .loop .counter) (c .before .before .before .before .before .before .before .args .parts) (pointerOf (decode (now (c .before .before .before .before .before .before .before .args .key)))) (sym (c .before .before .before .before .loop .inv .0) ∙ (rw (c .enum-told .given .1) at (c .before .before .next-part .ensures))) (omega arith)
+returns c =
+    let a = c .before .before .before .before .before .before .before .args in
+    let loop = c .before .before .before .before .loop in
+    loop .inv .0 ∙ strip-keeps (loop .counter) (a .parts) (pointerOf (decode (now (a .key))))
+    (sym (loop .inv .0) ∙ (rw (c .enum-told .given .1) at (c .before .before .next-part .ensures))) (omega arith)
 
 add-counter : tie.Need-add-counter Inv-loop μ-loop
 add-counter c = search needs
@@ -43,7 +47,13 @@ loop-less : tie.Need-loop-less Inv-loop μ-loop
 loop-less c = search needs
 
 loop-again : tie.Need-loop-again Inv-loop μ-loop
-loop-again c = (sym (strip-on (c .before .before .before .before .before .loop .counter) (pointerOf (decode (now (c .before .before .before .before .before .before .before .before .args .key)))) (sym (c .before .before .before .before .before .loop .inv .0) ∙ (rw (c .before .on .given .1) at (c .before .before .before .next-part .ensures)))), omega arith)
+loop-again c =
+    let a = c .before .before .before .before .before .before .before .before .args in
+    let loop = c .before .before .before .before .before .loop in
+    let next-part = c .before .before .before .next-part in (
+      sym (strip-on (loop .counter) (pointerOf (decode (now (a .key)))) (sym (loop .inv .0) ∙ (rw (c .before .on .given .1) at (next-part .ensures)))),
+      omega arith,
+    )
 
 returns-2 : tie.Need-returns-2 Inv-loop μ-loop
 returns-2 c = c .before .loop .inv .0 ∙ ap (λ n. strip n (pointerOf (decode (now (c .before .before .before .before .args .key))))) (omega arith)

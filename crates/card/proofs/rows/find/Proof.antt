@@ -24,29 +24,56 @@ is-named-requires c κs = search needs
 
 returns : tie.Need-returns Inv-loop μ-loop
 returns c =
-    along-hit (now (c .before .before .before .before .before .before .before .args .table)) (c .before .before .before .before .before .before .before .args .from) (c .before .before .before .before .before .before .before .args .end) (seekIn (now (c .before .before .before .before .before .before .before .args .text)) (now (c .before .before .before .before .before .before .before .args .name))) (c .before .before .before .loop .at) (seekIn (now (c .before .before .before .before .before .before .before .args .text)) (now (c .before .before .before .before .before .before .before .args .name))) (c .before .before .before .loop .inv) (c .before .before .loop-test .taken)
-    (Finds (now (c .before .before .before .before .before .before .before .args .text)) (now (c .before .before .before .before .before .before .before .args .table)) (At (c .before .before .before .loop .at)))
-    (λ ws v. seek-hit (now (c .before .before .before .before .before .before .before .args .text)) (now (c .before .before .before .before .before .before .before .args .name)) (c .before .is-named .result) (c .before .is-named .ensures) ws v (c .if1 .taken))
+    let a = c .before .before .before .before .before .before .before .args in
+    let table = now (a .table) in
+    let text = now (a .text) in
+    let name = now (a .name) in
+    let loop = c .before .before .before .loop in
+    along-hit table (a .from) (a .end) (seekIn text name) (loop .at) (seekIn text name) (loop .inv) (c .before .before .loop-test .taken)
+    (Finds text table (At (loop .at))) (λ ws v. seek-hit text name (c .before .is-named .result) (c .before .is-named .ensures) ws v (c .if1 .taken))
 
 next-row-requires : tie.Need-next-row-requires Inv-loop μ-loop
-next-row-requires c κs = let (ws, v, le) = along-here (now (c .before .before .before .before .before .before .before .args .table)) (c .before .before .before .before .before .before .before .args .from) (c .before .before .before .before .before .before .before .args .end) (seekIn (now (c .before .before .before .before .before .before .before .args .text)) (now (c .before .before .before .before .before .before .before .args .name))) (c .before .before .before .loop .at) (seekIn (now (c .before .before .before .before .before .before .before .args .text)) (now (c .before .before .before .before .before .before .before .args .name))) (c .before .before .before .loop .inv) (c .before .before .before .before .before .before .before .pre .0) (c .before .before .before .before .before .before .before .pre .1) (c .before .before .loop-test .taken) in (ws, v)
+next-row-requires c κs =
+    let a = c .before .before .before .before .before .before .before .args in
+    let text = now (a .text) in
+    let name = now (a .name) in
+    let p = c .before .before .before .before .before .before .before .pre in
+    let loop = c .before .before .before .loop in
+    let (ws, v, le) = along-here (now (a .table)) (a .from) (a .end) (seekIn text name) (loop .at) (seekIn text name) (loop .inv) (p .0) (p .1)
+    (c .before .before .loop-test .taken) in
+    (ws, v)
 
 loop-less : tie.Need-loop-less Inv-loop μ-loop
 loop-less c =
-    let (ws, v, le) = along-here (now (c .before .before .before .before .before .before .before .before .args .table)) (c .before .before .before .before .before .before .before .before .args .from) (c .before .before .before .before .before .before .before .before .args .end) (seekIn (now (c .before .before .before .before .before .before .before .before .args .text)) (now (c .before .before .before .before .before .before .before .before .args .name))) (c .before .before .before .before .loop .at) (seekIn (now (c .before .before .before .before .before .before .before .before .args .text)) (now (c .before .before .before .before .before .before .before .before .args .name))) (c .before .before .before .before .loop .inv) (c .before .before .before .before .before .before .before .before .pre .0) (c .before .before .before .before .before .before .before .before .pre .1) (c .before .before .before .loop-test .taken) in
-    omega (arith, c .next-row .ensures, c .before .before .before .loop-test .taken)
+    let a = c .before .before .before .before .before .before .before .before .args in
+    let text = now (a .text) in
+    let name = now (a .name) in
+    let p = c .before .before .before .before .before .before .before .before .pre in
+    let loop = c .before .before .before .before .loop in
+    let loop-test = c .before .before .before .loop-test in
+    let (ws, v, le) = along-here (now (a .table)) (a .from) (a .end) (seekIn text name) (loop .at) (seekIn text name) (loop .inv) (p .0) (p .1)
+    (loop-test .taken) in
+    omega (arith, c .next-row .ensures, loop-test .taken)
 
 loop-again : tie.Need-loop-again Inv-loop μ-loop
 loop-again c =
-    along-on (now (c .before .before .before .before .before .before .before .before .args .table)) (c .before .before .before .before .before .before .before .before .args .from) (c .before .before .before .before .before .before .before .before .args .end) (seekIn (now (c .before .before .before .before .before .before .before .before .args .text)) (now (c .before .before .before .before .before .before .before .before .args .name))) (c .before .before .before .before .loop .at) (seekIn (now (c .before .before .before .before .before .before .before .before .args .text)) (now (c .before .before .before .before .before .before .before .before .args .name))) (c .before .before .before .before .loop .inv) (c .before .before .before .loop-test .taken) (seekIn (now (c .before .before .before .before .before .before .before .before .args .text)) (now (c .before .before .before .before .before .before .before .before .args .name)))
-    (λ ws v. seek-on (now (c .before .before .before .before .before .before .before .before .args .text)) (now (c .before .before .before .before .before .before .before .before .args .name)) (c .before .before .is-named .result) (c .before .before .is-named .ensures) ws v (c .before .if1 .left))
-    (c .next-row .result) (c .next-row .ensures)
+    let a = c .before .before .before .before .before .before .before .before .args in
+    let text = now (a .text) in
+    let name = now (a .name) in
+    let loop = c .before .before .before .before .loop in
+    let loop-test = c .before .before .before .loop-test in
+    let is-named = c .before .before .is-named in
+    along-on (now (a .table)) (a .from) (a .end) (seekIn text name) (loop .at) (seekIn text name) (loop .inv) (loop-test .taken) (seekIn text name)
+    (λ ws v. seek-on text name (is-named .result) (is-named .ensures) ws v (c .before .if1 .left)) (c .next-row .result) (c .next-row .ensures)
 
 returns-2 : tie.Need-returns-2 Inv-loop μ-loop
 returns-2 c =
-    along-end (now (c .before .before .before .before .before .args .table)) (c .before .before .before .before .before .args .from) (c .before .before .before .before .before .args .end) (seekIn (now (c .before .before .before .before .before .args .text)) (now (c .before .before .before .before .before .args .name))) (c .before .loop .at) (seekIn (now (c .before .before .before .before .before .args .text)) (now (c .before .before .before .before .before .args .name))) (c .before .loop .inv) (c .loop-test .left)
-    (Finds (now (c .before .before .before .before .before .args .text)) (now (c .before .before .before .before .before .args .table)) Nothing)
-    (seek-end (now (c .before .before .before .before .before .args .text)) (now (c .before .before .before .before .before .args .name)) (now (c .before .before .before .before .before .args .table)))
+    let a = c .before .before .before .before .before .args in
+    let table = now (a .table) in
+    let text = now (a .text) in
+    let name = now (a .name) in
+    along-end table (a .from) (a .end) (seekIn text name) (c .before .loop .at) (seekIn text name) (c .before .loop .inv) (c .loop-test .left)
+    (Finds text table Nothing) (seek-end text name table)
 
 pub find-spec : {M : Type 1} → statement M
 find-spec =

@@ -21,7 +21,13 @@ enum-told : tie.Need-enum-told
 enum-told c = search needs
 
 returns : tie.Need-returns
-returns c = λ f s. by-nothing (now (c .before .before .before .before .before .before .args .text)) (now (c .before .before .before .before .before .before .args .table)) (seekIn (now (c .before .before .before .before .before .before .args .text)) (now (c .before .before .before .before .before .before .args .name)) f) (c .before .before .find .ensures f s) (λ (o : Option Property). Finds (now (c .before .before .before .before .before .before .args .text)) (now (c .before .before .before .before .before .before .args .table)) Nothing (ofKind (c .before .before .before .before .before .before .args .wanted) o)) (c .enum-told .given .1) tt
+returns c =
+    λ f s.
+    let a = c .before .before .before .before .before .before .args in
+    let text = now (a .text) in
+    let table = now (a .table) in
+    by-nothing text table (seekIn text (now (a .name)) f) (c .before .before .find .ensures f s)
+    (λ (o : Option Property). Finds text table Nothing (ofKind (a .wanted) o)) (c .enum-told .given .1) tt
 
 kind-requires : tie.Need-kind-requires
 kind-requires c κs = search needs
@@ -29,14 +35,26 @@ kind-requires c κs = search needs
 returns-2 : tie.Need-returns-2
 returns-2 c =
     λ f s.
-    by-found (now (c .before .before .before .before .before .before .before .before .before .args .text)) (now (c .before .before .before .before .before .before .before .before .before .args .table)) (seekIn (now (c .before .before .before .before .before .before .before .before .before .args .text)) (now (c .before .before .before .before .before .before .before .before .before .args .name)) f) (c .before .before .before .before .before .find .ensures f s) (λ (o : Option Property). Finds (now (c .before .before .before .before .before .before .before .before .before .args .text)) (now (c .before .before .before .before .before .before .before .before .before .args .table)) (At (c .before .before .before .k .given .0 .0)) (ofKind (c .before .before .before .before .before .before .before .before .before .args .wanted) o)) (c .before .before .before .k .given .1)
-    (λ p g v e. rw (e, ← value-kind (now (c .before .before .before .before .before .before .before .before .before .args .text)) g v, ← c .before .kind .ensures, eq-eqb (c .before .kind .result) (c .before .before .before .before .before .before .before .before .before .args .wanted) (c .if1 .taken)) (g, v, refl))
+    let a = c .before .before .before .before .before .before .before .before .before .args in
+    let text = now (a .text) in
+    let table = now (a .table) in
+    let find = c .before .before .before .before .before .find in
+    let k = c .before .before .before .k in
+    by-found text table (seekIn text (now (a .name)) f) (find .ensures f s)
+    (λ (o : Option Property). Finds text table (At (k .given .0 .0)) (ofKind (a .wanted) o)) (k .given .1)
+    (λ p g v e. rw (e, ← value-kind text g v, ← c .before .kind .ensures, eq-eqb (c .before .kind .result) (a .wanted) (c .if1 .taken)) (g, v, refl))
 
 returns-3 : tie.Need-returns-3
 returns-3 c =
     λ f s.
-    by-found (now (c .before .before .before .before .before .before .before .before .before .args .text)) (now (c .before .before .before .before .before .before .before .before .before .args .table)) (seekIn (now (c .before .before .before .before .before .before .before .before .before .args .text)) (now (c .before .before .before .before .before .before .before .before .before .args .name)) f) (c .before .before .before .before .before .find .ensures f s) (λ (o : Option Property). Finds (now (c .before .before .before .before .before .before .before .before .before .args .text)) (now (c .before .before .before .before .before .before .before .before .before .args .table)) Nothing (ofKind (c .before .before .before .before .before .before .before .before .before .args .wanted) o)) (c .before .before .before .k .given .1)
-    (λ p g v e. rw (e, ← value-kind (now (c .before .before .before .before .before .before .before .before .before .args .text)) g v, ← c .before .kind .ensures, ne-eqb (c .before .kind .result) (c .before .before .before .before .before .before .before .before .before .args .wanted) (c .if1 .left)) tt)
+    let a = c .before .before .before .before .before .before .before .before .before .args in
+    let text = now (a .text) in
+    let table = now (a .table) in
+    let find = c .before .before .before .before .before .find in
+    let k = c .before .before .before .k in
+    by-found text table (seekIn text (now (a .name)) f) (find .ensures f s) (λ (o : Option Property). Finds text table Nothing (ofKind (a .wanted) o))
+    (k .given .1)
+    (λ p g v e. rw (e, ← value-kind text g v, ← c .before .kind .ensures, ne-eqb (c .before .kind .result) (a .wanted) (c .if1 .left)) tt)
 
 pub find-kind-spec : {M : Type 1} → statement M
 find-kind-spec =

@@ -20,10 +20,20 @@ enum-told-2 : tie.Need-enum-told-2
 enum-told-2 c = search needs
 
 returns : tie.Need-returns
-returns c = λ f s. by-found (now (c .before .before .before .before .before .before .args .text)) (now (c .before .before .before .before .before .before .args .table)) (ofKind (c .before .before .before .before .before .before .args .wanted) (seekIn (now (c .before .before .before .before .before .before .args .text)) (now (c .before .before .before .before .before .before .args .name)) f)) (c .before .before .find-kind .ensures f s) (λ (o : Option Property). true ≡ isThere o) (c .enum-told .given .1) (λ p g v e. refl)
+returns c =
+    λ f s.
+    let a = c .before .before .before .before .before .before .args in
+    let text = now (a .text) in
+    by-found text (now (a .table)) (ofKind (a .wanted) (seekIn text (now (a .name)) f)) (c .before .before .find-kind .ensures f s)
+    (λ (o : Option Property). true ≡ isThere o) (c .enum-told .given .1) (λ p g v e. refl)
 
 returns-2 : tie.Need-returns-2
-returns-2 c = λ f s. by-nothing (now (c .before .before .before .before .before .before .args .text)) (now (c .before .before .before .before .before .before .args .table)) (ofKind (c .before .before .before .before .before .before .args .wanted) (seekIn (now (c .before .before .before .before .before .before .args .text)) (now (c .before .before .before .before .before .before .args .name)) f)) (c .before .before .find-kind .ensures f s) (λ (o : Option Property). false ≡ isThere o) (c .enum-told2 .given .1) refl
+returns-2 c =
+    λ f s.
+    let a = c .before .before .before .before .before .before .args in
+    let text = now (a .text) in
+    by-nothing text (now (a .table)) (ofKind (a .wanted) (seekIn text (now (a .name)) f)) (c .before .before .find-kind .ensures f s)
+    (λ (o : Option Property). false ≡ isThere o) (c .enum-told2 .given .1) refl
 
 pub has-kind-spec : {M : Type 1} → statement M
 has-kind-spec = tie.close (tie.spec find-kind-requires enum-told enum-told-2 returns returns-2)

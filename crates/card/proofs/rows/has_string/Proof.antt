@@ -23,10 +23,22 @@ enum-told : tie.Need-enum-told
 enum-told c = search needs
 
 returns : tie.Need-returns
-returns c = λ f s. by-found (now (c .before .before .before .before .before .before .before .before .before .args .text)) (now (c .before .before .before .before .before .before .before .before .before .args .table)) (seekIn (now (c .before .before .before .before .before .before .before .before .before .args .text)) (now (c .before .before .before .before .before .before .before .before .before .args .name)) f) (c .before .before .before .before .find .ensures f s) (λ (o : Option Property). c .is-string .result ≡ hasKind (now (c .before .before .before .before .before .before .before .before .before .args .content)) o) (c .before .before .k .given .1) (λ p g v e. rw e (c .is-string .ensures g v))
+returns c =
+    λ f s.
+    let a = c .before .before .before .before .before .before .before .before .before .args in
+    let text = now (a .text) in
+    let find = c .before .before .before .before .find in
+    by-found text (now (a .table)) (seekIn text (now (a .name)) f) (find .ensures f s)
+    (λ (o : Option Property). c .is-string .result ≡ hasKind (now (a .content)) o) (c .before .before .k .given .1)
+    (λ p g v e. rw e (c .is-string .ensures g v))
 
 returns-2 : tie.Need-returns-2
-returns-2 c = λ f s. by-nothing (now (c .before .before .before .before .before .before .before .args .text)) (now (c .before .before .before .before .before .before .before .args .table)) (seekIn (now (c .before .before .before .before .before .before .before .args .text)) (now (c .before .before .before .before .before .before .before .args .name)) f) (c .before .before .find .ensures f s) (λ (o : Option Property). false ≡ hasKind (now (c .before .before .before .before .before .before .before .args .content)) o) (c .enum-told .given .1) refl
+returns-2 c =
+    λ f s.
+    let a = c .before .before .before .before .before .before .before .args in
+    let text = now (a .text) in
+    by-nothing text (now (a .table)) (seekIn text (now (a .name)) f) (c .before .before .find .ensures f s)
+    (λ (o : Option Property). false ≡ hasKind (now (a .content)) o) (c .enum-told .given .1) refl
 
 pub has-string-spec : {M : Type 1} → statement M
 has-string-spec =

@@ -14,7 +14,10 @@ kind-requires c κs = search needs
 
 returns : tie.Need-returns
 unfolding isString
-returns c = λ f v. rw (← value-kind (now (c .before .before .before .before .before .args .text)) f v, ← c .before .kind .ensures, ne-eqb (c .before .kind .result) 5 (c .if1 .taken))
+returns c =
+    λ f v.
+    let a = c .before .before .before .before .before .args in
+    rw (← value-kind (now (a .text)) f v, ← c .before .kind .ensures, ne-eqb (c .before .kind .result) 5 (c .if1 .taken))
 
 value-start-requires : tie.Need-value-start-requires
 value-start-requires c κs = search needs
@@ -29,16 +32,19 @@ returns-2 : tie.Need-returns-2
 unfolding isString
 returns-2 c =
     λ f v.
-    let five : c .before .before .before .before .kind .result ≡ 5 = c .before .before .before .if1 .left in
+    let a = c .before .before .before .before .before .before .before .before .args in
+    let text = now (a .text) in
+    let kind = c .before .before .before .before .kind in
+    let if1 = c .before .before .before .if1 in
+    let five : c .before .before .before .before .kind .result ≡ 5 = if1 .left in
     rw (
-      ← value-kind (now (c .before .before .before .before .before .before .before .before .args .text)) f v,
-      ← c .before .before .before .before .kind .ensures,
-      eq-eqb (c .before .before .before .before .kind .result) 5 five,
-      value-token (now (c .before .before .before .before .before .before .before .before .args .text)) f v (omega (arith, c .before .before .before .before .kind .ensures)),
+      ← value-kind text f v,
+      ← kind .ensures,
+      eq-eqb (kind .result) 5 five,
+      value-token text f v (omega (arith, kind .ensures)),
       ← c .before .before .value-start .ensures,
       ← c .before .value-end .ensures,
-    )
-    (c .is-content .ensures)
+    ) (c .is-content .ensures)
 
 pub is-string-spec : {M : Type 1} → statement M
 is-string-spec =

@@ -47,7 +47,10 @@ returns-3 : tie.Need-returns-3
 returns-3 c = λ f s. rw (c .enum-told3 .given .1)
 
 returns-4 : tie.Need-returns-4
-returns-4 c = λ f s. c .breaks-separators .ensures f s ∙ rw (c .before .enum-told4 .given .1) (sym (address-rule (membersOf (now (c .before .before .before .before .before .args .text)) f)))
+returns-4 c =
+    λ f s.
+    let a = c .before .before .before .before .before .args in
+    c .breaks-separators .ensures f s ∙ rw (c .before .enum-told4 .given .1) (sym (address-rule (membersOf (now (a .text)) f)))
 
 returns-5 : tie.Need-returns-5
 returns-5 c = λ f s. rw (c .enum-told5 .given .1)

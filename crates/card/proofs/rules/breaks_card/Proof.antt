@@ -16,7 +16,10 @@ has-kind-requires : tie.Need-has-kind-requires
 has-kind-requires c κs = c .before .before .before .pre
 
 returns : tie.Need-returns
-returns c = λ f s. rw (card-rule (membersOf (now (c .before .before .before .before .before .args .text)) f), ← c .before .has-kind .ensures f s, not-true (c .before .has-kind .result) (c .if1 .taken))
+returns c =
+    λ f s.
+    let a = c .before .before .before .before .before .args in
+    rw (card-rule (membersOf (now (a .text)) f), ← c .before .has-kind .ensures f s, not-true (c .before .has-kind .result) (c .if1 .taken))
 
 slice-aggregate-has-string : tie.Need-slice-aggregate-has-string
 slice-aggregate-has-string c = search needs
@@ -28,7 +31,13 @@ has-string-requires : tie.Need-has-string-requires
 has-string-requires c κs = c .before .before .before .before .before .before .before .pre
 
 returns-2 : tie.Need-returns-2
-returns-2 c = λ f s. rw (card-rule (membersOf (now (c .before .before .before .before .before .before .before .before .args .text)) f), ← c .before .before .before .before .has-kind .ensures f s, not-false (c .before .before .before .before .has-kind .result) (c .before .before .before .if1 .left)) (ap not (c .has-string .ensures f s))
+returns-2 c =
+    λ f s.
+    let a = c .before .before .before .before .before .before .before .before .args in
+    let has-kind = c .before .before .before .before .has-kind in
+    let if1 = c .before .before .before .if1 in
+    rw (card-rule (membersOf (now (a .text)) f), ← has-kind .ensures f s, not-false (has-kind .result) (if1 .left))
+    (ap not (c .has-string .ensures f s))
 
 pub breaks-card-spec : {M : Type 1} → statement M
 breaks-card-spec =

@@ -24,24 +24,44 @@ enum-told c = search needs
 
 returns : tie.Need-returns
 unfolding tally
-returns c = λ f s. by-nothing (now (c .before .before .before .before .before .before .args .text)) (now (c .before .before .before .before .before .before .args .table)) (listIn (membersOf (now (c .before .before .before .before .before .before .args .text)) f)) (c .before .before .find-kind .ensures f s) (λ (o : Option Property). fresh ≡ tally fresh (marksIn o)) (c .enum-told .given .1) refl
+returns c =
+    λ f s.
+    let a = c .before .before .before .before .before .before .args in
+    let text = now (a .text) in
+    by-nothing text (now (a .table)) (listIn (membersOf text f)) (c .before .before .find-kind .ensures f s)
+    (λ (o : Option Property). fresh ≡ tally fresh (marksIn o)) (c .enum-told .given .1) refl
 
 next-row-requires : tie.Need-next-row-requires
-next-row-requires c κs = found-here (now (c .before .before .before .before .before .before .before .args .text)) (now (c .before .before .before .before .before .before .before .args .table)) (listIn (membersOf (now (c .before .before .before .before .before .before .before .args .text)) (c .before .before .before .before .before .before .before .pre .0))) (c .before .before .before .find-kind .ensures (c .before .before .before .before .before .before .before .pre .0) (c .before .before .before .before .before .before .before .pre .1)) (c .before .k .given .1)
+next-row-requires c κs =
+    let a = c .before .before .before .before .before .before .before .args in
+    let text = now (a .text) in
+    let p = c .before .before .before .before .before .before .before .pre in
+    let find-kind = c .before .before .before .find-kind in
+    found-here text (now (a .table)) (listIn (membersOf text (p .0))) (find-kind .ensures (p .0) (p .1)) (c .before .k .given .1)
 
 add-tally-of : tie.Need-add-tally-of
 add-tally-of c = search needs
 
 tally-of-requires : tie.Need-tally-of-requires
 tally-of-requires c κs =
-    let (g, v) = found-here (now (c .before .before .before .before .before .before .before .before .args .text)) (now (c .before .before .before .before .before .before .before .before .args .table)) (listIn (membersOf (now (c .before .before .before .before .before .before .before .before .args .text)) (c .before .before .before .before .before .before .before .before .pre .0))) (c .before .before .before .before .find-kind .ensures (c .before .before .before .before .before .before .before .before .pre .0) (c .before .before .before .before .before .before .before .before .pre .1)) (c .before .before .k .given .1) in
-    (insideAt g, rw (c .next-row .ensures) (value-members (now (c .before .before .before .before .before .before .before .before .args .text)) g v))
+    let a = c .before .before .before .before .before .before .before .before .args in
+    let text = now (a .text) in
+    let p = c .before .before .before .before .before .before .before .before .pre in
+    let find-kind = c .before .before .before .before .find-kind in
+    let (g, v) = found-here text (now (a .table)) (listIn (membersOf text (p .0))) (find-kind .ensures (p .0) (p .1))
+    (c .before .before .k .given .1) in
+    (insideAt g, rw (c .next-row .ensures) (value-members text g v))
 
 returns-2 : tie.Need-returns-2
 returns-2 c =
     λ f s.
-    by-found (now (c .before .before .before .before .before .before .before .before .before .args .text)) (now (c .before .before .before .before .before .before .before .before .before .args .table)) (listIn (membersOf (now (c .before .before .before .before .before .before .before .before .before .args .text)) f)) (c .before .before .before .before .before .find-kind .ensures f s) (λ (o : Option Property). c .tally-of .result ≡ tally fresh (marksIn o)) (c .before .before .before .k .given .1)
-    (λ p g v e. rw (e, value-below (now (c .before .before .before .before .before .before .before .before .before .args .text)) g) (c .tally-of .ensures (insideAt g) (rw (c .before .next-row .ensures) (value-members (now (c .before .before .before .before .before .before .before .before .before .args .text)) g v))))
+    let a = c .before .before .before .before .before .before .before .before .before .args in
+    let text = now (a .text) in
+    let find-kind = c .before .before .before .before .before .find-kind in
+    let k = c .before .before .before .k in
+    by-found text (now (a .table)) (listIn (membersOf text f)) (find-kind .ensures f s)
+    (λ (o : Option Property). c .tally-of .result ≡ tally fresh (marksIn o)) (k .given .1)
+    (λ p g v e. rw (e, value-below text g) (c .tally-of .ensures (insideAt g) (rw (c .before .next-row .ensures) (value-members text g v))))
 
 pub components-spec : {M : Type 1} → statement M
 components-spec =

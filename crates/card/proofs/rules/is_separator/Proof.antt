@@ -15,7 +15,10 @@ kind-requires c κs = search needs
 
 returns : tie.Need-returns
 unfolding isSeparator
-returns c = λ f v. rw (← value-kind (now (c .before .before .before .before .args .text)) f v, ← c .before .kind .ensures, ne-eqb (c .before .kind .result) 7 (c .if1 .taken))
+returns c =
+    λ f v.
+    let a = c .before .before .before .before .args in
+    rw (← value-kind (now (a .text)) f v, ← c .before .kind .ensures, ne-eqb (c .before .kind .result) 7 (c .if1 .taken))
 
 next-row-requires : tie.Need-next-row-requires
 next-row-requires c κs = c .before .before .before .before .pre
@@ -30,14 +33,22 @@ slice-aggregate-has-string-2 : tie.Need-slice-aggregate-has-string-2
 slice-aggregate-has-string-2 c = search needs
 
 has-string-requires : tie.Need-has-string-requires
-has-string-requires c κs = (insideAt (c .before .before .before .before .before .before .before .pre .0), rw (c .before .before .next-row .ensures) (value-members (now (c .before .before .before .before .before .before .before .args .text)) (c .before .before .before .before .before .before .before .pre .0) (c .before .before .before .before .before .before .before .pre .1)))
+has-string-requires c κs =
+    let p = c .before .before .before .before .before .before .before .pre in
+    let a = c .before .before .before .before .before .before .before .args in
+    (insideAt (p .0), rw (c .before .before .next-row .ensures) (value-members (now (a .text)) (p .0) (p .1)))
 
 returns-2 : tie.Need-returns-2
 unfolding isSeparator
 returns-2 c =
     λ f v.
-    rw (← value-kind (now (c .before .before .before .before .before .before .before .before .args .text)) f v, ← c .before .before .before .before .before .kind .ensures, eq-eqb (c .before .before .before .before .before .kind .result) 7 (c .before .before .before .before .if1 .left), value-below (now (c .before .before .before .before .before .before .before .before .args .text)) f)
-    (c .has-string .ensures (insideAt f) (rw (c .before .before .before .next-row .ensures) (value-members (now (c .before .before .before .before .before .before .before .before .args .text)) f v)))
+    let a = c .before .before .before .before .before .before .before .before .args in
+    let text = now (a .text) in
+    let kind = c .before .before .before .before .before .kind in
+    let if1 = c .before .before .before .before .if1 in
+    let next-row = c .before .before .before .next-row in
+    rw (← value-kind text f v, ← kind .ensures, eq-eqb (kind .result) 7 (if1 .left), value-below text f)
+    (c .has-string .ensures (insideAt f) (rw (next-row .ensures) (value-members text f v)))
 
 pub is-separator-spec : {M : Type 1} → statement M
 is-separator-spec =

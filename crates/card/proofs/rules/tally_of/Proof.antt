@@ -21,30 +21,55 @@ loop-holds : tie.Need-loop-holds Inv-loop μ-loop
 loop-holds c = along _ _ _ _
 
 is-separator-requires : tie.Need-is-separator-requires Inv-loop μ-loop
-is-separator-requires c κs = let (ws, v, le) = along-here (now (c .before .before .before .before .args .table)) (c .before .before .before .before .args .from) (c .before .before .before .before .args .end) (tallyIn (now (c .before .before .before .before .args .text)) fresh) (c .before .loop .at) (tallyIn (now (c .before .before .before .before .args .text)) (c .before .loop .m)) (c .before .loop .inv) (c .before .before .before .before .pre .0) (c .before .before .before .before .pre .1) (c .loop-test .taken) in (ws, v)
+is-separator-requires c κs =
+    let a = c .before .before .before .before .args in
+    let text = now (a .text) in
+    let p = c .before .before .before .before .pre in
+    let (ws, v, le) = along-here (now (a .table)) (a .from) (a .end) (tallyIn text fresh) (c .before .loop .at) (tallyIn text (c .before .loop .m))
+    (c .before .loop .inv) (p .0) (p .1) (c .loop-test .taken) in
+    (ws, v)
 
 marked-requires : tie.Need-marked-requires Inv-loop μ-loop
 marked-requires c κs = search needs
 
 next-row-requires : tie.Need-next-row-requires Inv-loop μ-loop
-next-row-requires c κs = let (ws, v, le) = along-here (now (c .before .before .before .before .before .before .args .table)) (c .before .before .before .before .before .before .args .from) (c .before .before .before .before .before .before .args .end) (tallyIn (now (c .before .before .before .before .before .before .args .text)) fresh) (c .before .before .before .loop .at) (tallyIn (now (c .before .before .before .before .before .before .args .text)) (c .before .before .before .loop .m)) (c .before .before .before .loop .inv) (c .before .before .before .before .before .before .pre .0) (c .before .before .before .before .before .before .pre .1) (c .before .before .loop-test .taken) in (ws, v)
+next-row-requires c κs =
+    let a = c .before .before .before .before .before .before .args in
+    let text = now (a .text) in
+    let p = c .before .before .before .before .before .before .pre in
+    let loop = c .before .before .before .loop in
+    let (ws, v, le) = along-here (now (a .table)) (a .from) (a .end) (tallyIn text fresh) (loop .at) (tallyIn text (loop .m)) (loop .inv) (p .0)
+    (p .1) (c .before .before .loop-test .taken) in
+    (ws, v)
 
 loop-less : tie.Need-loop-less Inv-loop μ-loop
 loop-less c =
-    let (ws, v, le) = along-here (now (c .before .before .before .before .before .before .before .args .table)) (c .before .before .before .before .before .before .before .args .from) (c .before .before .before .before .before .before .before .args .end) (tallyIn (now (c .before .before .before .before .before .before .before .args .text)) fresh) (c .before .before .before .before .loop .at) (tallyIn (now (c .before .before .before .before .before .before .before .args .text)) (c .before .before .before .before .loop .m)) (c .before .before .before .before .loop .inv) (c .before .before .before .before .before .before .before .pre .0) (c .before .before .before .before .before .before .before .pre .1) (c .before .before .before .loop-test .taken) in
-    omega (arith, c .next-row .ensures, c .before .before .before .loop-test .taken)
+    let a = c .before .before .before .before .before .before .before .args in
+    let text = now (a .text) in
+    let p = c .before .before .before .before .before .before .before .pre in
+    let loop = c .before .before .before .before .loop in
+    let loop-test = c .before .before .before .loop-test in
+    let (ws, v, le) = along-here (now (a .table)) (a .from) (a .end) (tallyIn text fresh) (loop .at) (tallyIn text (loop .m)) (loop .inv) (p .0)
+    (p .1) (loop-test .taken) in
+    omega (arith, c .next-row .ensures, loop-test .taken)
 
 loop-again : tie.Need-loop-again Inv-loop μ-loop
 loop-again c =
-    along-on (now (c .before .before .before .before .before .before .before .args .table)) (c .before .before .before .before .before .before .before .args .from) (c .before .before .before .before .before .before .before .args .end) (tallyIn (now (c .before .before .before .before .before .before .before .args .text)) fresh) (c .before .before .before .before .loop .at) (tallyIn (now (c .before .before .before .before .before .before .before .args .text)) (c .before .before .before .before .loop .m)) (c .before .before .before .before .loop .inv) (c .before .before .before .loop-test .taken) (tallyIn (now (c .before .before .before .before .before .before .before .args .text)) (c .before .marked .result))
-    (λ ws v. tally-on (now (c .before .before .before .before .before .before .before .args .text)) (c .before .before .before .before .loop .m) (c .before .marked .result) (c .before .before .is-separator .result) (c .before .marked .ensures) ws v (c .before .before .is-separator .ensures ws v))
-    (c .next-row .result) (c .next-row .ensures)
+    let a = c .before .before .before .before .before .before .before .args in
+    let text = now (a .text) in
+    let loop = c .before .before .before .before .loop in
+    let loop-test = c .before .before .before .loop-test in
+    let is-separator = c .before .before .is-separator in
+    along-on (now (a .table)) (a .from) (a .end) (tallyIn text fresh) (loop .at) (tallyIn text (loop .m)) (loop .inv) (loop-test .taken)
+    (tallyIn text (c .before .marked .result)) (λ ws v. tally-on text (loop .m) (c .before .marked .result) (is-separator .result)
+    (c .before .marked .ensures) ws v (is-separator .ensures ws v)) (c .next-row .result) (c .next-row .ensures)
 
 returns : tie.Need-returns Inv-loop μ-loop
 returns c =
-    along-end (now (c .before .before .before .before .args .table)) (c .before .before .before .before .args .from) (c .before .before .before .before .args .end) (tallyIn (now (c .before .before .before .before .args .text)) fresh) (c .before .loop .at) (tallyIn (now (c .before .before .before .before .args .text)) (c .before .loop .m)) (c .before .loop .inv) (c .loop-test .left)
-    (λ (r : Marks). c .before .loop .m ≡ r)
-    (sym (tally-end (now (c .before .before .before .before .args .text)) (c .before .loop .m)))
+    let a = c .before .before .before .before .args in
+    let text = now (a .text) in
+    along-end (now (a .table)) (a .from) (a .end) (tallyIn text fresh) (c .before .loop .at) (tallyIn text (c .before .loop .m))
+    (c .before .loop .inv) (c .loop-test .left) (λ (r : Marks). c .before .loop .m ≡ r) (sym (tally-end text (c .before .loop .m)))
 
 pub tally-of-spec : {M : Type 1} → statement M
 tally-of-spec =

@@ -49,7 +49,8 @@ loop-again c =
     let a = c .before .before .before .before .before .before .before .before .before .args in
     let l = c .before .before .before .before .loop in
     let m = l .a + (l .b - l .a) / 2 in
-    halved-up (aheadAt (a .ptext .now) (a .ptable .now) (a .rows .now) (a .parts) (decode (a .name .now)) (a .past)) (a .lo) (a .hi) (l .inv) m (omega arith) (omega arith) (rw (c .before .stands-before .ensures) at (c .if1 .taken))
+    halved-up (aheadAt (a .ptext .now) (a .ptable .now) (a .rows .now) (a .parts) (decode (a .name .now)) (a .past)) (a .lo) (a .hi) (l .inv) m
+    (omega arith) (omega arith) (rw (c .before .stands-before .ensures) at (c .if1 .taken))
 
 loop-less-2 : tie.Need-loop-less-2 Inv-loop μ-loop
 loop-less-2 c = omega arith
@@ -59,7 +60,8 @@ loop-again-2 c =
     let a = c .before .before .before .before .before .before .before .before .before .args in
     let l = c .before .before .before .before .loop in
     let m = l .a + (l .b - l .a) / 2 in
-    halved-down (aheadAt (a .ptext .now) (a .ptable .now) (a .rows .now) (a .parts) (decode (a .name .now)) (a .past)) (a .lo) (a .hi) (l .inv) m (omega arith) (omega arith) (rw (c .before .stands-before .ensures) at (c .if1 .left))
+    halved-down (aheadAt (a .ptext .now) (a .ptable .now) (a .rows .now) (a .parts) (decode (a .name .now)) (a .past)) (a .lo) (a .hi) (l .inv) m
+    (omega arith) (omega arith) (rw (c .before .stands-before .ensures) at (c .if1 .left))
 
 returns : tie.Need-returns Inv-loop μ-loop
 returns c =

@@ -19,11 +19,13 @@ use Rattle.card.proofs.pointers.part_at.Reads as part-at-reads
 use Rattle.json.proofs.decode.start.Reads as start-reads
 
 -- the order of the part and the name is what was answered
-asked : (c : lts.After-names-order (key-at-reads.Asked, key-at-reads.Learnt, part-at-reads.Asked, part-at-reads.Learnt, start-reads.Asked, start-reads.Learnt, names-order-reads.Asked, names-order-reads.Learnt) reads.Pre reads.Post) {r : Order} → c .names-order .result ≡ r
+asked : (c : lts.After-names-order (key-at-reads.Asked, key-at-reads.Learnt, part-at-reads.Asked, part-at-reads.Learnt, start-reads.Asked, start-reads.Learnt, names-order-reads.Asked, names-order-reads.Learnt) reads.Pre reads.Post) {r : Order}
+    → c .names-order .result ≡ r
     → let a = c .before .before .before .before .before .before .before .args in orderOf (firstPart (strip (a .parts) (pointerOf (keyAt (now (a .ptext)) (now (a .ptable)) (a .row))))) (decode (now (a .name))) ≡ r
 unfolding conts decodeFrom scan pieceBy
 asked c e =
-    rw (← c .before .before .before .key-at .ensures, ← c .before .before .part-at .ensures) (sym (rw (c .before .start .ensures) at (c .names-order .ensures)) ∙ e)
+    let key-at = c .before .before .before .key-at in
+    rw (← key-at .ensures, ← c .before .before .part-at .ensures) (sym (rw (c .before .start .ensures) at (c .names-order .ensures)) ∙ e)
 
 key-at-requires : tie.Need-key-at-requires
 key-at-requires c κs = search needs

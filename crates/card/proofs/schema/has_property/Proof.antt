@@ -21,7 +21,11 @@ has-requires c κs = c .before .before .before .before .pre .1
 
 returns : tie.Need-returns
 unfolding entries properties
-returns c = λ f s. c .has .ensures f s ∙ ap (λ (n : Name). isThere (seek n (membersOf (now (c .before .before .before .before .before .args .text)) f))) (c .before .word-at .ensures ∙ name-at (c .before .before .before .before .before .args .i) (c .before .before .before .before .before .pre .0))
+returns c =
+    λ f s.
+    let a = c .before .before .before .before .before .args in
+    let p = c .before .before .before .before .before .pre in
+    c .has .ensures f s ∙ ap (λ (n : Name). isThere (seek n (membersOf (now (a .text)) f))) (c .before .word-at .ensures ∙ name-at (a .i) (p .0))
 
 pub has-property-spec : {M : Type 1} → statement M
 has-property-spec =

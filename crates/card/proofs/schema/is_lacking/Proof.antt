@@ -29,7 +29,12 @@ is-missing-requires : tie.Need-is-missing-requires Inv-loop μ-loop
 is-missing-requires c κs = (c .loop-test .taken, c .before .before .before .before .pre)
 
 returns : tie.Need-returns Inv-loop μ-loop
-returns c = λ f s. sym (sym (c .before .before .before .loop .inv .0 f s) ∙ lacking-hit (objectType (c .before .before .before .before .before .before .args .o)) (membersOf (now (c .before .before .before .before .before .before .args .text)) f) (c .before .before .before .loop .i) (c .before .before .loop-test .taken) (sym (c .before .is-missing .ensures f s) ∙ c .if1 .taken))
+returns c =
+    λ f s.
+    let a = c .before .before .before .before .before .before .args in
+    let loop = c .before .before .before .loop in
+    sym (sym (loop .inv .0 f s) ∙ lacking-hit (objectType (a .o)) (membersOf (now (a .text)) f) (loop .i) (c .before .before .loop-test .taken)
+    (sym (c .before .is-missing .ensures f s) ∙ c .if1 .taken))
 
 add-i : tie.Need-add-i Inv-loop μ-loop
 add-i c = search needs
@@ -38,10 +43,19 @@ loop-less : tie.Need-loop-less Inv-loop μ-loop
 loop-less c = search needs
 
 loop-again : tie.Need-loop-again Inv-loop μ-loop
-loop-again c = ((λ f s. sym (lacking-on (objectType (c .before .before .before .before .before .before .args .o)) (membersOf (now (c .before .before .before .before .before .before .args .text)) f) (c .before .before .before .loop .i) (c .before .before .loop-test .taken) (sym (c .before .is-missing .ensures f s) ∙ c .if1 .left)) ∙ c .before .before .before .loop .inv .0 f s), omega arith)
+loop-again c =
+    let a = c .before .before .before .before .before .before .args in
+    let loop = c .before .before .before .loop in (
+      (λ f s. sym (lacking-on (objectType (a .o)) (membersOf (now (a .text)) f) (loop .i) (c .before .before .loop-test .taken)
+          (sym (c .before .is-missing .ensures f s) ∙ c .if1 .left)) ∙ loop .inv .0 f s),
+      omega arith,
+    )
 
 returns-2 : tie.Need-returns-2 Inv-loop μ-loop
-returns-2 c = λ f s. sym (sym (c .before .loop .inv .0 f s) ∙ lacking-end (objectType (c .before .before .before .before .args .o)) (membersOf (now (c .before .before .before .before .args .text)) f) (c .before .loop .i) (c .loop-test .left))
+returns-2 c =
+    λ f s.
+    let a = c .before .before .before .before .args in
+    sym (sym (c .before .loop .inv .0 f s) ∙ lacking-end (objectType (a .o)) (membersOf (now (a .text)) f) (c .before .loop .i) (c .loop-test .left))
 
 pub is-lacking-spec : {M : Type 1} → statement M
 is-lacking-spec =

@@ -16,13 +16,27 @@ is-needed-requires : tie.Need-is-needed-requires
 is-needed-requires c κs = search needs
 
 returns-2 : tie.Need-returns-2
-returns-2 c = λ f s. rw (← c .before .before .before .is-owned .ensures, not-false (c .before .before .before .is-owned .result) (c .before .before .if1 .left), ← c .before .is-needed .ensures, not-true (c .before .is-needed .result) (c .if2 .taken))
+returns-2 c =
+    λ f s.
+    let is-owned = c .before .before .before .is-owned in
+    rw (
+      ← is-owned .ensures,
+      not-false (is-owned .result) (c .before .before .if1 .left),
+      ← c .before .is-needed .ensures,
+      not-true (c .before .is-needed .result) (c .if2 .taken),
+    )
 
 has-property-requires : tie.Need-has-property-requires
 has-property-requires c κs = c .before .before .before .before .before .before .pre
 
 returns-3 : tie.Need-returns-3
-returns-3 c = λ f s. rw (← c .before .before .before .before .is-owned .ensures, not-false (c .before .before .before .before .is-owned .result) (c .before .before .before .if1 .left), ← c .before .before .is-needed .ensures, not-false (c .before .before .is-needed .result) (c .before .if2 .left)) (ap not (c .has-property .ensures f s))
+returns-3 c =
+    λ f s.
+    let is-owned = c .before .before .before .before .is-owned in
+    let if1 = c .before .before .before .if1 in
+    let is-needed = c .before .before .is-needed in
+    rw (← is-owned .ensures, not-false (is-owned .result) (if1 .left), ← is-needed .ensures, not-false (is-needed .result) (c .before .if2 .left))
+    (ap not (c .has-property .ensures f s))
 
 pub is-missing-spec : {M : Type 1} → statement M
 is-missing-spec =

@@ -26,7 +26,11 @@ part-is-requires : tie.Need-part-is-requires
 part-is-requires c κs = search needs
 
 returns : tie.Need-returns
-returns c = c .part-is .ensures ∙ ap (same (decode (now (c .before .before .before .before .before .args .content)))) (c .before .word-at .ensures ∙ rw (c .before .before .before .number-of .ensures) (type-name-at (objectType (c .before .before .before .before .before .args .o))))
+returns c =
+    let a = c .before .before .before .before .before .args in
+    let number-of = c .before .before .before .number-of in
+    c .part-is .ensures
+    ∙ ap (same (decode (now (a .content)))) (c .before .word-at .ensures ∙ rw (number-of .ensures) (type-name-at (objectType (a .o))))
 
 pub is-type-name-spec : {M : Type 1} → statement M
 is-type-name-spec =

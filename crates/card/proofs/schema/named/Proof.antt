@@ -21,7 +21,10 @@ name-is-requires c κs = search needs
 
 returns : tie.Need-returns
 unfolding entries properties
-returns c = c .name-is .ensures ∙ ap (same (nameOf (now (c .before .before .before .before .args .text)) (c .before .before .before .before .args .s) (c .before .before .before .before .args .e))) (c .before .word-at .ensures ∙ name-at (c .before .before .before .before .args .i) (c .before .before .before .before .pre))
+returns c =
+    let a = c .before .before .before .before .args in
+    let p = c .before .before .before .before .pre in
+    c .name-is .ensures ∙ ap (same (nameOf (now (a .text)) (a .s) (a .e))) (c .before .word-at .ensures ∙ name-at (a .i) p)
 
 pub named-spec : {M : Type 1} → statement M
 named-spec = tie.close (tie.spec slice-aggregate-word-at word-at-requires name-is-requires returns)

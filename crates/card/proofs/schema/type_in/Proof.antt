@@ -32,7 +32,13 @@ type-of-requires : tie.Need-type-of-requires Inv-loop μ-loop
 type-of-requires c κs = search needs
 
 returns : tie.Need-returns Inv-loop μ-loop
-returns c = c .type-of .ensures ∙ c .before .code-at .ensures .type ∙ sym (type-hit (objectType (c .before .before .before .before .before .before .before .args .o)) (nameOf (now (c .before .before .before .before .before .before .before .args .text)) (c .before .before .before .before .before .before .before .args .s) (c .before .before .before .before .before .before .before .args .e)) (c .before .before .before .before .before .loop .i) (c .before .before .before .before .loop-test .taken) (sym (c .before .before .before .is-property .ensures) ∙ c .before .before .if1 .taken)) ∙ c .before .before .before .before .before .loop .inv .0
+returns c =
+    let a = c .before .before .before .before .before .before .before .args in
+    let loop = c .before .before .before .before .before .loop in
+    let loop-test = c .before .before .before .before .loop-test in
+    let is-property = c .before .before .before .is-property in
+    c .type-of .ensures ∙ c .before .code-at .ensures .type ∙ sym (type-hit (objectType (a .o)) (nameOf (now (a .text)) (a .s) (a .e)) (loop .i)
+    (loop-test .taken) (sym (is-property .ensures) ∙ c .before .before .if1 .taken)) ∙ loop .inv .0
 
 add-i : tie.Need-add-i Inv-loop μ-loop
 add-i c = search needs
@@ -41,10 +47,18 @@ loop-less : tie.Need-loop-less Inv-loop μ-loop
 loop-less c = search needs
 
 loop-again : tie.Need-loop-again Inv-loop μ-loop
-loop-again c = (sym (type-on (objectType (c .before .before .before .before .before .args .o)) (nameOf (now (c .before .before .before .before .before .args .text)) (c .before .before .before .before .before .args .s) (c .before .before .before .before .before .args .e)) (c .before .before .before .loop .i) (c .before .before .loop-test .taken) (sym (c .before .is-property .ensures) ∙ c .if1 .left)) ∙ c .before .before .before .loop .inv .0, omega arith)
+loop-again c =
+    let a = c .before .before .before .before .before .args in
+    let loop = c .before .before .before .loop in (
+      sym (type-on (objectType (a .o)) (nameOf (now (a .text)) (a .s) (a .e)) (loop .i) (c .before .before .loop-test .taken)
+          (sym (c .before .is-property .ensures) ∙ c .if1 .left)) ∙ loop .inv .0,
+      omega arith,
+    )
 
 returns-2 : tie.Need-returns-2 Inv-loop μ-loop
-returns-2 c = sym (type-end (objectType (c .before .before .before .args .o)) (nameOf (now (c .before .before .before .args .text)) (c .before .before .before .args .s) (c .before .before .before .args .e)) (c .before .loop .i) (c .loop-test .left)) ∙ c .before .loop .inv .0
+returns-2 c =
+    let a = c .before .before .before .args in
+    sym (type-end (objectType (a .o)) (nameOf (now (a .text)) (a .s) (a .e)) (c .before .loop .i) (c .loop-test .left)) ∙ c .before .loop .inv .0
 
 pub type-in-spec : {M : Type 1} → statement M
 type-in-spec =

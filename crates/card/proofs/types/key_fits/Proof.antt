@@ -29,7 +29,10 @@ is-id-requires : tie.Need-is-id-requires
 is-id-requires c κs = search needs
 
 returns : tie.Need-returns
-returns c = λ earlier. rw (c .enum-told .given .1) (item-keys (c .enum-told .given .0 .0) earlier (nameOf (now (c .before .before .before .args .text)) (c .before .before .before .args .s) (c .before .before .before .args .e)))
+returns c =
+    λ earlier.
+    let a = c .before .before .before .args in
+    rw (c .enum-told .given .1) (item-keys (c .enum-told .given .0 .0) earlier (nameOf (now (a .text)) (a .s) (a .e)))
 
 returns-2 : tie.Need-returns-2
 returns-2 c = λ earlier. rw (c .enum-told2 .given .1)
@@ -38,7 +41,10 @@ returns-3 : tie.Need-returns-3
 returns-3 c = λ earlier. rw (c .before .before .before .ty .given .1, c .enum-told3 .given .1)
 
 returns-4 : tie.Need-returns-4
-returns-4 c = λ earlier. c .is-id .ensures ∙ rw (c .before .part .ensures, c .before .before .before .before .before .ty .given .1, c .before .before .enum-told4 .given .1)
+returns-4 c =
+    λ earlier.
+    let ty = c .before .before .before .before .before .ty in
+    c .is-id .ensures ∙ rw (c .before .part .ensures, ty .given .1, c .before .before .enum-told4 .given .1)
 
 pub key-fits-spec : {M : Type 1} → statement M
 key-fits-spec =

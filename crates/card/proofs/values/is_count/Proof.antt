@@ -30,30 +30,44 @@ is-digit-requires c κs = search needs
 
 returns : tie.Need-returns Inv-loop μ-loop
 returns c =
-    let t = now (c .before .before .before .before .before .before .args .token) in
-    let i = c .before .before .before .before .loop .i in
-    sym (sym (c .before .before .before .before .loop .inv .0) ∙ ap (countAfter (c .before .before .before .before .before .before .args .low) (c .before .before .before .before .before .before .args .high) (c .before .before .before .before .loop .value)) (digits-from t i (c .before .before .before .loop-test .taken))
+    let a = c .before .before .before .before .before .before .args in
+    let loop = c .before .before .before .before .loop in
+    let loop-test = c .before .before .before .loop-test in
+    let t = now (a .token) in
+    let i = loop .i in
+    sym (sym (loop .inv .0) ∙ ap (countAfter (a .low) (a .high) (loop .value)) (digits-from t i (loop-test .taken))
     ∙ count-other _ _ _ _ _ (sym (c .before .is-digit .ensures) ∙ not-true _ (c .if1 .taken)))
 
 mul-value : tie.Need-mul-value Inv-loop μ-loop
 mul-value c = search needs
 
 sub-value : tie.Need-sub-value Inv-loop μ-loop
-sub-value c = omega (arith, digit-range (getD (now (c .before .before .before .before .before .before .args .token)) (c .before .before .before .before .loop .i) 0) (sym (c .before .is-digit .ensures) ∙ not-false _ (c .if1 .left)))
+sub-value c =
+    let a = c .before .before .before .before .before .before .args in
+    let loop = c .before .before .before .before .loop in
+    omega (arith, digit-range (getD (now (a .token)) (loop .i) 0) (sym (c .before .is-digit .ensures) ∙ not-false _ (c .if1 .left)))
 
 cast-value : tie.Need-cast-value Inv-loop μ-loop
-cast-value c = omega (arith, digit-range (getD (now (c .before .before .before .before .before .before .args .token)) (c .before .before .before .before .loop .i) 0) (sym (c .before .is-digit .ensures) ∙ not-false _ (c .if1 .left)))
+cast-value c =
+    let a = c .before .before .before .before .before .before .args in
+    let loop = c .before .before .before .before .loop in
+    omega (arith, digit-range (getD (now (a .token)) (loop .i) 0) (sym (c .before .is-digit .ensures) ∙ not-false _ (c .if1 .left)))
 
 add-value : tie.Need-add-value Inv-loop μ-loop
-add-value c = omega (arith, digit-range (getD (now (c .before .before .before .before .before .before .args .token)) (c .before .before .before .before .loop .i) 0) (sym (c .before .is-digit .ensures) ∙ not-false _ (c .if1 .left)))
+add-value c =
+    let a = c .before .before .before .before .before .before .args in
+    let loop = c .before .before .before .before .loop in
+    omega (arith, digit-range (getD (now (a .token)) (loop .i) 0) (sym (c .before .is-digit .ensures) ∙ not-false _ (c .if1 .left)))
 
 returns-2 : tie.Need-returns-2 Inv-loop μ-loop
 returns-2 c =
-    let t = now (c .before .before .before .before .before .before .before .args .token) in
-    let i = c .before .before .before .before .before .loop .i in
-    sym (sym (c .before .before .before .before .before .loop .inv .0) ∙ ap (countAfter (c .before .before .before .before .before .before .before .args .low) (c .before .before .before .before .before .before .before .args .high) (c .before .before .before .before .before .loop .value)) (digits-from t i (c .before .before .before .before .loop-test .taken))
-    ∙ count-on _ _ _ _ _ (sym (c .before .before .is-digit .ensures) ∙ not-false _ (c .before .if1 .left))
-    ∙ count-over _ _ _ _ (c .if2 .taken))
+    let a = c .before .before .before .before .before .before .before .args in
+    let loop = c .before .before .before .before .before .loop in
+    let loop-test = c .before .before .before .before .loop-test in
+    let t = now (a .token) in
+    let i = loop .i in
+    sym (sym (loop .inv .0) ∙ ap (countAfter (a .low) (a .high) (loop .value)) (digits-from t i (loop-test .taken))
+    ∙ count-on _ _ _ _ _ (sym (c .before .before .is-digit .ensures) ∙ not-false _ (c .before .if1 .left)) ∙ count-over _ _ _ _ (c .if2 .taken))
 
 add-i : tie.Need-add-i Inv-loop μ-loop
 add-i c = search needs
@@ -63,20 +77,30 @@ loop-less c = search needs
 
 loop-again : tie.Need-loop-again Inv-loop μ-loop
 loop-again c =
-    let t = now (c .before .before .before .before .before .before .before .args .token) in
-    let i = c .before .before .before .before .before .loop .i in (
+    let a = c .before .before .before .before .before .before .before .args in
+    let loop = c .before .before .before .before .before .loop in
+    let loop-test = c .before .before .before .before .loop-test in
+    let t = now (a .token) in
+    let i = loop .i in (
       sym (count-on _ _ _ _ _ (sym (c .before .before .is-digit .ensures) ∙ not-false _ (c .before .if1 .left)))
-          ∙ ap (countAfter (c .before .before .before .before .before .before .before .args .low) (c .before .before .before .before .before .before .before .args .high) (c .before .before .before .before .before .loop .value)) (sym (digits-from t i (c .before .before .before .before .loop-test .taken)))
-          ∙ c .before .before .before .before .before .loop .inv .0,
+          ∙ ap (countAfter (a .low) (a .high) (loop .value)) (sym (digits-from t i (loop-test .taken))) ∙ loop .inv .0,
       omega arith,
       omega arith,
     )
 
 returns-3 : tie.Need-returns-3 Inv-loop μ-loop
-returns-3 c = sym (sym (c .before .before .loop .inv .0) ∙ ap (countAfter (c .before .before .before .before .args .low) (c .before .before .before .before .args .high) (c .before .before .loop .value)) (drop-of-length-le (now (c .before .before .before .before .args .token)) (c .before .loop-test .left)) ∙ count-end _ _ _ (c .before .before .loop .inv .1) ∙ search picks)
+returns-3 c =
+    let a = c .before .before .before .before .args in
+    let loop = c .before .before .loop in
+    sym (sym (loop .inv .0) ∙ ap (countAfter (a .low) (a .high) (loop .value)) (drop-of-length-le (now (a .token)) (c .before .loop-test .left))
+    ∙ count-end _ _ _ (loop .inv .1) ∙ search picks)
 
 returns-4 : tie.Need-returns-4 Inv-loop μ-loop
-returns-4 c = sym (sym (c .before .before .loop .inv .0) ∙ ap (countAfter (c .before .before .before .before .args .low) (c .before .before .before .before .args .high) (c .before .before .loop .value)) (drop-of-length-le (now (c .before .before .before .before .args .token)) (c .before .loop-test .left)) ∙ count-end _ _ _ (c .before .before .loop .inv .1) ∙ search picks)
+returns-4 c =
+    let a = c .before .before .before .before .args in
+    let loop = c .before .before .loop in
+    sym (sym (loop .inv .0) ∙ ap (countAfter (a .low) (a .high) (loop .value)) (drop-of-length-le (now (a .token)) (c .before .loop-test .left))
+    ∙ count-end _ _ _ (loop .inv .1) ∙ search picks)
 
 pub is-count-spec : {M : Type 1} → statement M
 is-count-spec =

@@ -35,32 +35,56 @@ enum-told : tie.Need-enum-told Inv-loop μ-loop
 enum-told c = search needs
 
 returns : tie.Need-returns Inv-loop μ-loop
-returns c = rw (← c .before .before .before .loop .inv .0, none-left (now (c .before .before .before .before .before .before .args .name)) (c .before .before .before .loop .at) (c .before .before .next-byte .ensures .0) (c .enum-told .given .1)) (sym (id-end (c .before .before .before .loop .passed) (c .before .before .before .loop .inv .1)))
+returns c =
+    let a = c .before .before .before .before .before .before .args in
+    let loop = c .before .before .before .loop in
+    rw (← loop .inv .0, none-left (now (a .name)) (loop .at) (c .before .before .next-byte .ensures .0) (c .enum-told .given .1))
+    (sym (id-end (loop .passed) (loop .inv .1)))
 
 enum-known-b : tie.Need-enum-known-b Inv-loop μ-loop
 enum-known-b c = search needs
 
 returns-2 : tie.Need-returns-2 Inv-loop μ-loop
-returns-2 c = rw (← c .before .before .before .before .before .loop .inv .0, byte-left (now (c .before .before .before .before .before .before .before .before .args .name)) (c .before .before .before .before .before .loop .at) (c .before .before .before .before .next-byte .ensures .0) (c .before .before .b .given .1)) (sym (id-long (c .before .before .before .before .before .loop .passed) (c .before .before .b .given .0 .0) _ (c .if1 .taken)))
+returns-2 c =
+    let a = c .before .before .before .before .before .before .before .before .args in
+    let loop = c .before .before .before .before .before .loop in
+    let next-byte = c .before .before .before .before .next-byte in
+    let b = c .before .before .b in
+    rw (← loop .inv .0, byte-left (now (a .name)) (loop .at) (next-byte .ensures .0) (b .given .1))
+    (sym (id-long (loop .passed) (b .given .0 .0) _ (c .if1 .taken)))
 
 id-byte-requires : tie.Need-id-byte-requires Inv-loop μ-loop
 id-byte-requires c κs = search needs
 
 returns-3 : tie.Need-returns-3 Inv-loop μ-loop
-returns-3 c = rw (← c .before .before .before .before .before .before .before .loop .inv .0, byte-left (now (c .before .before .before .before .before .before .before .before .before .before .args .name)) (c .before .before .before .before .before .before .before .loop .at) (c .before .before .before .before .before .before .next-byte .ensures .0) (c .before .before .before .before .b .given .1)) (sym (id-other (c .before .before .before .before .before .before .before .loop .passed) (c .before .before .before .before .b .given .0 .0) _ (sym (c .before .id-byte .ensures) ∙ not-true _ (c .if2 .taken))))
+returns-3 c =
+    let a = c .before .before .before .before .before .before .before .before .before .before .args in
+    let loop = c .before .before .before .before .before .before .before .loop in
+    let next-byte = c .before .before .before .before .before .before .next-byte in
+    let b = c .before .before .before .before .b in
+    rw (← loop .inv .0, byte-left (now (a .name)) (loop .at) (next-byte .ensures .0) (b .given .1))
+    (sym (id-other (loop .passed) (b .given .0 .0) _ (sym (c .before .id-byte .ensures) ∙ not-true _ (c .if2 .taken))))
 
 add-passed : tie.Need-add-passed Inv-loop μ-loop
 add-passed c = omega arith
 
 loop-less : tie.Need-loop-less Inv-loop μ-loop
-loop-less c = omega (arith, ap length (byte-left (now (c .before .before .before .before .before .before .before .before .before .before .args .name)) (c .before .before .before .before .before .before .before .loop .at) (c .before .before .before .before .before .before .next-byte .ensures .0) (c .before .before .before .before .b .given .1)))
+loop-less c =
+    let a = c .before .before .before .before .before .before .before .before .before .before .args in
+    let loop = c .before .before .before .before .before .before .before .loop in
+    let next-byte = c .before .before .before .before .before .before .next-byte in
+    let b = c .before .before .before .before .b in
+    omega (arith, ap length (byte-left (now (a .name)) (loop .at) (next-byte .ensures .0) (b .given .1)))
 
 loop-again : tie.Need-loop-again Inv-loop μ-loop
-loop-again c = (
-  rw (← c .before .before .before .before .before .before .before .loop .inv .0, byte-left (now (c .before .before .before .before .before .before .before .before .before .before .args .name)) (c .before .before .before .before .before .before .before .loop .at) (c .before .before .before .before .before .before .next-byte .ensures .0) (c .before .before .before .before .b .given .1))
-      (sym (id-on (c .before .before .before .before .before .before .before .loop .passed) (c .before .before .before .before .b .given .0 .0) _ (sym (c .before .id-byte .ensures) ∙ not-false _ (c .if2 .left)))),
-  omega (arith, c .before .before .if1 .left),
-)
+loop-again c =
+    let a = c .before .before .before .before .before .before .before .before .before .before .args in
+    let loop = c .before .before .before .before .before .before .before .loop in
+    let next-byte = c .before .before .before .before .before .before .next-byte in
+    let b = c .before .before .before .before .b in (
+      rw (← loop .inv .0, byte-left (now (a .name)) (loop .at) (next-byte .ensures .0) (b .given .1)) (sym (id-on (loop .passed) (b .given .0 .0) _ (sym (c .before .id-byte .ensures) ∙ not-false _ (c .if2 .left)))),
+      omega (arith, c .before .before .if1 .left),
+    )
 
 pub is-id-spec : {M : Type 1} → statement M
 is-id-spec =

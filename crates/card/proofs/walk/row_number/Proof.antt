@@ -19,7 +19,12 @@ kind-fits-requires : tie.Need-kind-fits-requires
 kind-fits-requires c κs = search needs
 
 returns : tie.Need-returns
-returns c = λ f v k. row-unfit (now (c .before .before .before .before .before .args .text)) f (v .some) (typeOf (c .before .before .before .before .before .args .ty)) (c .before .before .before .before .before .args .key) (sym (ap (fits (typeOf (c .before .before .before .before .before .args .ty))) (c .before .before .kind .ensures ∙ row-at f (v .some) (v .stands) .kind)) ∙ sym (c .before .kind-fits .ensures) ∙ denied (c .before .kind-fits .result) (c .if1 .taken))
+returns c =
+    λ f v k.
+    let a = c .before .before .before .before .before .args in
+    row-unfit (now (a .text)) f (v .some) (typeOf (a .ty)) (a .key)
+    (sym (ap (fits (typeOf (a .ty))) (c .before .before .kind .ensures ∙ row-at f (v .some) (v .stands) .kind)) ∙ sym (c .before .kind-fits .ensures)
+    ∙ denied (c .before .kind-fits .result) (c .if1 .taken))
 
 role-of-requires : tie.Need-role-of-requires
 role-of-requires c κs = search needs
@@ -28,13 +33,20 @@ enum-known-o : tie.Need-enum-known-o
 enum-known-o c = search needs
 
 next-row-requires : tie.Need-next-row-requires
-next-row-requires c κs = (c .before .before .before .before .before .before .before .before .before .pre .0, c .before .before .before .before .before .before .before .before .before .pre .1)
+next-row-requires c κs =
+    let p = c .before .before .before .before .before .before .before .before .before .pre in
+    (p .0, p .1)
 
 add-object-number : tie.Need-add-object-number
-add-object-number c = let (f, v) = c .before .before .before .before .before .before .before .before .before .before .pre in omega (arith, row-at f (v .some) (v .stands) .room)
+add-object-number c =
+    let (f, v) = c .before .before .before .before .before .before .before .before .before .before .pre in
+    omega (arith, row-at f (v .some) (v .stands) .room)
 
 object-number-requires : tie.Need-object-number-requires
-object-number-requires c κs = let (f, v) = c .before .before .before .before .before .before .before .before .before .before .pre in (insideAt f, (rw (c .next-row .ensures ∙ ap (λ m. c .before .before .before .before .before .before .before .before .before .before .args .row + 1 + m) (row-at f (v .some) (v .stands) .below)) (inside f (v .some) (v .stands))))
+object-number-requires c κs =
+    let a = c .before .before .before .before .before .before .before .before .before .before .args in
+    let (f, v) = c .before .before .before .before .before .before .before .before .before .before .pre in
+    (insideAt f, (rw (c .next-row .ensures ∙ ap (λ m. a .row + 1 + m) (row-at f (v .some) (v .stands) .below)) (inside f (v .some) (v .stands))))
 
 enum-told : tie.Need-enum-told
 enum-told c = search needs
@@ -43,10 +55,35 @@ value-number-requires : tie.Need-value-number-requires
 value-number-requires c κs = search needs
 
 returns-2 : tie.Need-returns-2
-returns-2 c = λ f v k. let ty : typeOf (c .before .before .before .before .before .before .before .before .before .before .before .args .ty) ≡ objectOf (objectType (c .before .before .before .o .given .0 .0)) = rw (c .before .before .before .o .given .1) at (c .before .before .before .before .before .role-of .ensures) in rw ty (c .object-number .ensures (insideAt f) (rw (c .before .next-row .ensures ∙ ap (λ m. c .before .before .before .before .before .before .before .before .before .before .before .args .row + 1 + m) (row-at f (v .some) (v .stands) .below)) (inside f (v .some) (v .stands))) ∙ row-object (now (c .before .before .before .before .before .before .before .before .before .before .before .args .text)) f (v .some) (objectType (c .before .before .before .o .given .0 .0)) (c .before .before .before .before .before .before .before .before .before .before .before .args .key) (rw ty at (sym (ap (fits (typeOf (c .before .before .before .before .before .before .before .before .before .before .before .args .ty))) (c .before .before .before .before .before .before .before .before .kind .ensures ∙ row-at f (v .some) (v .stands) .kind)) ∙ sym (c .before .before .before .before .before .before .before .kind-fits .ensures) ∙ granted (c .before .before .before .before .before .before .before .kind-fits .result) (c .before .before .before .before .before .before .if1 .left))))
+returns-2 c =
+    λ f v k.
+    let a = c .before .before .before .before .before .before .before .before .before .before .before .args in
+    let kind = c .before .before .before .before .before .before .before .before .kind in
+    let kind-fits = c .before .before .before .before .before .before .before .kind-fits in
+    let if1 = c .before .before .before .before .before .before .if1 in
+    let role-of = c .before .before .before .before .before .role-of in
+    let o = c .before .before .before .o in
+    let ty : typeOf (c .before .before .before .before .before .before .before .before .before .before .before .args .ty) ≡ objectOf
+    (objectType (c .before .before .before .o .given .0 .0)) = rw (o .given .1) at (role-of .ensures) in
+    rw ty
+    (c .object-number .ensures (insideAt f)
+    (rw (c .before .next-row .ensures ∙ ap (λ m. a .row + 1 + m) (row-at f (v .some) (v .stands) .below)) (inside f (v .some) (v .stands)))
+    ∙ row-object (now (a .text)) f (v .some) (objectType (o .given .0 .0)) (a .key)
+    (rw ty at (sym (ap (fits (typeOf (a .ty))) (kind .ensures ∙ row-at f (v .some) (v .stands) .kind)) ∙ sym (kind-fits .ensures)
+    ∙ granted (kind-fits .result) (if1 .left))))
 
 returns-3 : tie.Need-returns-3
-returns-3 c = λ f v k. c .value-number .ensures f v k ∙ row-value (now (c .before .before .before .before .before .before .before .before .before .args .text)) f (v .some) (typeOf (c .before .before .before .before .before .before .before .before .before .args .ty)) (c .before .before .before .before .before .before .before .before .before .args .key) (rw (c .before .enum-told .given .1) at (c .before .before .before .role-of .ensures)) (sym (ap (fits (typeOf (c .before .before .before .before .before .before .before .before .before .args .ty))) (c .before .before .before .before .before .before .kind .ensures ∙ row-at f (v .some) (v .stands) .kind)) ∙ sym (c .before .before .before .before .before .kind-fits .ensures) ∙ granted (c .before .before .before .before .before .kind-fits .result) (c .before .before .before .before .if1 .left))
+returns-3 c =
+    λ f v k.
+    let a = c .before .before .before .before .before .before .before .before .before .args in
+    let kind = c .before .before .before .before .before .before .kind in
+    let kind-fits = c .before .before .before .before .before .kind-fits in
+    let if1 = c .before .before .before .before .if1 in
+    let role-of = c .before .before .before .role-of in
+    c .value-number .ensures f v k ∙ row-value (now (a .text)) f (v .some) (typeOf (a .ty)) (a .key)
+    (rw (c .before .enum-told .given .1) at (role-of .ensures))
+    (sym (ap (fits (typeOf (a .ty))) (kind .ensures ∙ row-at f (v .some) (v .stands) .kind)) ∙ sym (kind-fits .ensures)
+    ∙ granted (kind-fits .result) (if1 .left))
 
 pub row-number-spec : {M : Type 1} → statement M
 row-number-spec =

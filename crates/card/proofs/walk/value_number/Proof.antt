@@ -23,11 +23,45 @@ allows-requires c κs = search needs
 
 returns-2 : tie.Need-returns-2
 unfolding valueNumber
-returns-2 c = λ f v k. let r = row-at f (v .some) (v .stands) in rw (granted (c .before .before .before .before .before .before .before .before .args .key) (c .before .before .before .before .before .if1 .left), ← r .kind, ← r .start, ← r .finish, ← c .before .before .kind .ensures, ← c .before .before .before .before .value-start .ensures, ← c .before .before .before .value-end .ensures, ← c .before .allows .ensures, c .if2 .taken)
+returns-2 c =
+    λ f v k.
+    let a = c .before .before .before .before .before .before .before .before .args in
+    let if1 = c .before .before .before .before .before .if1 in
+    let value-start = c .before .before .before .before .value-start in
+    let value-end = c .before .before .before .value-end in
+    let r = row-at f (v .some) (v .stands) in
+    rw (
+      granted (a .key) (if1 .left),
+      ← r .kind,
+      ← r .start,
+      ← r .finish,
+      ← c .before .before .kind .ensures,
+      ← value-start .ensures,
+      ← value-end .ensures,
+      ← c .before .allows .ensures,
+      c .if2 .taken,
+    )
 
 returns-3 : tie.Need-returns-3
 unfolding valueNumber
-returns-3 c = λ f v k. let r = row-at f (v .some) (v .stands) in rw (granted (c .before .before .before .before .before .before .before .before .args .key) (c .before .before .before .before .before .if1 .left), ← r .kind, ← r .start, ← r .finish, ← c .before .before .kind .ensures, ← c .before .before .before .before .value-start .ensures, ← c .before .before .before .value-end .ensures, ← c .before .allows .ensures, c .if2 .left)
+returns-3 c =
+    λ f v k.
+    let a = c .before .before .before .before .before .before .before .before .args in
+    let if1 = c .before .before .before .before .before .if1 in
+    let value-start = c .before .before .before .before .value-start in
+    let value-end = c .before .before .before .value-end in
+    let r = row-at f (v .some) (v .stands) in
+    rw (
+      granted (a .key) (if1 .left),
+      ← r .kind,
+      ← r .start,
+      ← r .finish,
+      ← c .before .before .kind .ensures,
+      ← value-start .ensures,
+      ← value-end .ensures,
+      ← c .before .allows .ensures,
+      c .if2 .left,
+    )
 
 pub value-number-spec : {M : Type 1} → statement M
 value-number-spec =

@@ -73,14 +73,20 @@ module _ (t : ℕ) where
   returns c =
       λ g v.
       let a = c .before .before .before .before .before .before .before .before .before .before .before .args in
+      let kind = c .before .before .before .before .before .before .before .kind in
+      let value-start = c .before .before .before .before .before .value-start in
+      let value-end = c .before .before .before .before .value-end in
       let row = value-row v in
-      let k = c .before .before .before .before .before .before .before .kind .ensures ∙ row .kind in
+      let k = kind .ensures ∙ row .kind in
       rw (copied-scalar (now (a .text)) g (v .some) (omega (arith, k)))
-      (rw (c .before .before .before .before .before .value-start .ensures ∙ row .start, c .before .before .before .before .value-end .ensures ∙ row .finish) at (c .before .before .put-part .ensures))
+      (rw (value-start .ensures ∙ row .start, value-end .ensures ∙ row .finish) at (c .before .before .put-part .ensures))
 
   -- the row is one of the table
-  inside : (c : lts.Else1 (given t) (copy-value-at t) copy-value.Post Inv-loop μ-loop) → c .before .before .before .before .before .args .row * 6 < length (c .before .before .before .before .before .args .table .now)
-  inside c = row-inside (c .before .before .before .before .before .args .table .now) (c .before .before .before .before .before .args .row) (omega (arith, c .before .kind .ensures, c .if1 .left))
+  inside : (c : lts.Else1 (given t) (copy-value-at t) copy-value.Post Inv-loop μ-loop)
+      → let a = c .before .before .before .before .before .args in a .row * 6 < length (a .table .now)
+  inside c =
+      let a = c .before .before .before .before .before .args in
+      row-inside (a .table .now) (a .row) (omega (arith, c .before .kind .ensures, c .if1 .left))
 
   add-end : lts.Need-add-end (given t) (copy-value-at t) copy-value.Post Inv-loop μ-loop
   add-end c = omega (arith, inside c, c .before .before .before .before .before .good .1 .0 .0)
@@ -89,10 +95,13 @@ module _ (t : ℕ) where
   below-requires c κs = tt
 
   -- the rows inside the value end not far
-  near : (c : lts.After-below (given t) (copy-value-at t) copy-value.Post Inv-loop μ-loop) → c .before .before .before .before .before .before .args .row + 1 + c .below .result < 4611686018427387904
+  near : (c : lts.After-below (given t) (copy-value-at t) copy-value.Post Inv-loop μ-loop)
+      → let a = c .before .before .before .before .before .before .args in a .row + 1 + c .below .result < 4611686018427387904
   near c =
+      let good = c .before .before .before .before .before .before .good in
       let a = c .before .before .before .before .before .before .args in
-      omega (arith, c .before .before .before .before .shared-slice-known2 .given (a .row * 6 + 5), c .below .ensures, inside (c .before), c .before .before .before .before .before .before .good .1 .0 .0)
+      let shared-slice-known2 = c .before .before .before .before .shared-slice-known2 in
+      omega (arith, shared-slice-known2 .given (a .row * 6 + 5), c .below .ensures, inside (c .before), good .1 .0 .0)
 
   add-end-2 : lts.Need-add-end-2 (given t) (copy-value-at t) copy-value.Post Inv-loop μ-loop
   add-end-2 c = omega (arith, near c)
@@ -104,7 +113,9 @@ module _ (t : ℕ) where
   put-byte-requires c κs = tt
 
   add-m : lts.Need-add-m (given t) (copy-value-at t) copy-value.Post Inv-loop μ-loop
-  add-m c = omega (arith, inside (c .before .before .before .before .before .before), c .before .before .before .before .before .before .before .before .before .before .before .good .1 .0 .0)
+  add-m c =
+      let good = c .before .before .before .before .before .before .before .before .before .before .before .good in
+      omega (arith, inside (c .before .before .before .before .before .before), good .1 .0 .0)
 
   loop-holds : lts.Need-loop-holds (given t) (copy-value-at t) copy-value.Post Inv-loop μ-loop
   loop-holds c =
@@ -115,16 +126,35 @@ module _ (t : ℕ) where
   put-head-requires c κs = tt
 
   copy-value-requires : lts.Need-copy-value-requires (given t) (copy-value-at t) copy-value.Post Inv-loop μ-loop
-  copy-value-requires c κs = (omega (arith, c .before .before .before .before .before .before .before .before .before .before .before .before .before .before .before .before .before .before .pre .0, c .before .before .before .before .before .before .loop .inv .0 .later, inside (c .before .before .before .before .before .before .before .before .before .before .before .before .before)), tt)
+  copy-value-requires c κs =
+      let early = c .before .before .before .before .before .before .before .before .before .before .before .before in
+      let p = early .before .before .before .before .before .before .pre in
+      let loop = c .before .before .before .before .before .before .loop in (
+        omega (
+          arith,
+          p .0,
+          loop .inv .0 .later,
+          inside (c .before .before .before .before .before .before .before .before .before .before .before .before .before),
+        ),
+        tt,
+      )
 
   add-m-2 : lts.Need-add-m-2 (given t) (copy-value-at t) copy-value.Post Inv-loop μ-loop
-  add-m-2 c = omega (arith, c .before .before .before .before .before .before .before .before .loop-test .taken, c .before .before .before .before .before .before .before .before .before .loop .inv .0 .near)
+  add-m-2 c =
+      let loop = c .before .before .before .before .before .before .before .before .before .loop in
+      let loop-test = c .before .before .before .before .before .before .before .before .loop-test in
+      omega (arith, loop-test .taken, loop .inv .0 .near)
 
   below-requires-2 : lts.Need-below-requires-2 (given t) (copy-value-at t) copy-value.Post Inv-loop μ-loop
   below-requires-2 c κs = tt
 
   add-m-3 : lts.Need-add-m-3 (given t) (copy-value-at t) copy-value.Post Inv-loop μ-loop
-  add-m-3 c = omega (arith, c .before .before .before .before .before .before .before .before .before .before .before .before .before .before .before .before .before .before .before .before .shared-slice-known2 .given (c .before .before .before .before .before .before .before .before .before .before .loop .m * 6 + 5), c .below2 .ensures, c .before .before .before .before .before .before .before .before .before .loop-test .taken, c .before .before .before .before .before .before .before .before .before .before .loop .inv .0 .near)
+  add-m-3 c =
+      let early = c .before .before .before .before .before .before .before .before .before .before .before .before in
+      let shared-slice-known2 = early .before .before .before .before .before .before .before .before .shared-slice-known2 in
+      let loop = c .before .before .before .before .before .before .before .before .before .before .loop in
+      let loop-test = c .before .before .before .before .before .before .before .before .before .loop-test in
+      omega (arith, shared-slice-known2 .given (loop .m * 6 + 5), c .below2 .ensures, loop-test .taken, loop .inv .0 .near)
 
   loop-less : lts.Need-loop-less (given t) (copy-value-at t) copy-value.Post Inv-loop μ-loop
   loop-less c = omega (arith, c .before .before .before .before .before .before .before .before .before .loop-test .taken)
@@ -150,17 +180,29 @@ module _ (t : ℕ) where
   put-byte-requires-2 c κs = tt
 
   same-length-2 : lts.Need-same-length-2 (given t) (copy-value-at t) copy-value.Post Inv-loop μ-loop
-  same-length-2 c = c .before .before .put-byte2 .kept .0 ∙ c .before .before .before .before .before .before .loop .inv .0 .long ∙ c .before .before .before .before .before .before .before .before .before .put-byte .kept .0
+  same-length-2 c =
+      let put-byte = c .before .before .before .before .before .before .before .before .before .put-byte in
+      let loop = c .before .before .before .before .before .before .loop in
+      c .before .before .put-byte2 .kept .0 ∙ loop .inv .0 .long ∙ put-byte .kept .0
 
   returns-2 : lts.Need-returns-2 (given t) (copy-value-at t) copy-value.Post Inv-loop μ-loop
   returns-2 c =
       λ g v.
-      let k = c .before .before .before .before .before .before .before .before .before .before .before .before .before .before .kind .result in
-      let text = now (c .before .before .before .before .before .before .before .before .before .before .before .before .before .before .before .before .before .before .args .text) in
-      let opened = rw (c .before .before .before .before .before .before .before .before .before .before .open-of .ensures) at (c .before .before .before .before .before .before .before .before .before .put-byte .ensures) in
-      let closed = rw (c .before .before .before .close-of .ensures) at (c .before .before .put-byte2 .ensures) in
-      rw (copied-inside text g (v .some) (v .kinds) k (c .before .before .before .before .before .before .before .before .before .before .before .before .before .before .kind .ensures ∙ value-row v .kind) (c .before .before .before .before .before .before .before .before .before .before .before .before .before .if1 .left))
-      (wrote-then (openOf k ∷ []) (insideOf text k (insideAt g) true) opened (copy-end text k (c .before .before .before .before .before .before .loop .inv .1 g v) (c .before .before .before .before .before .loop-test .left) closed))
+      let early = c .before .before .before .before .before .before .before .before .before .before .before .before in
+      let a = early .before .before .before .before .before .before .args in
+      let kind = c .before .before .before .before .before .before .before .before .before .before .before .before .before .before .kind in
+      let if1 = c .before .before .before .before .before .before .before .before .before .before .before .before .before .if1 in
+      let open-of = c .before .before .before .before .before .before .before .before .before .before .open-of in
+      let put-byte = c .before .before .before .before .before .before .before .before .before .put-byte in
+      let loop = c .before .before .before .before .before .before .loop in
+      let loop-test = c .before .before .before .before .before .loop-test in
+      let close-of = c .before .before .before .close-of in
+      let k = kind .result in
+      let text = now (a .text) in
+      let opened = rw (open-of .ensures) at (put-byte .ensures) in
+      let closed = rw (close-of .ensures) at (c .before .before .put-byte2 .ensures) in
+      rw (copied-inside text g (v .some) (v .kinds) k (kind .ensures ∙ value-row v .kind) (if1 .left))
+      (wrote-then (openOf k ∷ []) (insideOf text k (insideAt g) true) opened (copy-end text k (loop .inv .1 g v) (loop-test .left) closed))
 
 pub +copy-value-spec : {M : Type 1} → statement M
 +copy-value-spec =

@@ -36,7 +36,8 @@ returns-2 : tie.Need-returns-2
 returns-2 c =
     λ t g h v w.
     let a = c .before .before .before .before .before .before .before .before .before .args in
-    adds-down (membersIn (a .root) (now (a .text)) g) (pointerOf (rest (now (a .key)) (a .c))) (changeOf (docOf t h)) (rw (c .enum-told2 .given .1) at (c .before .before .next-part .ensures))
+    adds-down (membersIn (a .root) (now (a .text)) g) (pointerOf (rest (now (a .key)) (a .c))) (changeOf (docOf t h))
+    (rw (c .enum-told2 .given .1) at (c .before .before .next-part .ensures))
 
 has-member-requires : tie.Need-has-member-requires
 has-member-requires c κs = search needs
@@ -45,17 +46,23 @@ returns-3 : tie.Need-returns-3
 returns-3 c =
     λ t g h v w.
     let a = c .before .before .before .before .before .before .before .before .before .before .before .args in
-    adds-none (membersIn (a .root) (now (a .text)) g) (pointerOf (rest (now (a .key)) (a .c))) (docOf t h) (rw (c .before .before .enum-told .given .1) at (c .before .before .before .before .next-part .ensures))
-    (λ e. c .before .before .before .before .before .if1 .left (c .before .before .before .before .before .before .kind .ensures ∙ value-row w .kind ∙ sym (doc-kind t h (w .some)) ∙ e))
-    (c .before .has-member .ensures g v) (c .if2 .taken)
+    let kind = c .before .before .before .before .before .before .kind in
+    let if1 = c .before .before .before .before .before .if1 in
+    let next-part = c .before .before .before .before .next-part in
+    adds-none (membersIn (a .root) (now (a .text)) g) (pointerOf (rest (now (a .key)) (a .c))) (docOf t h)
+    (rw (c .before .before .enum-told .given .1) at (next-part .ensures))
+    (λ e. if1 .left (kind .ensures ∙ value-row w .kind ∙ sym (doc-kind t h (w .some)) ∙ e)) (c .before .has-member .ensures g v) (c .if2 .taken)
 
 returns-4 : tie.Need-returns-4
 returns-4 c =
     λ t g h v w.
     let a = c .before .before .before .before .before .before .before .before .before .before .before .args in
-    adds-it (membersIn (a .root) (now (a .text)) g) (pointerOf (rest (now (a .key)) (a .c))) (docOf t h) (rw (c .before .before .enum-told .given .1) at (c .before .before .before .before .next-part .ensures))
-    (λ e. c .before .before .before .before .before .if1 .left (c .before .before .before .before .before .before .kind .ensures ∙ value-row w .kind ∙ sym (doc-kind t h (w .some)) ∙ e))
-    (c .before .has-member .ensures g v) (c .if2 .left)
+    let kind = c .before .before .before .before .before .before .kind in
+    let if1 = c .before .before .before .before .before .if1 in
+    let next-part = c .before .before .before .before .next-part in
+    adds-it (membersIn (a .root) (now (a .text)) g) (pointerOf (rest (now (a .key)) (a .c))) (docOf t h)
+    (rw (c .before .before .enum-told .given .1) at (next-part .ensures))
+    (λ e. if1 .left (kind .ensures ∙ value-row w .kind ∙ sym (doc-kind t h (w .some)) ∙ e)) (c .before .has-member .ensures g v) (c .if2 .left)
 
 pub is-added-spec : {M : Type 1} → statement M
 is-added-spec =

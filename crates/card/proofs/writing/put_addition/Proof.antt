@@ -28,7 +28,8 @@ is-added-requires : tie.Need-is-added-requires
 is-added-requires c κs = search needs
 
 -- the entry's pointer from the part for the object on
-pointer : (c : tie.After-is-added) {h : Forest} → KnownAt (now (c .before .before .before .before .before .before .before .before .args .ptable)) (c .before .before .before .before .before .before .before .before .args .e) h
+pointer : (c : tie.After-is-added) {h : Forest}
+    → let a = c .before .before .before .before .before .before .before .before .args in KnownAt (now (a .ptable)) (a .e) h
     → pointerOf (rest (now (c .before .before .key-at .result)) (c .before .part-at .result)) ≡ pointerIn (now (c .before .before .before .before .before .before .before .before .args .ptext)) (c .before .before .before .before .before .before .before .before .args .parts) h
 pointer c w =
     let a = c .before .before .before .before .before .before .before .before .args in
@@ -38,10 +39,13 @@ pointer c w =
 returns : tie.Need-returns
 returns c =
     λ g h v w.
+    let good = c .before .before .before .before .before .before .before .before .before .good in
     let a = c .before .before .before .before .before .before .before .before .before .args in
+    let ptext = now (a .ptext) in
     let off = denied (c .before .is-added .result) (c .if1 .taken) in
-    let is = adds-is (membersIn (a .root) (now (a .text)) g) (changeOf (docOf (now (a .ptext)) h)) (pointer (c .before) w) (c .before .is-added .ensures (now (a .ptext)) g h v w) in
-    passed-none (a .from) (omega (arith, c .before .before .before .before .before .before .before .before .before .good .1 .1 .1 .1 .1 .1 .1 .1 .0 .1)) (rw off at is)
+    let is = adds-is (membersIn (a .root) (now (a .text)) g) (changeOf (docOf ptext h)) (pointer (c .before) w)
+    (c .before .is-added .ensures ptext g h v w) in
+    passed-none (a .from) (omega (arith, good .1 .1 .1 .1 .1 .1 .1 .1 .0 .1)) (rw off at is)
 
 put-comma-requires : tie.Need-put-comma-requires
 put-comma-requires c κs = search needs
@@ -61,14 +65,22 @@ same-length c = search needs
 returns-2 : tie.Need-returns-2
 returns-2 c =
     λ g h v w.
-    let a = c .before .before .before .before .before .before .before .before .before .before .before .before .before .before .before .before .before .before .before .before .before .before .before .before .before .args in
-    let on = granted (c .before .before .before .before .before .before .before .before .before .before .before .before .before .before .before .before .before .is-added .result) (c .before .before .before .before .before .before .before .before .before .before .before .before .before .before .before .before .if1 .left) in
-    let d = docOf (now (a .ptext)) h in
-    let label = spelled (firstPart (pointerIn (now (a .ptext)) (a .parts) h)) in
-    let named = rw (pointer (c .before .before .before .before .before .before .before .before .before .before .before .before .before .before .before .before .before) w) at (c .before .before .before .before .before .before .before .before .before .before .put-spelled .ensures) in
-    let is = adds-is (membersIn (a .root) (now (a .text)) g) (changeOf d) (pointer (c .before .before .before .before .before .before .before .before .before .before .before .before .before .before .before .before .before) w) (c .before .before .before .before .before .before .before .before .before .before .before .before .before .before .before .before .before .is-added .ensures (now (a .ptext)) g h v w) in
+    let early = c .before .before .before .before .before .before .before .before .before .before .before .before in
+    let a = early .before .before .before .before .before .before .before .before .before .before .before .before .before .args in
+    let ptext = now (a .ptext) in
+    let is-added = early .before .before .before .before .before .is-added in
+    let if1 = early .before .before .before .before .if1 in
+    let put-comma = c .before .before .before .before .before .before .before .before .before .before .before .before .before .before .put-comma in
+    let put-spelled = c .before .before .before .before .before .before .before .before .before .before .put-spelled in
+    let put-byte = c .before .before .before .before .before .before .put-byte in
+    let on = granted (is-added .result) (if1 .left) in
+    let d = docOf ptext h in
+    let label = spelled (firstPart (pointerIn ptext (a .parts) h)) in
+    let named = rw (pointer (early .before .before .before .before .before) w) at (put-spelled .ensures) in
+    let is = adds-is (membersIn (a .root) (now (a .text)) g) (changeOf d) (pointer (early .before .before .before .before .before) w)
+    (is-added .ensures ptext g h v w) in
     passed-some d (rw on at is)
-    (wrote-then (comma (a .from .first)) (label ++ (58 ∷ [])) (c .before .before .before .before .before .before .before .before .before .before .before .before .before .before .put-comma .ensures) (wrote-then label (58 ∷ []) named (c .before .before .before .before .before .before .put-byte .ensures)))
+    (wrote-then (comma (a .from .first)) (label ++ (58 ∷ [])) (put-comma .ensures) (wrote-then label (58 ∷ []) named (put-byte .ensures)))
     (c .before .before .copy-value .ensures h w)
 
 pub put-addition-spec : {M : Type 1} → statement M

@@ -29,7 +29,10 @@ loop-holds : tie.Need-loop-holds Inv-loop μ-loop
 loop-holds c = (refl, λ g ms v h. record { rest = ms; said = h; left = left-all })
 
 mul-e : tie.Need-mul-e Inv-loop μ-loop
-mul-e c = omega (arith, c .before .before .before .before .before .before .before .before .pre .inside, c .loop-test .taken, c .before .before .before .before .before .before .before .before .good .1 .1 .1 .1 .1 .1 .0 .0)
+mul-e c =
+    let p = c .before .before .before .before .before .before .before .before .pre in
+    let good = c .before .before .before .before .before .before .before .before .good in
+    omega (arith, p .inside, c .loop-test .taken, good .1 .1 .1 .1 .1 .1 .0 .0)
 
 shared-slice-read-e : tie.Need-shared-slice-read-e Inv-loop μ-loop
 shared-slice-read-e c = omega (arith, c .before .before .before .before .before .before .before .before .before .pre .inside, c .before .loop-test .taken)
@@ -67,7 +70,9 @@ returns : tie.Need-returns Inv-loop μ-loop
 returns c =
     λ g ms v h.
     let a = c .before .before .before .before .before .before .before .before .before .before .before .before .args in
-    adding-end (now (a .ptext)) (c .before .before .before .before .before .loop .inv .1 g ms v h) (c .before .before .before .before .loop-test .left) (c .before .before .put-byte .ensures)
+    let loop = c .before .before .before .before .before .loop in
+    let loop-test = c .before .before .before .before .loop-test in
+    adding-end (now (a .ptext)) (loop .inv .1 g ms v h) (loop-test .left) (c .before .before .put-byte .ensures)
 
 pub put-additions-spec : {M : Type 1} → statement M
 put-additions-spec =

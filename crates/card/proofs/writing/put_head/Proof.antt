@@ -29,11 +29,17 @@ same-length c = search needs
 
 returns : tie.Need-returns
 returns c =
-    let a = c .before .before .before .before .before .before .before .before .before .before .before .before .before .before .before .before .before .before .args in
+    let early = c .before .before .before .before .before .before .before .before .before .before .before .before in
+    let a = early .before .before .before .before .before .before .args in
+    let put-comma = c .before .before .before .before .before .before .before .before .before .before .before .before .before .put-comma in
+    let if1 = c .before .before .before .before .before .before .before .before .before .before .if1 in
+    let name-start = c .before .before .before .before .before .before .before .before .before .name-start in
+    let name-end = c .before .before .before .before .before .before .before .before .name-end in
+    let put-label = c .before .before .before .before .before .before .put-label in
     let label = labelIn (now (a .text)) (now (a .table)) (a .row) in
-    let wrote = rw (c .before .before .before .before .before .before .before .before .before .name-start .ensures, c .before .before .before .before .before .before .before .before .name-end .ensures) at (c .before .before .before .before .before .before .put-label .ensures) in
-    rw (eq-eqb (a .kind) 7 (c .before .before .before .before .before .before .before .before .before .before .if1 .taken))
-    (wrote-then (comma (a .first)) (label ++ (58 ∷ [])) (c .before .before .before .before .before .before .before .before .before .before .before .before .before .put-comma .ensures) (wrote-then label (58 ∷ []) wrote (c .before .before .put-byte .ensures)))
+    let wrote = rw (name-start .ensures, name-end .ensures) at (put-label .ensures) in
+    rw (eq-eqb (a .kind) 7 (if1 .taken)) (wrote-then (comma (a .first)) (label ++ (58 ∷ [])) (put-comma .ensures)
+    (wrote-then label (58 ∷ []) wrote (c .before .before .put-byte .ensures)))
 
 same-length-2 : tie.Need-same-length-2
 same-length-2 c = search needs

@@ -34,10 +34,13 @@ returns-2 : tie.Need-returns-2
 returns-2 c =
     λ h d w.
     let a = c .before .before .before .before .before .before .before .before .before .before .before .before .before .before .before .args in
-    let v = docOf (now (a .ptext)) h in
-    passed-some v
-    (rw (change-set v (λ e. c .before .before .before .before .before .before .before .before .if1 .left (c .before .before .before .before .before .before .before .before .before .kind .ensures ∙ value-row w .kind ∙ sym (doc-kind (now (a .ptext)) h (w .some)) ∙ e))))
-    (c .before .before .before .before .before .before .put-head .ensures) (c .before .before .copy-value .ensures h w)
+    let ptext = now (a .ptext) in
+    let kind = c .before .before .before .before .before .before .before .before .before .kind in
+    let if1 = c .before .before .before .before .before .before .before .before .if1 in
+    let put-head = c .before .before .before .before .before .before .put-head in
+    let v = docOf ptext h in
+    passed-some v (rw (change-set v (λ e. if1 .left (kind .ensures ∙ value-row w .kind ∙ sym (doc-kind ptext h (w .some)) ∙ e)))) (put-head .ensures)
+    (c .before .before .copy-value .ensures h w)
 
 pub put-replaced-spec : {M : Type 1} → statement M
 put-replaced-spec =

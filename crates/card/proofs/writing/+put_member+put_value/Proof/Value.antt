@@ -57,9 +57,12 @@ module _ (t : ℕ) where
   returns c =
       λ g ms v s.
       let a = c .before .before .before .before .before .before .before .before .before .before .before .before .args in
-      let d = docOf (now (a .text)) g in
-      rw (based-other (a .root) d (stripped (a .run .parts) ms) (λ e. c .before .before .before .before .if1 .taken (c .before .before .before .before .before .kind .ensures ∙ value-row v .kind ∙ sym (doc-kind (now (a .text)) g (v .some)) ∙ e)))
-      (c .before .before .copy-value .ensures g v)
+      let text = now (a .text) in
+      let kind = c .before .before .before .before .before .kind in
+      let if1 = c .before .before .before .before .if1 in
+      let d = docOf text g in
+      rw (based-other (a .root) d (stripped (a .run .parts) ms)
+      (λ e. if1 .taken (kind .ensures ∙ value-row v .kind ∙ sym (doc-kind text g (v .some)) ∙ e))) (c .before .before .copy-value .ensures g v)
 
   pub is-idle-requires : lts.Need-is-idle-requires (given t) (value-at t) value.Post Inv-loop μ-loop
   is-idle-requires c κs = tt
@@ -74,11 +77,16 @@ module _ (t : ℕ) where
   returns-2 c =
       λ g ms v s.
       let a = c .before .before .before .before .before .before .before .before .before .before .before .before .before .before .args in
-      rw (idle-value (a .root) (docOf (now (a .text)) g) (sym (c .before .before .before .before .before .is-idle .ensures) ∙ c .before .before .before .before .if2 .taken) s) (c .before .before .copy-value2 .ensures g v)
+      let is-idle = c .before .before .before .before .before .is-idle in
+      let if2 = c .before .before .before .before .if2 in
+      rw (idle-value (a .root) (docOf (now (a .text)) g) (sym (is-idle .ensures) ∙ if2 .taken) s) (c .before .before .copy-value2 .ensures g v)
 
   -- the row is one of the table
-  inside : (c : lts.Else1 (given t) (value-at t) value.Post Inv-loop μ-loop) → c .before .before .before .before .before .before .before .before .args .row * 6 < length (c .before .before .before .before .before .before .before .before .args .table .now)
-  inside c = row-inside (c .before .before .before .before .before .before .before .before .args .table .now) (c .before .before .before .before .before .before .before .before .args .row) (omega (arith, c .before .kind .ensures, c .if1 .left))
+  inside : (c : lts.Else1 (given t) (value-at t) value.Post Inv-loop μ-loop)
+      → let a = c .before .before .before .before .before .before .before .before .args in a .row * 6 < length (a .table .now)
+  inside c =
+      let a = c .before .before .before .before .before .before .before .before .args in
+      row-inside (a .table .now) (a .row) (omega (arith, c .before .kind .ensures, c .if1 .left))
 
   pub add-end : lts.Need-add-end (given t) (value-at t) value.Post Inv-loop μ-loop
   add-end c = omega (arith, inside (c .before .before), c .before .before .before .before .before .before .before .before .before .before .good .1 .0 .1)
@@ -87,10 +95,13 @@ module _ (t : ℕ) where
   below-requires c κs = tt
 
   -- the rows inside the value end not far
-  near : (c : lts.After-below (given t) (value-at t) value.Post Inv-loop μ-loop) → c .before .before .before .before .before .before .before .before .before .before .before .args .row + 1 + c .below .result < 4611686018427387904
+  near : (c : lts.After-below (given t) (value-at t) value.Post Inv-loop μ-loop)
+      → let a = c .before .before .before .before .before .before .before .before .before .before .before .args in a .row + 1 + c .below .result < 4611686018427387904
   near c =
+      let good = c .before .before .before .before .before .before .before .before .before .before .before .good in
       let a = c .before .before .before .before .before .before .before .before .before .before .before .args in
-      omega (arith, c .before .before .before .before .before .before .before .before .before .shared-slice-known2 .given (a .row * 6 + 5), c .below .ensures, inside (c .before .before .before), c .before .before .before .before .before .before .before .before .before .before .before .good .1 .0 .1)
+      let shared-slice-known2 = c .before .before .before .before .before .before .before .before .before .shared-slice-known2 in
+      omega (arith, shared-slice-known2 .given (a .row * 6 + 5), c .below .ensures, inside (c .before .before .before), good .1 .0 .1)
 
   pub add-end-2 : lts.Need-add-end-2 (given t) (value-at t) value.Post Inv-loop μ-loop
   add-end-2 c = omega (arith, near c)
@@ -109,10 +120,13 @@ module _ (t : ℕ) where
       )
 
   pub put-member-requires : lts.Need-put-member-requires (given t) (value-at t) value.Post Inv-loop μ-loop
-  put-member-requires c κs = (
-    omega (arith, c .before .before .before .before .before .before .before .before .before .before .before .before .before .before .before .before .before .before .pre .0, c .before .before .loop .inv .0 .later, inside (c .before .before .before .before .before .before .before .before .before .before)),
-    (c .before .before .before .before .before .before .before .before .before .before .before .before .before .before .before .before .before .before .pre .1 .0, omega (arith, c .before .before .before .before .before .before .before .before .before .before .before .before .before .before .before .before .before .before .pre .1 .1, c .before .before .loop .inv .0 .later)),
-  )
+  put-member-requires c κs =
+      let early = c .before .before .before .before .before .before .before .before .before .before .before .before in
+      let p = early .before .before .before .before .before .before .pre in
+      let loop = c .before .before .loop in (
+        omega (arith, p .0, loop .inv .0 .later, inside (c .before .before .before .before .before .before .before .before .before .before)),
+        (p .1 .0, omega (arith, p .1 .1, loop .inv .0 .later)),
+      )
 
   pub add-m-2 : lts.Need-add-m-2 (given t) (value-at t) value.Post Inv-loop μ-loop
   add-m-2 c = omega (arith, c .before .before .before .before .loop-test .taken, c .before .before .before .before .before .loop .inv .0 .near)
@@ -121,7 +135,12 @@ module _ (t : ℕ) where
   below-requires-2 c κs = tt
 
   pub add-m-3 : lts.Need-add-m-3 (given t) (value-at t) value.Post Inv-loop μ-loop
-  add-m-3 c = omega (arith, c .before .before .before .before .before .before .before .before .before .before .before .before .before .before .before .before .before .before .before .before .shared-slice-known2 .given (c .before .before .before .before .before .before .loop .m * 6 + 5), c .below2 .ensures, c .before .before .before .before .before .loop-test .taken, c .before .before .before .before .before .before .loop .inv .0 .near)
+  add-m-3 c =
+      let early = c .before .before .before .before .before .before .before .before .before .before .before .before in
+      let shared-slice-known2 = early .before .before .before .before .before .before .before .before .shared-slice-known2 in
+      let loop = c .before .before .before .before .before .before .loop in
+      let loop-test = c .before .before .before .before .before .loop-test in
+      omega (arith, shared-slice-known2 .given (loop .m * 6 + 5), c .below2 .ensures, loop-test .taken, loop .inv .0 .near)
 
   pub loop-less : lts.Need-loop-less (given t) (value-at t) value.Post Inv-loop μ-loop
   loop-less c = omega (arith, c .before .before .before .before .before .loop-test .taken)
@@ -144,19 +163,31 @@ module _ (t : ℕ) where
       )
 
   pub put-additions-requires : lts.Need-put-additions-requires (given t) (value-at t) value.Post Inv-loop μ-loop
-  put-additions-requires c κs = c .before .before .before .before .before .before .before .before .before .before .before .before .before .before .before .before .before .before .pre .1 .0
+  put-additions-requires c κs =
+      let early = c .before .before .before .before .before .before .before .before .before .before .before .before in
+      let p = early .before .before .before .before .before .before .pre in
+      p .1 .0
 
   pub same-length-3 : lts.Need-same-length-3 (given t) (value-at t) value.Post Inv-loop μ-loop
-  same-length-3 c = c .before .before .put-additions .kept .1 .1 .1 .1 .1 .1 .1 .1 .0 ∙ c .before .before .before .before .before .loop .inv .0 .long ∙ c .before .before .before .before .before .before .before .before .put-byte .kept .0
+  same-length-3 c =
+      let put-byte = c .before .before .before .before .before .before .before .before .put-byte in
+      let loop = c .before .before .before .before .before .loop in
+      c .before .before .put-additions .kept .1 .1 .1 .1 .1 .1 .1 .1 .0 ∙ loop .inv .0 .long ∙ put-byte .kept .0
 
   pub returns-3 : lts.Need-returns-3 (given t) (value-at t) value.Post Inv-loop μ-loop
   returns-3 c =
       λ g ms v s.
-      let a = c .before .before .before .before .before .before .before .before .before .before .before .before .before .before .before .before .before .before .before .before .before .args in
+      let early = c .before .before .before .before .before .before .before .before .before .before .before .before in
+      let a = early .before .before .before .before .before .before .before .before .before .args in
+      let kind = c .before .before .before .before .before .before .before .before .before .before .before .before .before .before .kind in
+      let if1 = c .before .before .before .before .before .before .before .before .before .before .before .before .before .if1 in
+      let put-byte = c .before .before .before .before .before .before .before .before .put-byte in
+      let loop = c .before .before .before .before .before .loop in
+      let loop-test = c .before .before .before .before .loop-test in
       let text = now (a .text) in
       let es = stripped (a .run .parts) ms in
       let more = added (membersIn (a .root) text g) es in
-      let object = doc-object text g (v .some) (v .kinds) (sym (value-row v .kind) ∙ sym (c .before .before .before .before .before .before .before .before .before .before .before .before .before .before .kind .ensures) ∙ c .before .before .before .before .before .before .before .before .before .before .before .before .before .if1 .left) in
-      rw (object, based-object (a .root) (membersOf text (insideAt g)) es)
-      (wrote-then (123 ∷ []) (restBy text (a .root) es more (insideAt g) true) (c .before .before .before .before .before .before .before .before .put-byte .ensures)
-      (patch-end text (a .root) es more (c .before .before .before .before .before .loop .inv .1 g ms v s) (c .before .before .before .before .loop-test .left) (c .before .before .put-additions .ensures g ms v s)))
+      let object = doc-object text g (v .some) (v .kinds) (sym (value-row v .kind) ∙ sym (kind .ensures) ∙ if1 .left) in
+      rw (object, based-object (a .root) (membersOf text (insideAt g)) es) (wrote-then (123 ∷ []) (restBy text (a .root) es more (insideAt g) true)
+      (put-byte .ensures)
+      (patch-end text (a .root) es more (loop .inv .1 g ms v s) (loop-test .left) (c .before .before .put-additions .ensures g ms v s)))
