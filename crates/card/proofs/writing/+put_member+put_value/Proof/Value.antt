@@ -41,7 +41,22 @@ abbrev pub μ-loop : lts.MeasureT-loop
 μ-loop text table row root ptext ptable rows run out₀ at end p s₀ m₀ out s m = end - m
 
 abbrev pub given : ℕ → lts.Claims
-given t = (kind-reads.Asked, kind-reads.Learnt, copy-value-reads.Asked, copy-value-reads.Learnt, is-idle-reads.Asked, is-idle-reads.Learnt, below-reads.Asked, below-reads.Learnt, put-byte-reads.Asked, put-byte-reads.Learnt, member-below t, member.Post, put-additions-reads.Asked, put-additions-reads.Learnt)
+given t = (
+  kind-reads.Asked,
+  kind-reads.Learnt,
+  copy-value-reads.Asked,
+  copy-value-reads.Learnt,
+  is-idle-reads.Asked,
+  is-idle-reads.Learnt,
+  below-reads.Asked,
+  below-reads.Learnt,
+  put-byte-reads.Asked,
+  put-byte-reads.Learnt,
+  member-below t,
+  member.Post,
+  put-additions-reads.Asked,
+  put-additions-reads.Learnt,
+)
 
 module _ (t : ℕ) where
   pub kind-requires : lts.Need-kind-requires (given t) (value-at t) value.Post Inv-loop μ-loop
@@ -147,8 +162,9 @@ module _ (t : ℕ) where
 
   pub loop-again : lts.Need-loop-again (given t) (value-at t) value.Post Inv-loop μ-loop
   loop-again c =
-      let a = c .before .before .before .before .before .before .before .before .before .before .before .before .before .before .before .before .before .before .before .before .before .before .args in
-      let l = c .before .before .before .before .before .before .loop in
+      let turn = c .before .before .before .before .before .before in
+      let a = turn .before .before .before .before .before .before .before .before .before .before .before .before .before .before .before .before .args in
+      let l = turn .loop in
       let taken = c .before .before .before .before .before .loop-test .taken in (
         record {
           later = omega (arith, l .inv .0 .later);
@@ -159,7 +175,8 @@ module _ (t : ℕ) where
             let es = stripped (a .run .parts) ms in
             let w = l .inv .1 g ms v s in
             patch-turn (now (a .text)) (a .root) es (added (membersIn (a .root) (now (a .text)) g) es) w taken
-            (c .before .before .before .put-member .ensures (w .values) ms (walk-here w taken) s) (l .m + 1 + c .below2 .result) (ap (λ (n : ℕ). l .m + 1 + n) (c .below2 .ensures)),
+            (c .before .before .before .put-member .ensures (w .values) ms (walk-here w taken) s) (l .m + 1 + c .below2 .result)
+            (ap (λ (n : ℕ). l .m + 1 + n) (c .below2 .ensures)),
       )
 
   pub put-additions-requires : lts.Need-put-additions-requires (given t) (value-at t) value.Post Inv-loop μ-loop
