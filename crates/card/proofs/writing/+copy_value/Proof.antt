@@ -10,6 +10,7 @@ use denote.Ref.{now}
 use Rattle.text.specs.Tree.{Forest}
 use Rattle.text.specs.Firsts.{insideAt}
 use Rattle.card.specs.Rows.{KnownAt}
+use Rattle.card.specs.Members.{Near}
 use Rattle.card.specs.Copied.{openOf}
 use Rattle.card.proofs.Bytes.{left-all, wrote-then}
 use Rattle.card.proofs.Walks.{row-inside, value-row, Passing, Walk, walk-start}
@@ -117,7 +118,7 @@ module _ (t : ℕ) where
 
   -- the rows inside the value end not far
   near : (c : lts.After-below (given t) (copy-value-at t) copy-value.Post Inv-loop μ-loop)
-      → let a = c .before .before .before .before .before .before .args in a .row + 1 + c .below .result < 4611686018427387904
+      → let a = c .before .before .before .before .before .before .args in Near (a .row + 1 + c .below .result)
   near c =
       let good = c .before .before .before .before .before .before .good in
       let a = c .before .before .before .before .before .before .args in

@@ -13,6 +13,7 @@ use Rattle.text.proofs.Promise.{doc-kind, doc-object}
 use Rattle.contact.specs.Patch.{added}
 use Rattle.card.specs.Entries.{stripped}
 use Rattle.card.specs.Rows.{KnownAt}
+use Rattle.card.specs.Members.{Near}
 use Rattle.card.specs.Patched.{Said, membersIn}
 use Rattle.card.proofs.Bytes.{left-all, wrote-then}
 use Rattle.card.proofs.Walks.{row-inside, value-row, Passing, Walk, walk-start, walk-here}
@@ -111,7 +112,8 @@ module _ (t : ℕ) where
 
   -- the rows inside the value end not far
   near : (c : lts.After-below (given t) (value-at t) value.Post Inv-loop μ-loop)
-      → let a = c .before .before .before .before .before .before .before .before .before .before .before .args in a .row + 1 + c .below .result < 4611686018427387904
+      → let a = c .before .before .before .before .before .before .before .before .before .before .before .args in
+      Near (a .row + 1 + c .below .result)
   near c =
       let good = c .before .before .before .before .before .before .before .before .before .before .before .good in
       let a = c .before .before .before .before .before .before .before .before .before .before .before .args in
