@@ -46,7 +46,13 @@ first-said s h = go (s .listed) (s .ascending) h
         → First t table rows i hi parts ms
     go over a h = absurd (omega arith)
     go (next {ms = ms} g lt some kinds stands l) a h =
-        record { tree = g; value = record { some = some; kinds = kinds; stands = stands }; more = ms; is = refl; said = record { listed = l; ascending = asc-rest a } }
+        record {
+          tree = g;
+          value = record { some = some; kinds = kinds; stands = stands };
+          more = ms;
+          is = refl;
+          said = record { listed = l; ascending = asc-rest a };
+        }
 
 pub none-said : {t table rows : List ℕ} {i hi : ℕ} {ms : Members} → Listed t table rows i hi ms → hi ≤ i → ms ≡ empty
 none-said over h = refl
@@ -73,12 +79,15 @@ module _ (t : List ℕ) {table rows : List ℕ} {i hi parts : ℕ} {object : Mem
       let here : added object (stripped parts (w .rest)) ≡ link o n (spelled n) (added object es) =
       ap (λ (ms : Members). added object (stripped parts ms)) (f .is) ∙ added-linked object (pointerIn t parts g) (changeOf (docOf t g)) es asc in
       let bytes = ap (λ (ms : Members). writtenMembers ms (s .first)) here ∙ linked o n (spelled n) (added object es) (s .first) in
+      let later = writtenMembers (added object es) (since o (s .first)) in
       record {
         rest = f .more;
         said = f .said;
-        left = rw (p .next) (left-on (piece o (s .first) (spelled n)) (writtenMembers (added object es) (since o (s .first))) (left-as bytes (w .left)) (p .wrote));
+        left = rw (p .next) (left-on (piece o (s .first) (spelled n)) later (left-as bytes (w .left)) (p .wrote));
       }
 
   pub adding-end : hi ≤ i → {last : List ℕ} {r : ℕ} → Wrote new (s .to) (125 ∷ []) last r → Wrote old at total last r
   unfolding stripped
-  adding-end h b = left-last (125 ∷ []) (left-as (ap (λ (ms : Members). writtenMembers (added object (stripped parts ms)) (s .first)) (none-said (w .said .listed) h)) (w .left)) b
+  adding-end h b =
+      let none = ap (λ (ms : Members). writtenMembers (added object (stripped parts ms)) (s .first)) (none-said (w .said .listed) h) in
+      left-last (125 ∷ []) (left-as none (w .left)) b

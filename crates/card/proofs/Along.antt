@@ -30,7 +30,8 @@ module _ {A : Type 0} (t : List ℕ) (from end : ℕ) (F : Forest → A) where
         (ws, v, within ws (v .some) h)
 
     -- over a value to the next one
-    pub along-on : at < end → (H : Forest → A) → ((ws : Forest) → ValueAt t at ws → G ws ≡ H (restAt ws)) → (to : ℕ) → to ≡ at + 1 + belowIn t at → Along to H
+    pub along-on : at < end → (H : Forest → A) → ((ws : Forest) → ValueAt t at ws → G ws ≡ H (restAt ws)) → (to : ℕ) → to ≡ at + 1 + belowIn t at
+        → Along to H
     along-on lt H step to e vs s =
         let (ws, h, q) = g vs s in
         let v = first-at ws h lt in

@@ -63,7 +63,8 @@ module _ {old : List ℕ} {at : ℕ} {total : List ℕ} where
   pub left-all : Left old at total old at total
   left-all = record { place = λ c. c; bytes = refl }
 
-  pub left-on : {new : List ℕ} {to : ℕ} (bytes todo : List ℕ) {new′ : List ℕ} {r : ℕ} → Left old at total new to (bytes ++ todo) → Wrote new to bytes new′ r
+  pub left-on : {new : List ℕ} {to : ℕ} (bytes todo : List ℕ) {new′ : List ℕ} {r : ℕ} → Left old at total new to (bytes ++ todo)
+      → Wrote new to bytes new′ r
       → Left old at total new′ r todo
   left-on {new} {to} bytes todo {new′} {r} l w =
       record {

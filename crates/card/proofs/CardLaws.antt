@@ -73,27 +73,28 @@ module _ {t table : List ℕ} {f : Forest} (c : CardIn t table f) where
 
 -- ---- what the card has for a language
 
-module _ {t table : List ℕ} {f : Forest} (c : CardIn t table f) (lang : Name) {m : ℕ} (a : At t table mostEntries (find (patchAt lang) (docOf t f)) m) where
-  no-object-for : (kindIn table m ≡ 7 → ⊥) → (words room : ℕ) → localizedDoc base words room (docOf t f) lang ≡ denied NoLanguage
-  no-object-for h words room =
-      no-patch-object base words room (docOf t f) lang (firstMember t (a .found)) (a .is) (λ e. h (sym (value-kind (a .held .value) t) ∙ e))
+module _ {t table : List ℕ} {f : Forest} (c : CardIn t table f) (lang : Name) {m : ℕ} (a : At t table mostEntries (find (patchAt lang) (docOf t f)) m)
+  where
+    no-object-for : (kindIn table m ≡ 7 → ⊥) → (words room : ℕ) → localizedDoc base words room (docOf t f) lang ≡ denied NoLanguage
+    no-object-for h words room =
+        no-patch-object base words room (docOf t f) lang (firstMember t (a .found)) (a .is) (λ e. h (sym (value-kind (a .held .value) t) ∙ e))
 
-  abbrev inPatch : Members
-  inPatch = membersOf t (insideAt (a .found))
+    abbrev inPatch : Members
+    inPatch = membersOf t (insideAt (a .found))
 
-  module _ (seven : kindIn table m ≡ 7) where
-    is-object : docOf t (a .found) ≡ object inPatch
-    is-object = let v = a .held .value in doc-object t (a .found) (v .some) (v .kinds) (sym (value-row v .kind) ∙ seven)
+    module _ (seven : kindIn table m ≡ 7) where
+      is-object : docOf t (a .found) ≡ object inPatch
+      is-object = let v = a .held .value in doc-object t (a .found) (v .some) (v .kinds) (sym (value-row v .kind) ∙ seven)
 
-    object-for : (words room : ℕ) (out : List ℕ) (r : Attempt)
-        → Made words room (entriesOutcome words room (docOf t f) inPatch) out r
-        → Made words room (localizedDoc base words room (docOf t f) lang) out r
-    object-for words room out r h = rw (patched-so base words room (docOf t f) lang (firstMember t (a .found)) inPatch (a .is) is-object) h
+      object-for : (words room : ℕ) (out : List ℕ) (r : Attempt)
+          → Made words room (entriesOutcome words room (docOf t f) inPatch) out r
+          → Made words room (localizedDoc base words room (docOf t f) lang) out r
+      object-for words room out r h = rw (patched-so base words room (docOf t f) lang (firstMember t (a .found)) inPatch (a .is) is-object) h
 
-    countable-for : Countable (docOf t f) inPatch
-    countable-for =
-        let label = firstMember t (a .found) .label in
-        card-countable c lang inPatch (record { label = label; stands = a .is ∙ ap (λ (d : Doc). some (property label d)) is-object })
+      countable-for : Countable (docOf t f) inPatch
+      countable-for =
+          let label = firstMember t (a .found) .label in
+          card-countable c lang inPatch (record { label = label; stands = a .is ∙ ap (λ (d : Doc). some (property label d)) is-object })
 
 -- by the row that was found for it; a refusal says nothing of the output
 module _ {t table : List ℕ} (lang : Name) {found : Found}
@@ -111,7 +112,8 @@ module _ {t table : List ℕ} (lang : Name) {found : Found}
     pub for-other : (room : ℕ) → (kindIn table m ≡ 7 → ⊥) → MakesFor t table lang room [] (Refused NoLanguage)
     for-other room h f c = no-object-for c lang (at-it c) h (length table) room
 
-    pub for-object : (room : ℕ) (out : List ℕ) (r : Attempt) → kindIn table m ≡ 7 → Makes t table t table m room out r → MakesFor t table lang room out r
+    pub for-object : (room : ℕ) (out : List ℕ) (r : Attempt) → kindIn table m ≡ 7 → Makes t table t table m room out r
+        → MakesFor t table lang room out r
     for-object room out r h made f c =
         object-for c lang (at-it c) h (length table) room out r
         (made f (at-it c .found) (length table) (card-held c .value) (at-it c .held) (countable-for c lang (at-it c) h))

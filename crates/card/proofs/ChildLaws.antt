@@ -59,7 +59,8 @@ inside-size (T.leaf kind ns ne from to rest) s = omega arith
 inside-size (T.node b ns ne from to inside rest) s = omega arith
 
 module _ {table : List ℕ} {limit row : ℕ} {g : Forest} (h : Held table limit row g) (t : List ℕ) (n : Name) where
-  pub child-is : kindIn table row ≡ 7 → (r : Found) → Finds t table (row + 1 + belowIn table row) n (insideAt g) r → Leads t table limit (child n (docOf t g)) r
+  pub child-is : kindIn table row ≡ 7 → (r : Found) → Finds t table (row + 1 + belowIn table row) n (insideAt g) r
+      → Leads t table limit (child n (docOf t g)) r
   child-is e Nothing f = rw (doc-object t g (h .value .some) (h .value .kinds) (sym (value-row (h .value) .kind) ∙ e)) f
   child-is e (Row m) f =
       let v = h .value in

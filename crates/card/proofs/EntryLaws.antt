@@ -71,7 +71,9 @@ module _ (t table rows : List ℕ) (from n : ℕ) {A : Type 0} (f : Members → 
 
 -- what the member at a place does to g
 abbrev pub Turn : (t table rows : List ℕ) (i n : ℕ) {A : Type 0} (g h : Members → A) → Type 0
-Turn t table rows i n g h = (label : List ℕ) (d : Doc) (rest : Members) → Listed t table rows (i + 1) n rest → g (member (nameAt t table rows i) label d rest) ≡ h rest
+Turn t table rows i n g h =
+    (label : List ℕ) (d : Doc) (rest : Members) → Listed t table rows (i + 1) n rest
+    → g (member (nameAt t table rows i) label d rest) ≡ h rest
 
 module _ {t table rows : List ℕ} {from n : ℕ} {A : Type 0} {f g : Members → A} {i : ℕ} (w : Walked t table rows from n f g i) where
   pub walk-on : i < n → {h : Members → A} → Turn t table rows i n g h → Walked t table rows from n f h (i + 1)
@@ -165,7 +167,8 @@ module _ (table : List ℕ) (from end : ℕ) (rows : List ℕ) (n at : ℕ) wher
 pub fill-start : (table : List ℕ) (from end : ℕ) (rows : List ℕ) → Filling table from end rows 0 from
 fill-start table from end rows f h = record { ahead = f; stands = h; kinds = λ k. k; all = λ t later m same k l. l }
 
-module _ {table : List ℕ} {from end : ℕ} {rows : List ℕ} {n at : ℕ} (g : Filling table from end rows n at) (f : Forest) (h : StandsTo table from end f) where
+module _ {table : List ℕ} {from end : ℕ} {rows : List ℕ} {n at : ℕ} (g : Filling table from end rows n at) (f : Forest)
+    (h : StandsTo table from end f) where
   pub fill-room : at < end → at + 1 + belowIn table at ≤ end
   fill-room lt =
       let b = g f h in

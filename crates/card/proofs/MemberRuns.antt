@@ -114,7 +114,8 @@ pub record Middle (t table rows : List ℕ) (a b parts : ℕ) (n : Name) (ms : M
   pub its-under : under n (stripped parts ms) ≡ under n (stripped parts run)
 
 module _ (j : ℕ) (n : Name) (ls ms rs : Members) where
-  middle-mine : Side false n true (stripped j ls) → Side true n false (stripped j rs) → mine n (stripped j (joined ls (joined ms rs))) ≡ mine n (stripped j ms)
+  middle-mine : Side false n true (stripped j ls) → Side true n false (stripped j rs)
+      → mine n (stripped j (joined ls (joined ms rs))) ≡ mine n (stripped j ms)
   middle-mine before after =
       let l = aside-mine false n true (λ e. let z : _≡_ {A = ℕ} 0 1 = cc in omega arith) before in
       let r = aside-mine true n false (λ e. let z : _≡_ {A = ℕ} 0 1 = cc in omega arith) after in

@@ -64,7 +64,9 @@ denied-so table out e = rw e (record { answer = refl; left = tt })
 
 pub given-so : {t lent table : List ℕ} (lang : Name) (out : List ℕ) {r : CardRefusal} → Judges base t lent (Failed r) table
     → Answers (length lent) (localizedOf base (length lent) (length out) t lang) (Denied (Given r)) table out
-given-so {t} {lent} {table} lang out {r} j = denied-so table out (given-iff base (length lent) (length out) t lang r .1 (go (judgedOf base (length lent) t) (judged-answer (Failed r) (judgedOf base (length lent) t) (j .answered))))
+given-so {t} {lent} {table} lang out {r} j =
+    let judged = judgedOf base (length lent) t in
+    denied-so table out (given-iff base (length lent) (length out) t lang r .1 (go judged (judged-answer (Failed r) judged (j .answered))))
   where
     go : (o : Judged) → Failed r ≡ answerOfJudged o → o ≡ failed r
     go (passed f) e = let z : _≡_ {A = ℕ} 0 1 = cc in absurd (omega arith)
@@ -79,12 +81,14 @@ judged-so {words} {room} {n} {o} {r} {table} {out} c j =
     long : length (take n out) ≡ n
     long = length-take-le n out (c .fits)
 
-    go : (v : Judged) → table ≡ tableOfOutcome words (byJudge base words room (take n out) v) → Left words (byJudge base words room (take n out) v) table out
+    go : (v : Judged) → table ≡ tableOfOutcome words (byJudge base words room (take n out) v)
+        → Left words (byJudge base words room (take n out) v) table out
     go (passed f) e = (e, omega (arith, c .fits, long), rw long)
     go (failed q) e = tt
 
 -- a card that judging let pass, and what was made of it
-module _ {t lent table : List ℕ} {count : ℕ} (j : Judges base t lent (Passed count) table) (long : length table ≡ length lent) (room : ℕ) (lang : Name) where
+module _ {t lent table : List ℕ} {count : ℕ} (j : Judges base t lent (Passed count) table) (long : length table ≡ length lent) (room : ℕ)
+    (lang : Name) where
   abbrev outcomeOf : Forest → Outcome
   outcomeOf f = localizedDoc base (length table) room (docOf t f) lang
 
@@ -138,7 +142,8 @@ ready {words} (denied q) {table = table} {out = out} a =
       no-rows = λ e. rw sub-zero;
     })
 
-pub used-fits : {words : ℕ} {o : Outcome} {r : Localized} {table out : List ℕ} → Answers words o r table out → {used : ℕ} → used ≡ usedBy r → used ≤ length out
+pub used-fits : {words : ℕ} {o : Outcome} {r : Localized} {table out : List ℕ} → Answers words o r table out → {used : ℕ} → used ≡ usedBy r
+    → used ≤ length out
 used-fits {o = o} a e = rw e (ready o a .fits)
 
 module _ {words room : ℕ} {text : List ℕ} {lang : Name} {r : Localized} {table out : List ℕ}

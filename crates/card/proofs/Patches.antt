@@ -47,7 +47,8 @@ pub ends-by : (t : List ℕ) {table rows : List ℕ} {lo hi parts : ℕ} {ms : M
 unfolding stripped
 ends-by t f e = rw (f .is) (sym e)
 
-pub no-end : {t table rows : List ℕ} {lo hi parts : ℕ} {ms : Members} → Said t table rows lo hi parts ms → hi ≤ lo → false ≡ endsFirst (stripped parts ms)
+pub no-end : {t table rows : List ℕ} {lo hi parts : ℕ} {ms : Members} → Said t table rows lo hi parts ms → hi ≤ lo
+    → false ≡ endsFirst (stripped parts ms)
 unfolding stripped
 no-end s h = rw (none-said (s .listed) h)
 
@@ -157,7 +158,8 @@ idle-by true lo hi e = let z : _≡_ {A = ℕ} 0 1 = cc in absurd (omega arith)
 idle-by false lo hi e = (refl, eqb-true lo hi e)
 
 -- nothing is said of them
-pub idle-value : {t table rows : List ℕ} (root : Bool) {lo hi parts : ℕ} {ms : Members} (d : Doc) → idle root lo hi ≡ true → Said t table rows lo hi parts ms
+pub idle-value : {t table rows : List ℕ} (root : Bool) {lo hi parts : ℕ} {ms : Members} (d : Doc) → idle root lo hi ≡ true
+    → Said t table rows lo hi parts ms
     → applied (based root d) (stripped parts ms) ≡ d
 unfolding stripped
 idle-value root {lo} {hi} d e s =

@@ -77,7 +77,8 @@ module _ (t table rows : List ℕ) (parts : ℕ) where
         ]
 
     -- what the test says at each place it says of each entry
-    sided : {is : Bool} {i r : ℕ} {ms : Members} → Listed t table rows i r ms → ((k : ℕ) → i ≤ k → k < r → aheadAt k ≡ is) → Side past n is (stripped parts ms)
+    sided : {is : Bool} {i r : ℕ} {ms : Members} → Listed t table rows i r ms → ((k : ℕ) → i ≤ k → k < r → aheadAt k ≡ is)
+        → Side past n is (stripped parts ms)
     unfolding stripped
     sided over w = side-none
     sided (next {i} g h s kinds stands l) w = side-more (rw (key-is t g s stands) at (w i (omega arith) h)) (sided l (λ k a b. w k (omega arith) b))

@@ -73,7 +73,8 @@ module _ (o : ObjectType) (ms : Members) (i : ℕ) where
   unfolding lackingAmong
   lacking-hit h e = rw (entries-from i h, lackingAmong, e)
 
-  pub lacking-on : i < count → isMissing o ms (getD entries i noEntry) ≡ false → lackingAmong o ms (drop i entries) ≡ lackingAmong o ms (drop (i + 1) entries)
+  pub lacking-on : i < count → isMissing o ms (getD entries i noEntry) ≡ false
+      → lackingAmong o ms (drop i entries) ≡ lackingAmong o ms (drop (i + 1) entries)
   unfolding lackingAmong
   lacking-on h e = rw (entries-from i h, lackingAmong, e)
 

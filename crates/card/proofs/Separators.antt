@@ -138,7 +138,8 @@ spelt n (some p) = go (eqb (kindOf (p .content)) 5) refl
 
 -- ---- Card
 
-pub card-rule : (ms : Members) → breaksCard ms ≡ (isThere (ofKind 7 (seek (bytes "members") ms)) && not (hasKind (bytes "group") (seek (bytes "kind") ms)))
+pub card-rule : (ms : Members)
+    → breaksCard ms ≡ (isThere (ofKind 7 (seek (bytes "members") ms)) && not (hasKind (bytes "group") (seek (bytes "kind") ms)))
 unfolding breaksCard present properties typeIn orderOf
 card-rule ms = rw (← there keySet 7 (λ k. refl) (seek (bytes "members") ms), ← spelt (bytes "group") (seek (bytes "kind") ms))
 

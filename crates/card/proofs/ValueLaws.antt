@@ -52,15 +52,16 @@ module _ (text name : List ℕ) where
   abbrev pub seekIn : Forest → Option Property
   seekIn f = seek name (membersOf text f)
 
-  module _ {t : List ℕ} {at : ℕ} (r : Bool) (is : r ≡ same (nameOf text (nameStartIn t at) (nameEndIn t at)) name) (ws : Forest) (v : ValueAt t at ws) where
-    named : same (nameOf text (nameStart ws) (nameEnd ws)) name ≡ r
-    named = sym (is ∙ ap (λ (n : Name). same n name) (value-name text ws v))
+  module _ {t : List ℕ} {at : ℕ} (r : Bool) (is : r ≡ same (nameOf text (nameStartIn t at) (nameEndIn t at)) name) (ws : Forest) (v : ValueAt t at ws)
+    where
+      named : same (nameOf text (nameStart ws) (nameEnd ws)) name ≡ r
+      named = sym (is ∙ ap (λ (n : Name). same n name) (value-name text ws v))
 
-    pub seek-hit : r ≡ true → Finds text t (At at) (seekIn ws)
-    seek-hit q = rw (members-first text ws (v .some), named ∙ q) (ws, v, refl)
+      pub seek-hit : r ≡ true → Finds text t (At at) (seekIn ws)
+      seek-hit q = rw (members-first text ws (v .some), named ∙ q) (ws, v, refl)
 
-    pub seek-on : r ≡ false → seekIn ws ≡ seekIn (restAt ws)
-    seek-on q = rw (members-first text ws (v .some), named ∙ q)
+      pub seek-on : r ≡ false → seekIn ws ≡ seekIn (restAt ws)
+      seek-on q = rw (members-first text ws (v .some), named ∙ q)
 
   pub seek-end : (t : List ℕ) → Finds text t Nothing (seekIn T.none)
   seek-end t = rw (members-none text) tt

@@ -71,14 +71,17 @@ on-row : (n row : ℕ) (b : Breach) → (n ≡ 0 → ⊥) → found row n ≡ on
 on-row zero row b ne = absurd (ne refl)
 on-row (suc n) row b ne = refl
 
-breach-steps : (ty : Ty) (key : Bool) (row : ℕ) (d : Doc) → breachOf ty key row d ≡ onRow (rowNumber ty key d) row (breachAmong ty [] (row + 1) (below d))
+breach-steps : (ty : Ty) (key : Bool) (row : ℕ) (d : Doc)
+    → breachOf ty key row d ≡ onRow (rowNumber ty key d) row (breachAmong ty [] (row + 1) (below d))
 unfolding breachOf breachAmong
 breach-steps ty key row (scalar kind token) = refl
 breach-steps ty key row (array ms) = refl
 breach-steps ty key row (object ms) = refl
 
 pub breach-row : (ty : Ty) (key : Bool) (row n : ℕ) (d : Doc) → (n ≡ 0 → ⊥) → n ≡ rowNumber ty key d → found row n ≡ breachOf ty key row d
-breach-row ty key row n d ne e = on-row n row (breachAmong ty [] (row + 1) (below d)) ne ∙ ap (λ m. onRow m row (breachAmong ty [] (row + 1) (below d))) e ∙ sym (breach-steps ty key row d)
+breach-row ty key row n d ne e =
+    let inside = breachAmong ty [] (row + 1) (below d) in
+    on-row n row inside ne ∙ ap (λ m. onRow m row inside) e ∙ sym (breach-steps ty key row d)
 
 breach-below : (ty : Ty) (key : Bool) (row : ℕ) (d : Doc) → 0 ≡ rowNumber ty key d → breachOf ty key row d ≡ breachAmong ty [] (row + 1) (below d)
 breach-below ty key row d e = breach-steps ty key row d ∙ ap (λ m. onRow m row (breachAmong ty [] (row + 1) (below d))) (sym e)
@@ -105,7 +108,8 @@ module _ (t table : List ℕ) (ty : Ty) (key : Bool) (row end : ℕ) where
   abbrev pub Judging : ℕ → Type 0
   Judging at = (f : Forest) → ValueAt table row f → Kinds f → Ahead f at
 
-  pub judging-starts : end ≡ row + 1 + belowIn table row → ((f : Forest) → ValueAt table row f → Kinds f → 0 ≡ rowNumber ty key (docOf t f)) → Judging (row + 1)
+  pub judging-starts : end ≡ row + 1 + belowIn table row → ((f : Forest) → ValueAt table row f → Kinds f → 0 ≡ rowNumber ty key (docOf t f))
+      → Judging (row + 1)
   judging-starts e fine f v k =
       record {
         ahead = insideAt f;
@@ -137,7 +141,8 @@ module _ (t table : List ℕ) (ty : Ty) (key : Bool) (row end : ℕ) where
 
     -- the breach of the value here, of the type and key that the code has asked
     module _ (inner : Ty) (fit : Bool) (b : Breach) (typed : inner ≡ memberType ty (nameOf t (nameStartIn table at) (nameEndIn table at)))
-        (keyed : (earlier : List Name) → fit ≡ keyFits ty earlier (nameOf t (nameStartIn table at) (nameEndIn table at))) (is : b ≡ breachOf inner fit at (docOf t here)) where
+        (keyed : (earlier : List Name) → fit ≡ keyFits ty earlier (nameOf t (nameStartIn table at) (nameEndIn table at)))
+        (is : b ≡ breachOf inner fit at (docOf t here)) where
       rest-of : Breach
       unfolding here
       rest-of = breachAmong ty (nameOf t (nameStart here) (nameEnd here) ∷ g f v k .earlier) (at + 1 + belowAt here) (membersOf t (restAt here))
@@ -147,7 +152,8 @@ module _ (t table : List ℕ) (ty : Ty) (key : Bool) (row end : ℕ) where
       by-first =
           let r = row-at here some-here (g f v k .stands .stands) in
           let n : nameOf t (nameStartIn table at) (nameEndIn table at) ≡ nameOf t (nameStart here) (nameEnd here) = rw (r .name-start, r .name-end) in
-          let q : breachOf (memberType ty (nameOf t (nameStart here) (nameEnd here))) (keyFits ty (g f v k .earlier) (nameOf t (nameStart here) (nameEnd here))) at (docOf t here) ≡ b =
+          let name = nameOf t (nameStart here) (nameEnd here) in
+          let q : breachOf (memberType ty name) (keyFits ty (g f v k .earlier) name) at (docOf t here) ≡ b =
           rw (is, typed, keyed (g f v k .earlier), n) refl in
           g f v k .is ∙ among-first t ty (g f v k .earlier) at here some-here ∙ ap (λ x. orElse x rest-of) q
 
@@ -170,4 +176,5 @@ module _ (t table : List ℕ) (ty : Ty) (key : Bool) (row end : ℕ) where
   unfolding breachAmong breachOf
   judging-ends at g le f v k =
       let a = g f v k in
-      sym (a .is ∙ ap (λ w. breachAmong ty (a .earlier) at (membersOf t w)) (none-at (a .ahead) (a .stands) le) ∙ ap (breachAmong ty (a .earlier) at) (members-none t))
+      let among = breachAmong ty (a .earlier) at in
+      sym (a .is ∙ ap (λ w. among (membersOf t w)) (none-at (a .ahead) (a .stands) le) ∙ ap among (members-none t))

@@ -16,6 +16,7 @@ use Rattle.text.specs.Standing.{StandsTo}
 use Rattle.text.proofs.Promise.{RowAt, row-at, inside, after, some-at, none-at}
 use Rattle.json.specs.Rows.{kindIn, belowIn}
 use Rattle.card.specs.Rows.{KnownAt}
+use Rattle.card.specs.Members.{Near}
 use Rattle.card.proofs.Bytes.{Left}
 
 pub kinds-inside : (g : Forest) → Kinds g → Kinds (insideAt g)
@@ -43,13 +44,14 @@ pub value-row : {table : List ℕ} {row : ℕ} {g : Forest} → KnownAt table ro
 value-row {g = g} v = row-at g (v .some) (v .stands)
 
 -- what is inside it, by the number of rows
-pub value-inside : {table : List ℕ} {row k : ℕ} {g : Forest} → KnownAt table row g → k ≡ belowIn table row → StandsTo table (row + 1) (row + 1 + k) (insideAt g)
+pub value-inside : {table : List ℕ} {row k : ℕ} {g : Forest} → KnownAt table row g → k ≡ belowIn table row
+    → StandsTo table (row + 1) (row + 1 + k) (insideAt g)
 value-inside {g = g} v e = rw (e, value-row v .below) (inside g (v .some) (v .stands))
 
 -- What a loop along the rows inside a value keeps, whatever the table holds: it is past the value's row, its end is not far, and the output is as long as before.
 pub record Passing (row end m : ℕ) (old new : List ℕ) : Type 0 where
   pub later : row < m
-  pub near : end < 4611686018427387904
+  pub near : Near end
   pub long : length new ≡ length old
 
 -- Of the bytes `total` that go into `old` from `at` on, those of the values from row m up to `end` are left.

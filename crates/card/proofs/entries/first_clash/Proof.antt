@@ -12,7 +12,9 @@ use Rattle.card.proofs.entries.first_clash.Statement.{statement}
 use Rattle.card.proofs.entries.first_clash.Tie as tie
 
 abbrev Inv-loop : tie.InvT-loop
-Inv-loop text table rows n found₀ i row j₀ found j = (j ≤ n) × (found ≡ Nothing) × Walked text table rows (i + 1) n (clashIn (decode (keyBytes text table row))) (clashIn (decode (keyBytes text table row))) j
+Inv-loop text table rows n found₀ i row j₀ found j =
+    let clash = clashIn (decode (keyBytes text table row)) in
+    (j ≤ n) × (found ≡ Nothing) × Walked text table rows (i + 1) n clash clash j
 
 abbrev μ-loop : tie.MeasureT-loop
 μ-loop text table rows n found₀ i row j₀ found j = n - j

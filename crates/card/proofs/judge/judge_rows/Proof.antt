@@ -9,7 +9,9 @@ use Rattle.card.proofs.judge.judge_rows.Statement.{statement}
 use Rattle.card.proofs.judge.judge_rows.Tie as tie
 
 breach-at-requires : tie.Need-breach-at-requires
-breach-at-requires c κs = (c .before .before .before .pre .0, card-value (c .before .before .before .pre .1), card-kinds (c .before .before .before .pre .1))
+breach-at-requires c κs =
+    let (f, card) = c .before .before .before .pre in
+    (f, card-value card, card-kinds card)
 
 enum-told : tie.Need-enum-told
 enum-told c = search needs

@@ -28,7 +28,11 @@ returns c =
     no-patch-in (now (a .language)) (docOf (now (a .text)) g) (rw (c .enum-told .given .1) at (c .before .before .child-row .ensures g limit h))
 
 child-row-requires-2 : tie.Need-child-row-requires-2
-child-row-requires-2 c κs = let g = c .before .before .before .before .before .before .before .before .pre .0 in let a = at-row (rw (c .before .all .given .1) at (c .before .before .before .child-row .ensures g (0 + size g) (record { value = c .before .before .before .before .before .before .before .before .pre .1; within = omega arith }))) in (a .found, a .held .value)
+child-row-requires-2 c κs =
+    let (g, v) = c .before .before .before .before .before .before .before .before .pre in
+    let child-row = c .before .before .before .child-row in
+    let a = at-row (rw (c .before .all .given .1) at (child-row .ensures g (0 + size g) (record { value = v; within = omega arith }))) in
+    (a .found, a .held .value)
 
 returns-2 : tie.Need-returns-2
 returns-2 c =

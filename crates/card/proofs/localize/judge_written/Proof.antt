@@ -8,7 +8,9 @@ use Rattle.card.proofs.localize.judge_written.Statement.{statement}
 use Rattle.card.proofs.localize.judge_written.Tie as tie
 
 slice-aggregate-judge : tie.Need-slice-aggregate-judge
-slice-aggregate-judge c = sym (length-take-le (c .before .before .before .args .n) (c .before .before .before .args .out .now) (c .before .before .before .pre))
+slice-aggregate-judge c =
+    let start = c .before .before .before in
+    sym (length-take-le (start .args .n) (start .args .out .now) (start .pre))
 
 judge-requires : tie.Need-judge-requires
 judge-requires c κs = search needs

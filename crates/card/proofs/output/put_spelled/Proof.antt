@@ -41,7 +41,8 @@ put-byte-requires-2 c κs = tt
 -- the byte that is handed out, and those after it
 handed : (c : tie.After-slice-known4 Inv-loop μ-loop)
     → let k = now (c .before .before .before .before .before .before .before .before .before .before .before .before .before .before .before .args .key) in
-    partLeft (rest k (c .before .before .before .before .before .before .before .before .loop .c)) ≡ c .before .before .before .before .before .b .given .0 .0 ∷ partLeft (rest k (c .before .before .before .before .before .b .given .0 .1 .0))
+    let b = c .before .before .before .before .before .b in
+    partLeft (rest k (c .before .before .before .before .before .before .before .before .loop .c)) ≡ b .given .0 .0 ∷ partLeft (rest k (b .given .0 .1 .0))
 handed c =
     let a = c .before .before .before .before .before .before .before .before .before .before .before .before .before .before .before .args in
     let loop = c .before .before .before .before .before .before .before .before .loop in

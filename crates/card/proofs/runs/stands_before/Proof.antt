@@ -11,17 +11,12 @@ use Rattle.card.specs.Entries.{keyAt}
 use borrow.Author.Needs.{needs}
 use Rattle.card.proofs.runs.stands_before.Statement.{statement}
 use Rattle.card.proofs.runs.stands_before.Tie as tie
-use Rattle.card.proofs.runs.stands_before.Reads as reads
-use Rattle.card.proofs.runs.stands_before.Lts as lts
-use Rattle.card.proofs.entries.key_at.Reads as key-at-reads
-use Rattle.card.proofs.parts.names_order.Reads as names-order-reads
-use Rattle.card.proofs.pointers.part_at.Reads as part-at-reads
-use Rattle.json.proofs.decode.start.Reads as start-reads
 
 -- the order of the part and the name is what was answered
-asked : (c : lts.After-names-order (key-at-reads.Asked, key-at-reads.Learnt, part-at-reads.Asked, part-at-reads.Learnt, start-reads.Asked, start-reads.Learnt, names-order-reads.Asked, names-order-reads.Learnt) reads.Pre reads.Post) {r : Order}
+asked : (c : tie.After-names-order) {r : Order}
     → c .names-order .result ≡ r
-    → let a = c .before .before .before .before .before .before .before .args in orderOf (firstPart (strip (a .parts) (pointerOf (keyAt (now (a .ptext)) (now (a .ptable)) (a .row))))) (decode (now (a .name))) ≡ r
+    → let a = c .before .before .before .before .before .before .before .args in
+    orderOf (firstPart (strip (a .parts) (pointerOf (keyAt (now (a .ptext)) (now (a .ptable)) (a .row))))) (decode (now (a .name))) ≡ r
 unfolding conts decodeFrom scan pieceBy
 asked c e =
     let key-at = c .before .before .before .key-at in

@@ -17,7 +17,9 @@ use Rattle.card.proofs.schema.is_lacking.Statement.{statement}
 use Rattle.card.proofs.schema.is_lacking.Tie as tie
 
 abbrev Inv-loop : tie.InvT-loop
-Inv-loop text table from end o i₀ i = ((f : Forest) → StandsTo table from end f → lackingAmong (objectType o) (membersOf text f) (drop i entries) ≡ lacking (properties (objectType o)) (membersOf text f)) × (i ≤ count)
+Inv-loop text table from end o i₀ i =
+    ((f : Forest) → StandsTo table from end f
+    → lackingAmong (objectType o) (membersOf text f) (drop i entries) ≡ lacking (properties (objectType o)) (membersOf text f)) × (i ≤ count)
 
 abbrev μ-loop : tie.MeasureT-loop
 μ-loop text table from end o i₀ i = count - i

@@ -81,8 +81,10 @@ loop-again c =
     let a = c .before .before .before .before .before .before .before .before .before .before .args in
     let loop = c .before .before .before .before .before .before .before .loop in
     let next-byte = c .before .before .before .before .before .before .next-byte in
-    let b = c .before .before .before .before .b in (
-      rw (← loop .inv .0, byte-left (now (a .name)) (loop .at) (next-byte .ensures .0) (b .given .1)) (sym (id-on (loop .passed) (b .given .0 .0) _ (sym (c .before .id-byte .ensures) ∙ not-false _ (c .if2 .left)))),
+    let b = c .before .before .before .before .b in
+    let fits = sym (c .before .id-byte .ensures) ∙ not-false _ (c .if2 .left) in (
+      rw (← loop .inv .0, byte-left (now (a .name)) (loop .at) (next-byte .ensures .0) (b .given .1))
+          (sym (id-on (loop .passed) (b .given .0 .0) _ fits)),
       omega (arith, c .before .before .if1 .left),
     )
 

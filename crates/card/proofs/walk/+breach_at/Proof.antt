@@ -59,7 +59,8 @@ given t = (
   breach-at.Post,
 )
 
-breach-at-row-number-requires : (t : ℕ) → breach-at-lts.Need-row-number-requires (given t) (breach-at-at t) breach-at.Post breach-at-Inv-loop breach-at-μ-loop
+breach-at-row-number-requires : (t : ℕ)
+    → breach-at-lts.Need-row-number-requires (given t) (breach-at-at t) breach-at.Post breach-at-Inv-loop breach-at-μ-loop
 breach-at-row-number-requires t c κs = (c .before .before .pre .1 .0, c .before .before .pre .1 .1)
 
 breach-at-returns : (t : ℕ) → breach-at-lts.Need-returns (given t) (breach-at-at t) breach-at.Post breach-at-Inv-loop breach-at-μ-loop
@@ -69,7 +70,8 @@ breach-at-returns t c =
     breach-row (typeOf (a .ty)) (a .key) (a .row) (c .before .row-number .result) (docOf (now (a .text)) f) (c .if1 .taken)
     (c .before .row-number .ensures f v k)
 
-breach-at-next-row-requires : (t : ℕ) → breach-at-lts.Need-next-row-requires (given t) (breach-at-at t) breach-at.Post breach-at-Inv-loop breach-at-μ-loop
+breach-at-next-row-requires : (t : ℕ)
+    → breach-at-lts.Need-next-row-requires (given t) (breach-at-at t) breach-at.Post breach-at-Inv-loop breach-at-μ-loop
 breach-at-next-row-requires t c κs = (c .before .before .before .before .pre .1 .0, c .before .before .before .before .pre .1 .1)
 
 breach-at-add-at : (t : ℕ) → breach-at-lts.Need-add-at (given t) (breach-at-at t) breach-at.Post breach-at-Inv-loop breach-at-μ-loop
@@ -83,19 +85,24 @@ breach-at-loop-holds t c =
       omega arith,
     )
 
-breach-at-name-start-requires : (t : ℕ) → breach-at-lts.Need-name-start-requires (given t) (breach-at-at t) breach-at.Post breach-at-Inv-loop breach-at-μ-loop
+breach-at-name-start-requires : (t : ℕ)
+    → breach-at-lts.Need-name-start-requires (given t) (breach-at-at t) breach-at.Post breach-at-Inv-loop breach-at-μ-loop
 breach-at-name-start-requires t c κs = search needs
 
-breach-at-name-end-requires : (t : ℕ) → breach-at-lts.Need-name-end-requires (given t) (breach-at-at t) breach-at.Post breach-at-Inv-loop breach-at-μ-loop
+breach-at-name-end-requires : (t : ℕ)
+    → breach-at-lts.Need-name-end-requires (given t) (breach-at-at t) breach-at.Post breach-at-Inv-loop breach-at-μ-loop
 breach-at-name-end-requires t c κs = search needs
 
-breach-at-member-type-requires : (t : ℕ) → breach-at-lts.Need-member-type-requires (given t) (breach-at-at t) breach-at.Post breach-at-Inv-loop breach-at-μ-loop
+breach-at-member-type-requires : (t : ℕ)
+    → breach-at-lts.Need-member-type-requires (given t) (breach-at-at t) breach-at.Post breach-at-Inv-loop breach-at-μ-loop
 breach-at-member-type-requires t c κs = search needs
 
-breach-at-key-fits-requires : (t : ℕ) → breach-at-lts.Need-key-fits-requires (given t) (breach-at-at t) breach-at.Post breach-at-Inv-loop breach-at-μ-loop
+breach-at-key-fits-requires : (t : ℕ)
+    → breach-at-lts.Need-key-fits-requires (given t) (breach-at-at t) breach-at.Post breach-at-Inv-loop breach-at-μ-loop
 breach-at-key-fits-requires t c κs = search needs
 
-breach-at-breach-at-requires : (t : ℕ) → breach-at-lts.Need-breach-at-requires (given t) (breach-at-at t) breach-at.Post breach-at-Inv-loop breach-at-μ-loop
+breach-at-breach-at-requires : (t : ℕ)
+    → breach-at-lts.Need-breach-at-requires (given t) (breach-at-at t) breach-at.Post breach-at-Inv-loop breach-at-μ-loop
 breach-at-breach-at-requires t c κs =
     let p = c .before .before .before .before .before .before .before .before .before .before .before .pre in
     let a = c .before .before .before .before .before .before .before .before .before .before .before .args in
@@ -143,7 +150,8 @@ breach-at-returns-2 t c =
 breach-at-enum-told-2 : (t : ℕ) → breach-at-lts.Need-enum-told-2 (given t) (breach-at-at t) breach-at.Post breach-at-Inv-loop breach-at-μ-loop
 breach-at-enum-told-2 t c = search needs
 
-breach-at-next-row-requires-2 : (t : ℕ) → breach-at-lts.Need-next-row-requires-2 (given t) (breach-at-at t) breach-at.Post breach-at-Inv-loop breach-at-μ-loop
+breach-at-next-row-requires-2 : (t : ℕ)
+    → breach-at-lts.Need-next-row-requires-2 (given t) (breach-at-at t) breach-at.Post breach-at-Inv-loop breach-at-μ-loop
 breach-at-next-row-requires-2 t c κs =
     let a = c .before .before .before .before .before .before .before .before .before .before .before .before .before .before .args in
     let text = now (a .text) in

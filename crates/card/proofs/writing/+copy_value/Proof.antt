@@ -10,6 +10,7 @@ use denote.Ref.{now}
 use Rattle.text.specs.Tree.{Forest}
 use Rattle.text.specs.Firsts.{insideAt}
 use Rattle.card.specs.Rows.{KnownAt}
+use Rattle.card.specs.Members.{Near}
 use Rattle.card.specs.Copied.{openOf}
 use Rattle.card.proofs.Bytes.{left-all, wrote-then}
 use Rattle.card.proofs.Walks.{row-inside, value-row, Passing, Walk, walk-start}
@@ -51,7 +52,28 @@ abbrev μ-loop : lts.MeasureT-loop
 μ-loop text table row out₀ at k end p₀ first₀ m₀ out p first m = end - m
 
 abbrev given : ℕ → lts.Claims
-given t = (kind-reads.Asked, kind-reads.Learnt, value-start-reads.Asked, value-start-reads.Learnt, value-end-reads.Asked, value-end-reads.Learnt, put-part-reads.Asked, put-part-reads.Learnt, below-reads.Asked, below-reads.Learnt, open-of-reads.Asked, open-of-reads.Learnt, put-byte-reads.Asked, put-byte-reads.Learnt, put-head-reads.Asked, put-head-reads.Learnt, copy-value-below t, copy-value.Post, close-of-reads.Asked, close-of-reads.Learnt)
+given t = (
+  kind-reads.Asked,
+  kind-reads.Learnt,
+  value-start-reads.Asked,
+  value-start-reads.Learnt,
+  value-end-reads.Asked,
+  value-end-reads.Learnt,
+  put-part-reads.Asked,
+  put-part-reads.Learnt,
+  below-reads.Asked,
+  below-reads.Learnt,
+  open-of-reads.Asked,
+  open-of-reads.Learnt,
+  put-byte-reads.Asked,
+  put-byte-reads.Learnt,
+  put-head-reads.Asked,
+  put-head-reads.Learnt,
+  copy-value-below t,
+  copy-value.Post,
+  close-of-reads.Asked,
+  close-of-reads.Learnt,
+)
 
 module _ (t : ℕ) where
   kind-requires : lts.Need-kind-requires (given t) (copy-value-at t) copy-value.Post Inv-loop μ-loop
@@ -96,7 +118,7 @@ module _ (t : ℕ) where
 
   -- the rows inside the value end not far
   near : (c : lts.After-below (given t) (copy-value-at t) copy-value.Post Inv-loop μ-loop)
-      → let a = c .before .before .before .before .before .before .args in a .row + 1 + c .below .result < 4611686018427387904
+      → let a = c .before .before .before .before .before .before .args in Near (a .row + 1 + c .below .result)
   near c =
       let good = c .before .before .before .before .before .before .good in
       let a = c .before .before .before .before .before .before .args in
@@ -120,7 +142,10 @@ module _ (t : ℕ) where
   loop-holds : lts.Need-loop-holds (given t) (copy-value-at t) copy-value.Post Inv-loop μ-loop
   loop-holds c =
       let a = c .before .before .before .before .before .before .before .before .before .before .before .args in
-      (record { later = omega arith; near = near (c .before .before .before .before .before); long = refl }, λ g v. walk-start true v (ap (λ (n : ℕ). a .row + 1 + n) (c .before .before .before .before .before .below .ensures)) left-all)
+      let below = c .before .before .before .before .before in (
+        record { later = omega arith; near = near below; long = refl },
+        λ g v. walk-start true v (ap (λ (n : ℕ). a .row + 1 + n) (below .below .ensures)) left-all,
+      )
 
   put-head-requires : lts.Need-put-head-requires (given t) (copy-value-at t) copy-value.Post Inv-loop μ-loop
   put-head-requires c κs = tt
@@ -161,15 +186,21 @@ module _ (t : ℕ) where
 
   loop-again : lts.Need-loop-again (given t) (copy-value-at t) copy-value.Post Inv-loop μ-loop
   loop-again c =
-      let inv = c .before .before .before .before .before .before .before .before .before .before .loop .inv in
-      let m = c .before .before .before .before .before .before .before .before .before .before .loop .m in (
+      let turn = c .before .before .before .before .before .before .before .before .before .before in
+      let a = turn .before .before .before .before .before .before .before .before .before .before .before .before .args in
+      let kind = turn .before .before .before .before .before .before .before .before .kind in
+      let inv = turn .loop .inv in
+      let m = turn .loop .m in
+      let loop-test = c .before .before .before .before .before .before .before .before .before .loop-test in
+      let head = c .before .before .before .before .before .before .before .put-head in
+      let copied = c .before .before .before .copy-value in (
         record {
           later = omega (arith, inv .0 .later);
           near = inv .0 .near;
-          long = c .before .before .before .copy-value .kept .1 .1 .1 .0 ∙ c .before .before .before .before .before .before .before .put-head .kept .1 .1 .1 .1 .1 .0 ∙ inv .0 .long;
+          long = copied .kept .1 .1 .1 .0 ∙ head .kept .1 .1 .1 .1 .1 .0 ∙ inv .0 .long;
         },
         λ g v.
-            copy-turn (now (c .before .before .before .before .before .before .before .before .before .before .before .before .before .before .before .before .before .before .before .before .before .before .args .text)) (c .before .before .before .before .before .before .before .before .before .before .before .before .before .before .before .before .before .before .kind .result) (inv .1 g v) (c .before .before .before .before .before .before .before .before .before .loop-test .taken) (c .before .before .before .before .before .before .before .put-head .ensures) (c .before .before .before .copy-value .ensures)
+            copy-turn (now (a .text)) (kind .result) (inv .1 g v) (loop-test .taken) (head .ensures) (copied .ensures)
             (m + 1 + c .below2 .result) (ap (λ (n : ℕ). m + 1 + n) (c .below2 .ensures)),
       )
 

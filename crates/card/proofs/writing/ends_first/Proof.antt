@@ -40,26 +40,30 @@ enum-told-2 c = search needs
 returns-2 : tie.Need-returns-2
 returns-2 c =
     let a = c .before .before .before .before .before .before .before .before .before .before .args in
+    let key-at = c .before .before .before .before .key-at in
+    let part-at = c .before .before .before .part-at in
     record {
       some = λ e. c .before .before .before .before .before .before .if1 .left;
       is =
           λ ms s.
           let f = first-said s (c .before .before .before .before .before .before .if1 .left) in
           ends-by (now (a .ptext)) f
-          (is-last (at-part (now (a .ptext)) (a .parts) (now (c .before .before .before .before .key-at .result)) (c .before .before .before .part-at .result) (f .value) (c .before .before .before .before .key-at .ensures) (c .before .before .before .part-at .ensures))
+          (is-last (at-part (now (a .ptext)) (a .parts) (now (key-at .result)) (part-at .result) (f .value) (key-at .ensures) (part-at .ensures))
           (rw (c .enum-told .given .1) at (c .before .before .next-part .ensures)));
     }
 
 returns-3 : tie.Need-returns-3
 returns-3 c =
     let a = c .before .before .before .before .before .before .before .before .before .before .args in
+    let key-at = c .before .before .before .before .key-at in
+    let part-at = c .before .before .before .part-at in
     record {
       some = λ e. c .before .before .before .before .before .before .if1 .left;
       is =
           λ ms s.
           let f = first-said s (c .before .before .before .before .before .before .if1 .left) in
           ends-by (now (a .ptext)) f
-          (is-down (at-part (now (a .ptext)) (a .parts) (now (c .before .before .before .before .key-at .result)) (c .before .before .before .part-at .result) (f .value) (c .before .before .before .before .key-at .ensures) (c .before .before .before .part-at .ensures))
+          (is-down (at-part (now (a .ptext)) (a .parts) (now (key-at .result)) (part-at .result) (f .value) (key-at .ensures) (part-at .ensures))
           (rw (c .enum-told2 .given .1) at (c .before .before .next-part .ensures)));
     }
 

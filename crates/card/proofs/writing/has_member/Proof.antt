@@ -25,7 +25,8 @@ returns-2 : tie.Need-returns-2
 returns-2 c =
     λ g v.
     let a = c .before .before .before .before .before .before .args in
-    there-out (a .root) (partLeft (rest (now (a .key)) (a .c))) (membersOf (now (a .text)) (insideAt g)) (sym (c .before .is-part-out .ensures) ∙ c .if2 .taken)
+    let n = partLeft (rest (now (a .key)) (a .c)) in
+    there-out (a .root) n (membersOf (now (a .text)) (insideAt g)) (sym (c .before .is-part-out .ensures) ∙ c .if2 .taken)
 
 add-first : tie.Need-add-first
 add-first c = search needs

@@ -30,7 +30,7 @@ is-added-requires c κs = search needs
 -- the entry's pointer from the part for the object on
 pointer : (c : tie.After-is-added) {h : Forest}
     → let a = c .before .before .before .before .before .before .before .before .args in KnownAt (now (a .ptable)) (a .e) h
-    → pointerOf (rest (now (c .before .before .key-at .result)) (c .before .part-at .result)) ≡ pointerIn (now (c .before .before .before .before .before .before .before .before .args .ptext)) (c .before .before .before .before .before .before .before .before .args .parts) h
+    → pointerOf (rest (now (c .before .before .key-at .result)) (c .before .part-at .result)) ≡ pointerIn (now (a .ptext)) (a .parts) h
 pointer c w =
     let a = c .before .before .before .before .before .before .before .before .args in
     at-part (now (a .ptext)) (a .parts) (now (c .before .before .key-at .result)) (c .before .part-at .result) w

@@ -20,7 +20,8 @@ abbrev Inv-loop : tie.InvT-loop
 Inv-loop text table row root ptext ptable rows out₀ parts hi i₀ s₀ out i s =
     (length out ≡ length out₀)
     × ((g : Forest) (ms : Members) → KnownAt table row g → Said ptext ptable rows i₀ hi parts ms
-    → Adding ptext ptable rows i hi parts (membersIn root text g) out₀ (s₀ .to) (writtenMembers (added (membersIn root text g) (stripped parts ms)) (s₀ .first)) out s)
+    → Adding ptext ptable rows i hi parts (membersIn root text g) out₀ (s₀ .to)
+    (writtenMembers (added (membersIn root text g) (stripped parts ms)) (s₀ .first)) out s)
 
 abbrev μ-loop : tie.MeasureT-loop
 μ-loop text table row root ptext ptable rows out₀ parts hi i₀ s₀ out i s = hi - i

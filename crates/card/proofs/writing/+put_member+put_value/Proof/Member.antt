@@ -29,32 +29,51 @@ use Rattle.card.proofs.writing.put_replaced.Reads as put-replaced-reads
 use Rattle.card.proofs.writing.+put_member+put_value.Proof.Measures.{member-at, value-below}
 
 abbrev pub given : ℕ → lts.Claims
-given t = (key-at-reads.Asked, key-at-reads.Learnt, is-out-reads.Asked, is-out-reads.Learnt, bound-reads.Asked, bound-reads.Learnt, ends-first-reads.Asked, ends-first-reads.Learnt, put-replaced-reads.Asked, put-replaced-reads.Learnt, put-head-reads.Asked, put-head-reads.Learnt, value-below t, value.Post)
+given t = (
+  key-at-reads.Asked,
+  key-at-reads.Learnt,
+  is-out-reads.Asked,
+  is-out-reads.Learnt,
+  bound-reads.Asked,
+  bound-reads.Learnt,
+  ends-first-reads.Asked,
+  ends-first-reads.Learnt,
+  put-replaced-reads.Asked,
+  put-replaced-reads.Learnt,
+  put-head-reads.Asked,
+  put-head-reads.Learnt,
+  value-below t,
+  value.Post,
+)
 
 module _ (t : ℕ) where
   -- the name at hand
   name-is : (c : lts.After-key-at (given t) (member-at t) member.Post) {g : Forest}
       → let a = c .before .before .before .before .before .before .before .args in KnownAt (now (a .table)) (a .row) g
-      → decode (now (c .key-at .result)) ≡ nameOf (now (c .before .before .before .before .before .before .before .args .text)) (nameStart g) (nameEnd g)
+      → decode (now (c .key-at .result)) ≡ nameOf (now (a .text)) (nameStart g) (nameEnd g)
   name-is c v = rw (c .key-at .ensures, value-row v .name-start, value-row v .name-end)
 
   out-is : (c : lts.After-is-out (given t) (member-at t) member.Post) {g : Forest}
       → let a = c .before .before .before .before .before .before .before .before .args in KnownAt (now (a .table)) (a .row) g
-      → c .is-out .result ≡ isOut (c .before .before .before .before .before .before .before .before .args .root) (nameOf (now (c .before .before .before .before .before .before .before .before .args .text)) (nameStart g) (nameEnd g))
+      → c .is-out .result ≡ isOut (a .root) (nameOf (now (a .text)) (nameStart g) (nameEnd g))
   out-is c v = rw (name-is (c .before) v) at (c .is-out .ensures)
 
   -- the run for the member
   its-run : (c : lts.After-bound2 (given t) (member-at t) member.Post) {g : Forest} {ms : Members}
       → let a = c .before .before .before .before .before .before .before .before .before .before .before .args in KnownAt (now (a .table)) (a .row) g
       → Said (now (a .ptext)) (now (a .ptable)) (now (a .rows)) (a .run .lo) (a .run .hi) (a .run .parts) ms
-      → Middle (now (a .ptext)) (now (a .ptable)) (now (a .rows)) (c .before .bound .result) (c .bound2 .result) (a .run .parts) (nameOf (now (a .text)) (nameStart g) (nameEnd g)) ms
+      → Middle (now (a .ptext)) (now (a .ptable)) (now (a .rows)) (c .before .bound .result) (c .bound2 .result) (a .run .parts)
+      (nameOf (now (a .text)) (nameStart g) (nameEnd g)) ms
   its-run c v s =
       middle s (rw (name-is (c .before .before .before .before) v) at (c .before .bound .ensures))
       (rw (name-is (c .before .before .before .before) v) at (c .bound2 .ensures))
 
   in-rows : (c : lts.After-bound2 (given t) (member-at t) member.Post)
-      → let a = c .before .before .before .before .before .before .before .before .before .before .before .args in InRows (now (a .rows)) (c .before .bound .result) (c .bound2 .result)
-  in-rows c = record { ordered = c .bound2 .ensures .low; inside = omega (arith, c .bound2 .ensures .high, c .before .before .before .before .before .before .before .before .before .before .before .pre .1 .0 .inside) }
+      → let a = c .before .before .before .before .before .before .before .before .before .before .before .args in
+      InRows (now (a .rows)) (c .before .bound .result) (c .bound2 .result)
+  in-rows c =
+      let p = c .before .before .before .before .before .before .before .before .before .before .before .pre in
+      record { ordered = c .bound2 .ensures .low; inside = omega (arith, c .bound2 .ensures .high, p .1 .0 .inside) }
 
   pub key-at-requires : lts.Need-key-at-requires (given t) (member-at t) member.Post
   key-at-requires c κs = tt

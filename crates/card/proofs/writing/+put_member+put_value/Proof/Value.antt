@@ -13,6 +13,7 @@ use Rattle.text.proofs.Promise.{doc-kind, doc-object}
 use Rattle.contact.specs.Patch.{added}
 use Rattle.card.specs.Entries.{stripped}
 use Rattle.card.specs.Rows.{KnownAt}
+use Rattle.card.specs.Members.{Near}
 use Rattle.card.specs.Patched.{Said, membersIn}
 use Rattle.card.proofs.Bytes.{left-all, wrote-then}
 use Rattle.card.proofs.Walks.{row-inside, value-row, Passing, Walk, walk-start, walk-here}
@@ -41,7 +42,22 @@ abbrev pub μ-loop : lts.MeasureT-loop
 μ-loop text table row root ptext ptable rows run out₀ at end p s₀ m₀ out s m = end - m
 
 abbrev pub given : ℕ → lts.Claims
-given t = (kind-reads.Asked, kind-reads.Learnt, copy-value-reads.Asked, copy-value-reads.Learnt, is-idle-reads.Asked, is-idle-reads.Learnt, below-reads.Asked, below-reads.Learnt, put-byte-reads.Asked, put-byte-reads.Learnt, member-below t, member.Post, put-additions-reads.Asked, put-additions-reads.Learnt)
+given t = (
+  kind-reads.Asked,
+  kind-reads.Learnt,
+  copy-value-reads.Asked,
+  copy-value-reads.Learnt,
+  is-idle-reads.Asked,
+  is-idle-reads.Learnt,
+  below-reads.Asked,
+  below-reads.Learnt,
+  put-byte-reads.Asked,
+  put-byte-reads.Learnt,
+  member-below t,
+  member.Post,
+  put-additions-reads.Asked,
+  put-additions-reads.Learnt,
+)
 
 module _ (t : ℕ) where
   pub kind-requires : lts.Need-kind-requires (given t) (value-at t) value.Post Inv-loop μ-loop
@@ -96,7 +112,8 @@ module _ (t : ℕ) where
 
   -- the rows inside the value end not far
   near : (c : lts.After-below (given t) (value-at t) value.Post Inv-loop μ-loop)
-      → let a = c .before .before .before .before .before .before .before .before .before .before .before .args in a .row + 1 + c .below .result < 4611686018427387904
+      → let a = c .before .before .before .before .before .before .before .before .before .before .before .args in
+      Near (a .row + 1 + c .below .result)
   near c =
       let good = c .before .before .before .before .before .before .before .before .before .before .before .good in
       let a = c .before .before .before .before .before .before .before .before .before .before .before .args in
@@ -147,8 +164,9 @@ module _ (t : ℕ) where
 
   pub loop-again : lts.Need-loop-again (given t) (value-at t) value.Post Inv-loop μ-loop
   loop-again c =
-      let a = c .before .before .before .before .before .before .before .before .before .before .before .before .before .before .before .before .before .before .before .before .before .before .args in
-      let l = c .before .before .before .before .before .before .loop in
+      let turn = c .before .before .before .before .before .before in
+      let a = turn .before .before .before .before .before .before .before .before .before .before .before .before .before .before .before .before .args in
+      let l = turn .loop in
       let taken = c .before .before .before .before .before .loop-test .taken in (
         record {
           later = omega (arith, l .inv .0 .later);
@@ -159,7 +177,8 @@ module _ (t : ℕ) where
             let es = stripped (a .run .parts) ms in
             let w = l .inv .1 g ms v s in
             patch-turn (now (a .text)) (a .root) es (added (membersIn (a .root) (now (a .text)) g) es) w taken
-            (c .before .before .before .put-member .ensures (w .values) ms (walk-here w taken) s) (l .m + 1 + c .below2 .result) (ap (λ (n : ℕ). l .m + 1 + n) (c .below2 .ensures)),
+            (c .before .before .before .put-member .ensures (w .values) ms (walk-here w taken) s) (l .m + 1 + c .below2 .result)
+            (ap (λ (n : ℕ). l .m + 1 + n) (c .below2 .ensures)),
       )
 
   pub put-additions-requires : lts.Need-put-additions-requires (given t) (value-at t) value.Post Inv-loop μ-loop
