@@ -19,7 +19,6 @@ use Rattle.text.specs.Reader.{good}
 use Rattle.text.specs.Whole.{readOf}
 use Rattle.text.specs.Promised.{Promised}
 use Rattle.text.proofs.Promise.{promised, whole-good, filled-stands, placed-kinds, doc-object}
-use Rattle.text.proofs.Readback.Documents.{text-shorter}
 use Rattle.contact.specs.Verdict.{Judged, passed, failed, judgedOf, answerOfJudged, tableOfJudged}
 use Rattle.contact.specs.Pointer.{find}
 use Rattle.contact.specs.Localize.{denied, patchAt, localizedDoc}
@@ -29,6 +28,7 @@ use Rattle.contact.specs.declared.Verdict.the-variants.{Passed, Failed}
 use Rattle.contact.specs.declared.LocalRefusal.the-variants.{NoLanguage}
 use Rattle.contact.proofs.Judging.{judging}
 use Rattle.contact.proofs.Patching.Again.{modest}
+use Rattle.contact.proofs.Patching.Readback.{modest-written}
 use Rattle.contact.proofs.Patching.Steps.{judged-answer, no-patch, no-patch-object, patched-so}
 use Rattle.json.specs.Rows.{kindIn}
 use Rattle.card.specs.Members.{firstMember}
@@ -69,7 +69,7 @@ module _ {t table : List ℕ} {f : Forest} (c : CardIn t table f) where
   card-countable lang ms patch nc pt =
       let p = card-promised in
       let m = modest base (length table) t f refl (c .passes) lang ms patch nc pt in
-      omega (arith, m .short, text-shorter base t f (card-read .0) (card-read .1), p .short)
+      omega (arith, modest-written base (length table) t f (c .passes) _ m .shorter, p .short)
 
 -- ---- what the card has for a language
 

@@ -10,7 +10,7 @@ ghost use Rattle.laws.specs.Order.{orderOf, same};
 ghost use Rattle.text.specs.Strings.{decode, nameOf};
 
 // The order of two strings' inner bytes, decoded.
-pub fn order_of(a: &[u8], b: &[u8]) -> Order
+pub(crate) fn order_of(a: &[u8], b: &[u8]) -> Order
     ensures { λ r. ⌜ r ≡ orderOf (decode (now (a .entry))) (decode (now (b .entry))) ⌝ }
 {
     let mut x = start();

@@ -7,7 +7,6 @@ pub mod Fewer
 pub mod Induction
 pub mod Documents
 pub mod Spelling
-pub mod StringSpecimens
 pub mod TokenEnds
 pub mod TokenBytes
 pub mod Placing

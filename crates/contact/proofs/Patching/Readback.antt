@@ -52,7 +52,7 @@ module _ (L : Limits) (words : ℕ) (x : Doc) (b : ReadsBack L x) where
 -- ---- the patched card ----
 
 module _ (L : Limits) (words : ℕ) (t : List ℕ) (f : Forest) (pass : judgedOf L words t ≡ passed f) where
-  modest-written : (x : Doc) → Modest L words t f x → WrittenCard L words t f x
+  pub modest-written : (x : Doc) → Modest L words t f x → WrittenCard L words t f x
   modest-written x m =
       let (to, w, keeps) = judging .accepted L words t f .0 pass in
       let r : Fits L words t f to = whole-good L words t f to w in
