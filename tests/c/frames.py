@@ -9,10 +9,10 @@ import re
 import subprocess
 import sys
 
-# How often a function that calls itself can be open at once. Depth 32 is 32 containers and a value in the last; all but sorting go from a value to
-# one inside it, also the walk of a pointer, however many parts its key has. Sorting halves at most 2,048 rows down to one.
-OPEN = {"json::values::read_value": 33, "card::walk::breach_at": 33, "card::paths::follow": 33, "card::writing::copy_value": 33,
-    "card::writing::put_value": 33, "card::sort::sort": 12}
+# How often a function that calls itself, also through others, can be open at once. Depth 32 is 32 containers and a value in the last; all but sorting
+# go from a value to one inside it, also the walk of a pointer, however many parts its key has. Sorting halves at most 2,048 rows down to one.
+OPEN = {"json::values::read_value": 33, "json::values::read_container": 32, "card::walk::breach_at": 33, "card::paths::follow": 33,
+    "card::writing::copy_value": 33, "card::writing::put_value": 33, "card::sort::sort": 12}
 PROBE = 0x1000  # a large frame is taken by pages; where that is a loop, its size is in r11
 
 
@@ -58,13 +58,27 @@ def frame_of(name, code):
     return frame, below, calls
 
 
-def deepest(name, code, known):
-    """The bytes below a call's return address."""
+def reached(name, frames):
+    """All functions that a call of this one can call."""
+    found, left = set(), [name]
+    while left:
+        for to, _ in frames[left.pop()][2]:
+            if to not in found:
+                found.add(to)
+                left.append(to)
+    return found
+
+
+def deepest(name, frames, known):
+    """The bytes below a call's return address. Functions that call each other in a circle are all open as often as they can be."""
     if name not in known:
-        frame, below, calls = frame_of(name, code[name])
-        inside = max([below] + [8 + pushed + deepest(to, code, known) for to, pushed in calls if to != name])
-        again = [8 + pushed for to, pushed in calls if to == name]
-        known[name] = frame + inside + (OPEN[name] - 1) * (frame + max(again)) if again else frame + inside
+        circle = {to for to in reached(name, frames) if name in reached(to, frames)}
+        rounds = out = 0
+        for one in circle or {name}:
+            frame, below, calls = frames[one]
+            rounds += OPEN[one] * (frame + 8 + max(pushed for to, pushed in calls if to in circle)) if circle else frame
+            out = max([out, below] + [8 + pushed + deepest(to, frames, known) for to, pushed in calls if to not in circle])
+        known[name] = rounds + out
     return known[name]
 
 
@@ -76,10 +90,11 @@ def main(archive, header):
     if outside != ["memset"] or state:
         raise SystemExit(f"tests/c: the archive asks for {outside} and has the writable sections {state}")
     text = open(header, encoding="utf-8").read()
-    code, known = functions(archive), {"memset": 0}
+    frames, known = {name: frame_of(name, code) for name, code in functions(archive).items()}, {}
+    frames["memset"] = (0, 0, [])
     for service in ("read", "judge", "localize"):
         said = int(re.search(rf"BEZINKOL_{service.upper()}_STACK (\d+)", text)[1])
-        most = 8 + deepest("bezinkol_" + service, code, known)
+        most = 8 + deepest("bezinkol_" + service, frames, known)
         print(f"tests/c: bezinkol_{service} can take {most} bytes of stack by its frames; the header says {said}")
         if said < most:
             raise SystemExit("tests/c: that is more than the header says")
