@@ -1,3 +1,10 @@
+-- `card::walk::value_number` meets its contract. Assumes nothing.
+use mathlib.Core.Path.{_≡_}
+use mathlib.Core.Bool.{Bool, cond}
+use denote.Ref.{now}
+use Rattle.text.specs.Tree.{Forest}
+use Rattle.card.specs.Types.{typeOf}
+use Rattle.card.specs.Rows.{ValueAt}
 use Rattle.card.specs.Walk.{valueNumber}
 use Rattle.text.proofs.Promise.{row-at}
 use Rattle.laws.proofs.Picks.{granted, denied}
@@ -21,47 +28,31 @@ kind-requires c κs = search needs
 allows-requires : tie.Need-allows-requires
 allows-requires c κs = search needs
 
-returns-2 : tie.Need-returns-2
+-- the number, by what the value's row was asked
+asked : (c : tie.After-allows) {b : Bool} → c .allows .result ≡ b → (f : Forest)
+    → let a = c .before .before .before .before .before .before .before .args in ValueAt (now (a .table)) (a .row) f
+    → cond b 0 13 ≡ valueNumber (typeOf (a .ty)) (a .key) (now (a .text)) f
 unfolding valueNumber
-returns-2 c =
-    λ f v k.
-    let a = c .before .before .before .before .before .before .before .before .args in
-    let if1 = c .before .before .before .before .before .if1 in
-    let value-start = c .before .before .before .before .value-start in
-    let value-end = c .before .before .before .value-end in
+asked c e f v =
+    let a = c .before .before .before .before .before .before .before .args in
     let r = row-at f (v .some) (v .stands) in
     rw (
-      granted (a .key) (if1 .left),
+      granted (a .key) (c .before .before .before .before .if1 .left),
       ← r .kind,
       ← r .start,
       ← r .finish,
-      ← c .before .before .kind .ensures,
-      ← value-start .ensures,
-      ← value-end .ensures,
-      ← c .before .allows .ensures,
-      c .if2 .taken,
+      ← c .before .kind .ensures,
+      ← c .before .before .before .value-start .ensures,
+      ← c .before .before .value-end .ensures,
+      ← c .allows .ensures,
+      e,
     )
 
+returns-2 : tie.Need-returns-2
+returns-2 c = λ f v k. asked (c .before) (c .if2 .taken) f v
+
 returns-3 : tie.Need-returns-3
-unfolding valueNumber
-returns-3 c =
-    λ f v k.
-    let a = c .before .before .before .before .before .before .before .before .args in
-    let if1 = c .before .before .before .before .before .if1 in
-    let value-start = c .before .before .before .before .value-start in
-    let value-end = c .before .before .before .value-end in
-    let r = row-at f (v .some) (v .stands) in
-    rw (
-      granted (a .key) (if1 .left),
-      ← r .kind,
-      ← r .start,
-      ← r .finish,
-      ← c .before .before .kind .ensures,
-      ← value-start .ensures,
-      ← value-end .ensures,
-      ← c .before .allows .ensures,
-      c .if2 .left,
-    )
+returns-3 c = λ f v k. asked (c .before) (c .if2 .left) f v
 
 pub value-number-spec : {M : Type 1} → statement M
 value-number-spec =
