@@ -7,6 +7,7 @@ use crate::members::Found;
 use crate::sort::sort_rows;
 use crate::writing::put_card;
 use contact::LocalRefusal;
+use json::limits::VALUES;
 use json::rows::below;
 use json::rows::kind;
 ghost use Prim.Native.Nat.{_≤_};
@@ -24,7 +25,7 @@ ghost use Rattle.card.specs.Language.{Held};
 ghost use Rattle.card.specs.Localizing.{mostEntries, CardIn, Makes, MakesFor};
 
 // A card has no more values, so a PatchObject has no more entries.
-const MOST_ENTRIES: usize = 2048;
+const MOST_ENTRIES: usize = VALUES;
 
 // So many bytes were written, or nothing that counts.
 pub(crate) enum Attempt {

@@ -14,7 +14,7 @@
 pub mod bytes;
 mod chars;
 pub mod decode;
-mod limits;
+pub mod limits;
 mod members;
 pub mod names;
 pub mod read;
