@@ -1,4 +1,6 @@
-"""Holds the cards of docs/REFUSALS.md and docs/TRAINING.md to the answers that the pages give: python3 tests/docs.py"""
+"""Holds the cards of docs/REFUSALS.md and docs/TRAINING.md to the answers that the pages give, and the names in docs/PROMISES.md and docs/DUDS.md to what
+the crates declare: python3 tests/docs.py"""
+import glob
 import os
 import re
 import sys
@@ -10,6 +12,11 @@ from rulings import whole
 
 WORDS = 12288
 SHEET = re.compile(r"^\| (\d+) \|.*\| ([^|]*) \|$")
+
+
+def page_of(name):
+    with open(os.path.join(ROOT, "docs", name), encoding="utf-8") as page:
+        return page.read()
 
 
 def text_of(card):
@@ -34,19 +41,17 @@ def asked(number, card):
 
 def sheet():
     """Each line of the sheet: what it says, and what is answered."""
-    with open(os.path.join(ROOT, "docs", "REFUSALS.md"), encoding="utf-8") as page:
-        for line in page:
-            found = SHEET.match(line)
-            if found:
-                number, card = int(found[1]), found[2].strip()
-                told = re.search(r"→ (\d+)(?: at |, )(\d+)", card)
-                yield card, (int(told[1]), int(told[2])) if told else (number, 0), asked(number, card)
+    for line in page_of("REFUSALS.md").splitlines():
+        found = SHEET.match(line)
+        if found:
+            number, card = int(found[1]), found[2].strip()
+            told = re.search(r"→ (\d+)(?: at |, )(\d+)", card)
+            yield card, (int(told[1]), int(told[2])) if told else (number, 0), asked(number, card)
 
 
 def training():
     """The cards of the training page, in their order, with what the page says of them."""
-    with open(os.path.join(ROOT, "docs", "TRAINING.md"), encoding="utf-8") as page:
-        blocks = re.findall(r"(?:^    .*\n)+", page.read(), re.M)
+    blocks = re.findall(r"(?:^    .*\n)+", page_of("TRAINING.md"), re.M)
     cards = ["".join(line.strip() for line in block.splitlines()).encode() for block in blocks]
     wanted = [(4, 43), (4, 43), (26, 0), (28, 14), b'{"@type":"Card","version":"1.0","uid":"u1","emails":{}}', (24, 0)]
     if len(cards) != len(wanted):
@@ -56,13 +61,41 @@ def training():
         yield card, answer, (number, second) if number else bytes(output[:written])
 
 
+def words(pattern):
+    """All words of the files of a pattern below the crates."""
+    found = set()
+    for path in glob.glob(os.path.join(ROOT, "crates", pattern), recursive=True):
+        with open(path, encoding="utf-8") as file:
+            found.update(re.findall(r"[A-Za-z][\w'-]*", file.read()))
+    return found
+
+
+def unknown():
+    """What the two pages name and nothing has: files, must-fail edits, and words in backquotes."""
+    declared = words("**/*.antt") | words("**/*.rt")
+    for name in ("PROMISES.md", "DUDS.md"):
+        page = page_of(name)
+        for path in re.findall(r"(?:text|contact|laws|json|card|bezinkol|intake)/[\w/]+\.(?:antt|rt)", page):
+            if not os.path.exists(os.path.join(ROOT, "crates", path)):
+                yield f"{name}: {path}"
+        for crate, edit in re.findall(r"[| ,](text|contact|laws|json|card|bezinkol)/([a-z0-9_]+)(?=[ ,])", page):
+            if not os.path.exists(os.path.join(ROOT, "crates", crate, "must-fail", edit + ".edit")):
+                yield f"{name}: {crate}/{edit}"
+        for word in re.findall(r"`\.?([A-Za-z][\w'-]*)`", page):
+            if word not in declared and not os.path.exists(os.path.join(ROOT, "crates", word)) and word not in ("isspace", "specs"):
+                yield f"{name}: {word}"
+
+
 def main():
     cases = [*sheet(), *training()]
     faults = [case for case in cases if case[1] != case[2]]
     for card, wanted, answer in faults:
         print(f"{card}: the page says {wanted}, answered {answer}")
-    print(f"docs: {len(cases)} cards, {len(faults)} faults")
-    return 1 if faults or len(cases) != 25 else 0
+    names = sorted(set(unknown()))
+    for name in names:
+        print(f"{name} is nowhere")
+    print(f"docs: {len(cases)} cards, {len(faults)} faults; {len(names)} names that are nowhere")
+    return 1 if faults or names or len(cases) != 25 else 0
 
 
 if __name__ == "__main__":

@@ -40,7 +40,12 @@ def main():
         if run.stdout != b"%d %d\n" % (number, second) or run.returncode != 0:
             faults += 1
             print(f"{text[:120]!r}: printed {run.stdout!r} with status {run.returncode}, wanted {number} {second}")
-    print(f"intake: {count} inputs, {faults} faults")
+    folder = os.open(ROOT, os.O_RDONLY)  # which can't be read as a file
+    run = subprocess.run([os.path.join(ROOT, "intake")], stdin=folder, capture_output=True, check=False)
+    if run.stdout or run.stderr.count(b"\n") != 1 or run.returncode != 1:
+        faults += 1
+        print(f"a failed read: printed {run.stdout!r} and {run.stderr!r} with status {run.returncode}")
+    print(f"intake: {count + 1} inputs, {faults} faults")
     return 1 if faults else 0
 
 
