@@ -1,4 +1,4 @@
--- Demand 3, how a localization is applied, as one statement: `Patching`. proofs/Patching/Together.antt proves it for all limits, tables and outputs.
+-- What is shown of localizing, over documents, as one statement: `Patching`. proofs/Patching/Together.antt proves it for all limits, tables and outputs.
 -- Assumes nothing: these are definitions.
 use Prim.Native.Nat.{ℕ}
 use mathlib.Core.Path.{_≡_}
@@ -78,7 +78,7 @@ pub record PatchedText (card : Doc) (lang : Name) (text : List ℕ) : Type 0 whe
   -- which has no localizations: the card had none at the start, and no entry sets them
   pub unlocalized : find (last (bytes "localizations")) result ≡ none
 
--- ---- the demand
+-- ---- all of it
 
 module _ (L : Limits) (words room : ℕ) where
   -- all that is shown of localizing, over documents

@@ -174,6 +174,9 @@ cases =
     ∷ refusedAt (localizing (patched (name "\"full\":\"Ann\",\"components\":[{\"kind\":\"given\",\"value\":\"Ann\"}]") "\"name/full\":null,\"name/components\":null")) 28 14
     -- `~01` is `~1`, not `/`
     ∷ accepted (localizing (patched [] "\"~01\":1")) 5 50 (cardRows 50 4 (row 4 44 46 48 49 0)) (with (bytes ",\"~1\":1"))
+    -- added names in ascending order of bytes, a control first and a name before its longer ones; the control is spelled with small digits
+    ∷ accepted (localizing (patched [] "\"a!\":1,\"a\":2,\"\\u001F\":3")) 7 67
+    (cardRows 67 6 (row 4 44 50 52 53 0 ++ row 4 55 56 58 59 0 ++ row 4 61 63 65 66 0)) (with (bytes ",\"\\u001f\":3,\"a\":2,\"a!\":1"))
     -- the whole example, for a table of twelve rows and an output as long as the card text
     ∷ accepted
     (localize
