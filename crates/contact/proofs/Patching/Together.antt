@@ -1,4 +1,4 @@
--- Demand 3, of the definitions (specs/Patching.antt), from the theorems of the files beside this one; and of two texts that pass: their order of
+-- What is shown of localizing (specs/Patching.antt), from the theorems of the files beside this one; and of two texts that pass: their order of
 -- entries and their white space don't count (`order-of-texts`).
 -- Assumes nothing.
 use mathlib.Core.Bool.{Bool, false, _||_, true≢false}
@@ -149,12 +149,6 @@ module _ (L : Limits) (words room : ℕ) where
       → OrderOnly lang (docOf t f) (docOf u g) → localizedOf L words room t lang ≡ localizedOf L words room u lang
   order-of-texts t u lang f g p q x =
       passed-so L words room t lang f p ∙ card-order (docOf t f) (docOf u g) lang x ∙ sym (passed-so L words room u lang g q)
-
-  -- two texts that pass and have one document: white space doesn't count
-  pub white-space : (t u : List ℕ) (lang : Name) (f g : Forest) → judgedOf L words t ≡ passed f → judgedOf L words u ≡ passed g
-      → docOf t f ≡ docOf u g → localizedOf L words room t lang ≡ localizedOf L words room u lang
-  white-space t u lang f g p q e =
-      passed-so L words room t lang f p ∙ ap (λ (d : Doc). localizedDoc L words room d lang) e ∙ sym (passed-so L words room u lang g q)
 
   -- ---- what an accepted localization has written
 
