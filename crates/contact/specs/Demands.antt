@@ -8,22 +8,27 @@ use Prim.Native.Nat.{ℕ, _*_, _≤_, _<_}
 use mathlib.Core.Path.{_≡_}
 use mathlib.Core.Logic.{_⊎_, _↔_}
 use mathlib.Core.List.{List, []}
+use mathlib.Core.Option.{some}
 use lib.ListN.{length, getD, replicate}
 use Rattle.laws.specs.Lists.{filled}
 use Rattle.laws.specs.Bounds.{AllBelow}
+use Rattle.laws.specs.Sorting.{Perm}
 use Rattle.text.specs.Limits.{Limits, rowWords}
 use Rattle.text.specs.Tree.{Forest, size, rowsOf, startsOf}
 use Rattle.text.specs.Sheet.{numbers, paper}
 use Rattle.text.specs.Whole.{wholeOf, sheetOf, tableOf}
-use Rattle.text.specs.Doc.{Name, docOf}
+use Rattle.text.specs.Doc.{Name, Doc, docOf}
+use Rattle.text.specs.Distinct.{Distinct}
 use Rattle.text.specs.Meaning.{Accepts}
 use Rattle.text.specs.Fault.{FirstFault}
 use Rattle.text.specs.Promised.{Filled}
 use Rattle.text.specs.declared.Reading.{Reading}
-use Rattle.contact.specs.Localize.{refusedLocal}
+use Rattle.contact.specs.Patch.{Entry, entriesOf, run}
+use Rattle.contact.specs.Localize.{refusedLocal, start}
 use Rattle.contact.specs.Breaches.{Keeps, FirstBreach}
 use Rattle.contact.specs.Judging.{Judges}
 use Rattle.contact.specs.Conditions.{BrokenCondition, Smallest}
+use Rattle.contact.specs.Likeness.{Reordered}
 use Rattle.contact.specs.Patching.{OrderOnly, PatchedText}
 use Rattle.contact.specs.Contract.{Localizes}
 use Rattle.contact.specs.Readback.{PatchedRows}
@@ -145,6 +150,12 @@ pub record Localization (L : Limits) (words room : ℕ) (t : List ℕ) (f : Fore
   pub back : PatchedRows L t f lang text tree
   -- and is a card itself: the whole result was judged
   pub card : CardText L words text tree
+  -- names are distinct in a card that is read: so the end of the steps, in any order, differs from the written card in the order of members only
+  pub one-by-one : (fs : List Entry) → Perm (entriesOf (back .members)) fs
+      → (end : Doc) × (run fs (start (docOf t f)) ≡ some end) × Reordered end (docOf text tree)
+  pub distinct : Distinct (docOf text tree)
+  -- no white space outside strings: no text that is read, under any limits, and says the same card is shorter
+  pub compact : (M : Limits) (u : List ℕ) (g : Forest) → Accepts M u g → docOf u g ≡ docOf text tree → length text ≤ length u
 
 -- demand 3, of localizing a text
 pub record Localizing (L : Limits) : Type 0 where

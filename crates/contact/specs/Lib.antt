@@ -1,4 +1,4 @@
--- What a card must keep: the table of types, and each rule in words.
+-- What a card must keep: the table of types, and each rule in words. In comments 01 is the rules paper.
 pub mod Schema
 pub mod AskedKinds
 pub mod SimpleValues

@@ -1,4 +1,4 @@
--- Demand 3, how a localization is applied, as one statement: `Patching`. proofs/Patching/Together.antt proves it for all limits, tables and outputs.
+-- What is shown of localizing, over documents, as one statement: `Patching`. proofs/Patching/Together.antt proves it for all limits, tables and outputs.
 -- Assumes nothing: these are definitions.
 use Prim.Native.Nat.{ℕ}
 use mathlib.Core.Path.{_≡_}
@@ -9,7 +9,7 @@ use Rattle.laws.specs.Sorting.{Perm}
 use Rattle.text.specs.Limits.{Limits}
 use Rattle.text.specs.Text.{bytes}
 use Rattle.text.specs.Tree.{Forest}
-use Rattle.text.specs.Doc.{Name, Doc, object, Members, member, property, docOf}
+use Rattle.text.specs.Doc.{Name, Doc, object, Members, empty, member, property, docOf}
 use Rattle.text.specs.Distinct.{Distinct, DistinctMembers}
 use Rattle.text.specs.Writing.{written}
 use Rattle.contact.specs.Verdict.{passed, failed, judgedOf}
@@ -66,6 +66,16 @@ pub record Patched (d : Doc) (ms : Members) (x : Doc) : Type 0 where
   pub root : (os : Members) → d ≡ object os → (ns : Members) × (x ≡ object ns) × Laid os os ns
   pub below : (p : Pointer) (label : List ℕ) (os : Members) → NotOver p (entriesOf ms) → find p d ≡ some (property label (object os)) → LaidAt p label os x
 
+-- the members but those of the name n, in their order and as they were
+pub data LeftOut (n : Name) : Members → Members → Type 0 where
+  noMore : LeftOut n empty empty
+  goes : {label : List ℕ} {d : Doc} {ms rest : Members} → LeftOut n ms rest → LeftOut n (member n label d ms) rest
+  stays : {m : Name} {label : List ℕ} {d : Doc} {ms rest : Members} → m ≢ n → LeftOut n ms rest → LeftOut n (member m label d ms) (member m label d rest)
+
+-- objects, of which the one has the members of the other but those of the name n
+pub data LeftOutOf (n : Name) : Doc → Doc → Type 0 where
+  leftOut : {ms rest : Members} → LeftOut n ms rest → LeftOutOf n (object ms) (object rest)
+
 -- what was written is the text of a card that is patched so
 pub record PatchedText (card : Doc) (lang : Name) (text : List ℕ) : Type 0 where
   pub members : Members
@@ -73,12 +83,13 @@ pub record PatchedText (card : Doc) (lang : Name) (text : List ℕ) : Type 0 whe
   pub result : Doc
   pub writes : text ≡ written result
   pub patched : Patched (start card) members result
-  -- where the starting point is the card but for its localizations
+  -- where the starting point is the card but for its localizations: its other members in their order, so what else a pointer finds is found there
+  pub starting : LeftOutOf (bytes "localizations") card (start card)
   pub started : (p : Pointer) → firstPart p ≢ bytes "localizations" → find p (start card) ≡ find p card
   -- which has no localizations: the card had none at the start, and no entry sets them
   pub unlocalized : find (last (bytes "localizations")) result ≡ none
 
--- ---- the demand
+-- ---- all of it
 
 module _ (L : Limits) (words room : ℕ) where
   -- all that is shown of localizing, over documents

@@ -150,6 +150,18 @@ cases =
     ∷ refusedAt (judging (with (bytes ",\"kind\":5"))) 11 50
     ∷ refusedAt (judging (bytes " {}")) 12 1
     ∷ refusedAt (judging (with (name ""))) 14 50
+    -- more of the wrong kind, in an object of each type of the table; null fits none that is listed
+    ∷ refusedAt (judging (with (bytes ",\"language\":null"))) 11 54
+    ∷ refusedAt (judging (with (bytes ",\"localizations\":{\"de\":1}"))) 11 65
+    ∷ refusedAt (judging (with (name "\"full\":\"A\",\"phoneticScript\":1"))) 11 79
+    ∷ refusedAt (judging (with (name "\"full\":\"A\",\"isOrdered\":\"true\""))) 11 74
+    ∷ refusedAt (judging (with (name "\"full\":\"A\",\"sortAs\":{\"given\":1}"))) 11 80
+    ∷ refusedAt (judging (with (name "\"full\":\"A\",\"components\":{}"))) 11 75
+    ∷ refusedAt (judge (with (name "\"components\":[{\"kind\":\"given\",\"value\":\"A\",\"phonetic\":1}]")) 60) 11 104
+    ∷ refusedAt (judging (with (bytes ",\"addresses\":{\"a\":{\"countryCode\":1}}"))) 11 75
+    ∷ refusedAt (judge (with (bytes ",\"addresses\":{\"a\":{\"components\":[{\"value\":\"A\",\"kind\":true}]}}")) 60) 11 95
+    ∷ refusedAt (judging (with (bytes ",\"emails\":{\"e\":{\"address\":\"a\",\"contexts\":[]}}"))) 11 83
+    ∷ refusedAt (judging (with (bytes ",\"phones\":{\"p\":{\"number\":\"1\",\"features\":\"voice\"}}"))) 11 82
     -- no such language; a loose `~`; a pointer into `localizations`
     ∷ refusedAt (localizing (with [])) 21 0
     ∷ refusedAt (localizing (patched [] "\"~2\":1")) 22 0
@@ -174,6 +186,9 @@ cases =
     ∷ refusedAt (localizing (patched (name "\"full\":\"Ann\",\"components\":[{\"kind\":\"given\",\"value\":\"Ann\"}]") "\"name/full\":null,\"name/components\":null")) 28 14
     -- `~01` is `~1`, not `/`
     ∷ accepted (localizing (patched [] "\"~01\":1")) 5 50 (cardRows 50 4 (row 4 44 46 48 49 0)) (with (bytes ",\"~1\":1"))
+    -- added names in ascending order of bytes, a control first and a name before its longer ones; the control is spelled with small digits
+    ∷ accepted (localizing (patched [] "\"a!\":1,\"a\":2,\"\\u001F\":3")) 7 67
+    (cardRows 67 6 (row 4 44 50 52 53 0 ++ row 4 55 56 58 59 0 ++ row 4 61 63 65 66 0)) (with (bytes ",\"\\u001f\":3,\"a\":2,\"a!\":1"))
     -- the whole example, for a table of twelve rows and an output as long as the card text
     ∷ accepted
     (localize

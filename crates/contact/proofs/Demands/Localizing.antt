@@ -1,28 +1,40 @@
 -- Demand 3, of what localizing leaves, from `patching` and `readback`. Assumes nothing.
 use Prim.Native.Nat.{ℕ, _≤_, _<_}
 use native.Mathlib.Omega.{arith}
-use mathlib.Core.Path.{_≡_, refl, sym, _∙_}
+use mathlib.Core.Path.{_≡_, refl, sym, ap, _∙_}
 use mathlib.Core.Bool.{true}
 use mathlib.Core.Logic.{_⊎_, _↔_}
 use mathlib.Core.List.{List}
+use mathlib.Core.Option.{some}
 use lib.ListN.{length}
+use Rattle.laws.specs.Sorting.{Perm}
 use Rattle.text.specs.Limits.{Limits}
 use Rattle.text.specs.Tree.{Forest}
 use Rattle.text.specs.Reader.{good}
 use Rattle.text.specs.Sheet.{numbers}
 use Rattle.text.specs.Whole.{readOf}
-use Rattle.text.specs.Doc.{Name, docOf}
-use Rattle.text.proofs.Promise.{whole-good}
+use Rattle.text.specs.Doc.{Name, Doc, object, Members, property, docOf}
+use Rattle.text.specs.Distinct.{Distinct}
+use Rattle.text.specs.Meaning.{Accepts}
+use Rattle.text.specs.Writing.{written}
+use Rattle.text.proofs.Promise.{whole-good, promised}
+use Rattle.text.proofs.Readback.Documents.{text-shorter}
 use Rattle.text.proofs.Grammar.Accepted.{accepts}
 use Rattle.contact.specs.Verdict.{Judged, passed, failed, judgedOf, sheetOfJudged, paperOfVerdict}
-use Rattle.contact.specs.Localize.{refusedLocal, Outcome, done, denied, localizedDoc, localizedOf, sheetOfOutcome, tableOfOutcome, outputOfOutcome, answerOfOutcome, paperOfLocalized}
+use Rattle.contact.specs.Patch.{Entry, entriesOf, run}
+use Rattle.contact.specs.Localize.{refusedLocal, Outcome, done, denied, start, patchAt, patchedDoc, localizedDoc, localizedOf, sheetOfOutcome, tableOfOutcome, outputOfOutcome, answerOfOutcome, paperOfLocalized}
 use Rattle.contact.specs.Conditions.{BrokenCondition, Smallest}
+use Rattle.contact.specs.Likeness.{Reordered}
+use Rattle.contact.specs.Patching.{Patched}
+use Rattle.contact.specs.Readback.{PatchedRows}
 use Rattle.contact.specs.Services.{judge, localize, served}
 use Rattle.contact.specs.Demands.{Passes, Within, CardText, Localization}
 use Rattle.contact.specs.declared.LocalRefusal.{LocalRefusal}
 use Rattle.contact.proofs.Judging.{judging}
 use Rattle.contact.proofs.Patching.Public.{passed-so, failed-so}
-use Rattle.contact.proofs.Patching.Together.{patching}
+use Rattle.contact.proofs.Patching.Distinct.{distinct-start, find-distinct}
+use Rattle.contact.proofs.Patching.Fine.{Fine, fine}
+use Rattle.contact.proofs.Patching.Together.{patched-so, patching}
 use Rattle.contact.proofs.Patching.Readback.{readback}
 use Rattle.contact.proofs.Demands.Sheet.{line-of, local-line, local-some, Late, early, late-short, late-inner, late, same-number, same-second}
 
@@ -50,18 +62,47 @@ module _ (L : Limits) (unique : L .unique ≡ true) (words room : ℕ) (t : List
         let (to, whole, keeps) = judging .accepted L words text g .0 (a .reads) in
         record { readable = record { accepts = accepts L text g .0 back; enough = whole-good L words text g to whole .room }; keeps = keeps }
 
+    -- names are distinct in a card that is read, and so in its PatchObject
+    distinct-card : Distinct (docOf t f)
+    distinct-card =
+        let (to, whole, keeps) = judging .accepted L words t f .0 pass in
+        promised L t f to (whole-good L words t f to whole .read) .distinct unique
+
+    module _ (text : List ℕ) (g : Forest) (rows : PatchedRows L t f lang text g) where
+      abbrev ms : Members
+      ms = rows .members
+
+      steps : outcome ≡ done text g → (fs : List Entry) → Perm (entriesOf ms) fs
+          → (end : Doc) × (run fs (start (docOf t f)) ≡ some end) × Reordered end (docOf text g)
+      steps e fs π =
+          let u = patching L words room .accepted (docOf t f) lang text g .0 (of-doc (done text g) e) .unbroken in
+          let h : Fine (docOf t f) ms = fine L words room (docOf t f) lang ms (rows .patch) (λ m q l. u m q) in
+          let p : Patched (start (docOf t f)) ms (patchedDoc (docOf t f) ms) = patched-so L words room (start (docOf t f)) ms (h .noClash) (h .parents) in
+          let inside = find-distinct (patchAt lang) (docOf t f) (property (rows .patch .label) (object ms)) distinct-card (rows .patch .stands) in
+          let r = p .one-by-one fs π in
+          (r .end, r .reached, rw (rows .says) (p .reordered (distinct-start (docOf t f) distinct-card) inside fs π))
+
+      shortest : (M : Limits) (u : List ℕ) (h : Forest) → Accepts M u h → docOf u h ≡ docOf text g → length text ≤ length u
+      shortest M u h a e =
+          let same = ap (λ (d : Doc). length (written d)) (e ∙ rows .says) in
+          omega (arith, text-shorter M u h (length u) (accepts M u h .1 a), same, ap length (rows .writes))
+
     localization : (text : List ℕ) (g : Forest) → outcome ≡ done text g → Localization L words room t f lang
     unfolding served sheetOfOutcome paperOfLocalized answerOfOutcome tableOfOutcome outputOfOutcome
     localization text g e =
         let (h, k, rows) = readback L words room unique .accepted t lang text g e in
         let tree : h ≡ f = cc in
+        let back : PatchedRows L t f lang text g = rw tree at rows in
         record {
           text = text;
           tree = g;
           left = rw e;
           patched = patching L words room .written-so (docOf t f) lang text g (of-doc (done text g) e);
-          back = rw tree at rows;
+          back = back;
           card = card-written text g e (rows .reads);
+          one-by-one = steps text g back e;
+          distinct = promised L text g (length text) (rows .reads) .distinct unique;
+          compact = shortest text g back;
         }
 
     pub localize-patched : Passes L (localize t lang words room) → Localization L words room t f lang
@@ -88,7 +129,7 @@ module _ (L : Limits) (unique : L .unique ≡ true) (words room : ℕ) (t : List
         → (served L (localize t lang words room) .answer ≡ numbers n second 0)
         ↔ ((r : LocalRefusal) × (refusedLocal r ≡ numbers n second 0) × Smallest L words room (docOf t f) lang n r)
     unfolding served sheetOfOutcome paperOfLocalized answerOfOutcome
-    localize-refused n second some = (λ e. go outcome refl e, back)
+    localize-refused n second positive = (λ e. go outcome refl e, back)
       where
         go : (o : Outcome) → outcome ≡ o → sheetOfOutcome o ≡ numbers n second 0
             → (r : LocalRefusal) × (refusedLocal r ≡ numbers n second 0) × Smallest L words room (docOf t f) lang n r

@@ -1,7 +1,7 @@
 -- The kinds of types, and the one table:
 --     fits-test     the test of a kind decides `Suits`
 --     typed         the type that the table gives to a name is that of the one line with the name, or `any` where there is none
---     line-type     .. and so each line of a type's table has its own name
+--     line-of       .. and so each line of a type's table has its own name
 --     table-test    the test of a kind against a name's type
 -- Assumes nothing.
 use Prim.Native.Nat.{ℕ}
@@ -136,9 +136,6 @@ one-line (l ∷ ls) e k j i i′ s =
 pub line-of : (o : ObjectType) {n : Name} {ty : Ty} → Typed (properties o) n ty → (k : Known) → In k (properties o) → k .spelling ≡ n → ty ≡ k .type
 line-of o (line j i e) k i′ e′ = ap (λ (x : Known). x .type) (one-line (properties o) (names-apart o) j k i i′ (e ∙ sym e′))
 line-of o (no-line f) k i e = absurd (f k i e)
-
-pub line-type : (o : ObjectType) (k : Known) → In k (properties o) → typeIn (properties o) (k .spelling) ≡ k .type
-line-type o k i = line-of o (type-in (properties o) (k .spelling)) k i refl
 
 -- a name's kind by the table: that of its line, if it has one
 pub table-test : (o : ObjectType) (n : Name) (kind : ℕ) → Decides (Tabled o n kind) (fits (typeIn (properties o) n) kind)

@@ -1,5 +1,5 @@
 -- The localized card of a text that passes asks nothing of a second reading that the text did not have: `modest` of any entries that break no condition,
--- `accepted-modest` where the card is written, `inner-modest` where it is 28.
+-- `inner-modest` where it is 28.
 -- Assumes nothing.
 use mathlib.Core.Path.{_≡_, refl, sym, _∙_}
 use mathlib.Core.Bool.{true}
@@ -23,16 +23,16 @@ use Rattle.text.proofs.Labels.{labels-said}
 use Rattle.text.proofs.Readback.Documents.{text-writable}
 use Rattle.contact.specs.Verdict.{passed, failed, judgedOf}
 use Rattle.contact.specs.Patch.{entriesOf, applied}
-use Rattle.contact.specs.Localize.{refusedLocal, done, denied, start, patchAt, localizedOf}
+use Rattle.contact.specs.Localize.{refusedLocal, denied, start, patchAt, localizedOf}
 use Rattle.contact.specs.Entries.{NoClash, ParentsThere}
-use Rattle.contact.specs.Conditions.{PatchOf, BrokenCondition, unfit, Smallest, Accepted}
+use Rattle.contact.specs.Conditions.{PatchOf, BrokenCondition, unfit, Smallest}
 use Rattle.contact.specs.declared.CardRefusal.{CardRefusal}
 use Rattle.contact.specs.declared.LocalRefusal.the-variants.{Inner}
 use Rattle.contact.proofs.Judging.{judging}
 use Rattle.contact.proofs.Patching.Distinct.{distinct-applied, entries-values, distinct-start, find-distinct}
 use Rattle.contact.proofs.Patching.Every.{labels-stay, keys-long}
 use Rattle.contact.proofs.Patching.Room.{room-enough, values-enough}
-use Rattle.contact.proofs.Patching.Refused.{refused-iff, accepted-iff}
+use Rattle.contact.proofs.Patching.Refused.{refused-iff}
 use Rattle.contact.proofs.Patching.Public.{passed-so}
 use Rattle.contact.proofs.Patching.Fine.{Fine, fine}
 
@@ -94,14 +94,6 @@ module _ (L : Limits) (words : ℕ) (t : List ℕ) (f : Forest) (unique : L .uni
         rows = omega (arith, mul-le-mul-left (L .words) fewer, r .room);
         short = room-enough card lang ms patch dc nc pt (keys-long (TokenOf t) card lang ms patch labels);
       }
-
-  -- a card that is written, and one that is 28
-  pub accepted-modest : (room : ℕ) (text : List ℕ) (g : Forest) → localizedOf L words room t lang ≡ done text g
-      → (x : Doc) × (text ≡ written x) × Modest L words t f x
-  accepted-modest room text g e =
-      let a : Accepted L words room card lang text g = accepted-iff L words room card lang text g .0 (sym (passed-so L words room t lang f pass) ∙ e) in
-      let h : Fine card (a .members) = fine L words room card lang (a .members) (a .patch) (λ m q l. a .unbroken m q) in
-      (applied (start card) (entriesOf (a .members)), a .writes, modest (a .members) (a .patch) (h .noClash) (h .parents))
 
   pub inner-modest : (room : ℕ) (r : CardRefusal) → localizedOf L words room t lang ≡ denied (Inner r) → InnerOf L words t f lang r
   inner-modest room r e =

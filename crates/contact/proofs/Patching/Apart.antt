@@ -3,7 +3,7 @@
 --     clash-apart, apart-clash       the test `clash` decides it
 --     clash-iff                      the test is true if one is a prefix of the other, over whole parts, and only then
 --     clear-apart                    a pointer that no entry names, enters or covers is apart from all
---     no-clash-iff, parents-iff      the tests over all entries
+--     from-anyClash, to-anyClash, from-anyWalk   the tests over all entries
 --     perm-anyClash, perm-anyWalk, perm-anyOwn   these tests in another order
 -- Assumes nothing.
 use mathlib.Core.Bool.{Bool, true, false, _||_, true≢false}
@@ -120,17 +120,6 @@ from-anyWalk (entry p c ∷ es) d h k =
     let x = or-false (isInArray (walk p d)) (anyWalk isInArray es d) h in
     let y = or-false (isNoObject (walk p d)) (anyWalk isNoObject es d) k in
     (arrived (walk p d) (x .0) (y .0), from-anyWalk es d (x .1) (y .1))
-
-pub to-anyWalk : (f : Walk → Bool) → f arrives ≡ false → (es : List Entry) (d : Doc) → ParentsThere es d → anyWalk f es d ≡ false
-to-anyWalk f a [] d h = refl
-to-anyWalk f a (entry p c ∷ es) d h = both-false (f (walk p d)) (anyWalk f es d) (ap f (h .0) ∙ a) (to-anyWalk f a es d (h .1))
-
-pub no-clash-iff : (es : List Entry) → (anyClash es ≡ false) ↔ NoClash es
-no-clash-iff es = (from-anyClash es, to-anyClash es)
-
-pub parents-iff : (es : List Entry) (d : Doc)
-    → ((anyWalk isInArray es d ≡ false) × (anyWalk isNoObject es d ≡ false)) ↔ ParentsThere es d
-parents-iff es d = (λ h. from-anyWalk es d (h .0) (h .1), λ h. (to-anyWalk isInArray refl es d h, to-anyWalk isNoObject refl es d h))
 
 -- ---- the tests come out the same in any order
 

@@ -161,10 +161,7 @@ pub one-key : (key other : Name) → badTilde key ≡ false → badTilde other �
 unfolding Written
 one-key key other h k e = text-one (written key h) (rw e (written other k))
 
--- ---- of `~01`, of the key "" and of whole parts
+-- ---- of `~01`
 
 pub tilde-zero-one : (bs : List ℕ) → plain (126 ∷ 48 ∷ 49 ∷ bs) ≡ 126 ∷ plain (49 ∷ bs)
 tilde-zero-one bs = refl
-
-pub empty-key : pointerOf [] ≡ last []
-empty-key = refl

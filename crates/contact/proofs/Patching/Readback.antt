@@ -1,4 +1,4 @@
--- What is written of a localized card is read back (specs/Readback.antt): `readback`, and with the limits of 01 `base-readback`.
+-- What is written of a localized card is read back (specs/Readback.antt): `readback`.
 -- Assumes nothing.
 use mathlib.Core.Path.{_≡_, refl, sym, ap, subst, _∙_}
 use mathlib.Core.Bool.{true}
@@ -9,7 +9,7 @@ use native.Mathlib.Omega.{arith}
 use native.Mathlib.Decide.{decLe}
 use borrow.Author.Tests.{le-ltb}
 use lib.ListN.{length, getD}
-use Rattle.text.specs.Limits.{Limits, base}
+use Rattle.text.specs.Limits.{Limits}
 use Rattle.text.specs.Tree.{Forest, size, startsOf}
 use Rattle.text.specs.Reader.{good}
 use Rattle.text.specs.Sheet.{refused}
@@ -183,7 +183,3 @@ module _ (L : Limits) (words room : ℕ) (unique : L .unique ≡ true) where
     inner = inner-text;
     number = λ t lang r e. inner-number r (inner-text t lang r e);
   }
-
--- with the limits of 01
-pub base-readback : (words room : ℕ) → Readback base words room
-base-readback words room = readback base words room refl

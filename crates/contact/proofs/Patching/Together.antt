@@ -1,11 +1,11 @@
--- Demand 3, of the definitions (specs/Patching.antt), from the theorems of the files beside this one; and of two texts that pass: their order of
+-- What is shown of localizing (specs/Patching.antt), from the theorems of the files beside this one; and of two texts that pass: their order of
 -- entries and their white space don't count (`order-of-texts`).
 -- Assumes nothing.
 use mathlib.Core.Bool.{Bool, false, _||_, true≢false}
 use mathlib.Core.List.{List, [], _∷_}
-use mathlib.Core.Option.{Option, none, some}
+use mathlib.Core.Option.{Option, none, some, Option·none-ne-some}
 use mathlib.Core.Logic.{_≢_}
-use mathlib.Core.Path.{_≡_, refl, sym, ap, _∙_}
+use mathlib.Core.Path.{_≡_, refl, sym, ap, _∙_, subst}
 use Prim.Native.Nat.{ℕ}
 use Rattle.laws.specs.Sorting.{Perm, stay, skip, swap, andThen}
 use Rattle.laws.proofs.Bools.{byTest, or-false, swap-or}
@@ -14,16 +14,16 @@ use Rattle.laws.specs.Order.{same}
 use Rattle.text.specs.Limits.{Limits}
 use Rattle.text.specs.Text.{bytes}
 use Rattle.text.specs.Tree.{Forest}
-use Rattle.text.specs.Doc.{Name, Doc, object, Members, member, Property, property, seek, docOf, scalar, array}
+use Rattle.text.specs.Doc.{Name, Doc, object, Members, empty, member, Property, property, seek, docOf, scalar, array}
 use Rattle.contact.specs.Verdict.{passed, judgedOf}
 use Rattle.contact.specs.Pointer.{last, badTilde, find, within, Pointer, down, firstPart}
 use Rattle.contact.specs.Patch.{Entry, entriesOf, anyBadKey, anyClash, isInArray, isNoObject, without, applied, entry, added, kept, anyOwn}
 use Rattle.contact.specs.Localize.{done, start, byEntries, inPatch, withPatch, localizedDoc, localizedOf}
 use Rattle.contact.specs.Entries.{Shuffled, asIs, keepFirst, swapFirst, andOn, NoClash, ParentsThere, Apart, ApartFrom}
-use Rattle.contact.specs.Conditions.{Accepted}
-use Rattle.contact.specs.Patching.{Rearranged, rearranged, AtMember, thisOne, laterOne, InMember, inMember, OrderOnly, RunsTo, Patched, PatchedText, Patching}
+use Rattle.contact.specs.Conditions.{PatchOf, Accepted}
+use Rattle.contact.specs.Patching.{Rearranged, rearranged, AtMember, thisOne, laterOne, InMember, inMember, OrderOnly, RunsTo, Patched, LeftOut, noMore, goes, stays, LeftOutOf, leftOut, PatchedText, Patching}
 use Rattle.contact.proofs.Patching.Pointers.{key-iff}
-use Rattle.contact.proofs.Patching.Names.{same-no, same-yes}
+use Rattle.contact.proofs.Patching.Names.{same-no, same-yes, byName}
 use Rattle.contact.proofs.Patching.Order.{any-order}
 use Rattle.contact.proofs.Patching.Untouched.{untouched}
 use Rattle.contact.proofs.Patching.Seek.{seek-without-same, seek-without-other}
@@ -100,6 +100,19 @@ start-else (array xs) (down n p) h = refl
 start-else (object ms) (last n) h = seek-without-other localizations n ms (λ e. h (sym e))
 start-else (object ms) (down n p) h = ap (within (find p)) (seek-without-other localizations n ms (λ e. h (sym e)))
 
+start-members : (n : Name) (ms : Members) → LeftOut n ms (without n ms)
+start-members n empty = noMore
+start-members n (member m label d ms) =
+    byName m n
+    (λ e. simp (same-yes e) (subst (λ (k : Name). LeftOut n (member k label d ms) (without n ms)) (sym e) (goes (start-members n ms))))
+    (λ ne. simp (same-no ne) (stays ne (start-members n ms)))
+
+-- a card with a PatchObject is an object
+start-left : (card : Doc) (lang : Name) (ms : Members) → PatchOf card lang ms → LeftOutOf localizations card (start card)
+start-left (scalar k t) lang ms p = absurd (Option·none-ne-some _ (p .stands))
+start-left (array xs) lang ms p = absurd (Option·none-ne-some _ (p .stands))
+start-left (object os) lang ms p = leftOut (start-members localizations os)
+
 module _ (L : Limits) (words room : ℕ) where
   -- the tests come out the same; and if no two pointers clash, so does the document
   entries-order : (d : Doc) (ms ns : Members) → Shuffled ms ns
@@ -137,12 +150,6 @@ module _ (L : Limits) (words room : ℕ) where
   order-of-texts t u lang f g p q x =
       passed-so L words room t lang f p ∙ card-order (docOf t f) (docOf u g) lang x ∙ sym (passed-so L words room u lang g q)
 
-  -- two texts that pass and have one document: white space doesn't count
-  pub white-space : (t u : List ℕ) (lang : Name) (f g : Forest) → judgedOf L words t ≡ passed f → judgedOf L words u ≡ passed g
-      → docOf t f ≡ docOf u g → localizedOf L words room t lang ≡ localizedOf L words room u lang
-  white-space t u lang f g p q e =
-      passed-so L words room t lang f p ∙ ap (λ (d : Doc). localizedDoc L words room d lang) e ∙ sym (passed-so L words room u lang g q)
-
   -- ---- what an accepted localization has written
 
   -- entries of which no condition is broken
@@ -176,6 +183,7 @@ module _ (L : Limits) (words room : ℕ) where
         result = applied (start card) (entriesOf (a .members));
         writes = a .writes;
         patched = patched-so (start card) (a .members) (h .noClash) (h .parents);
+        starting = start-left card lang (a .members) (a .patch);
         started = start-else card;
         unlocalized =
             untouched (last localizations) (start card) (entriesOf (a .members)) (h .noClash) (own-apart (entriesOf (a .members)) (h .noneOwn))

@@ -100,15 +100,8 @@ from-lost p d (atScalar {kind = kind} {token = token} {n = n} {left = left} r) =
 from-lost p d (noMember {ms = ms} {n = n} {m = m} {left = left} r k) =
     let l = follow (r .leads) p n (m ∷ left) (r .split) in l .on ∙ walk-lacking (l .rest) ms n m left (l .has) k
 
--- ---- the theorems
+-- ---- by the tests
 
-pub array-iff : (p : Pointer) (d : Doc) → (walk p d ≡ inArray) ↔ EntersArray p d
-array-iff p d = (to-array p d, from-array p d)
-
-pub lost-iff : (p : Pointer) (d : Doc) → (walk p d ≡ noObject) ↔ LosesWay p d
-lost-iff p d = (to-lost p d, from-lost p d)
-
--- the same, by the tests
 in-array : (w : Walk) → isInArray w ≡ true → w ≡ inArray
 in-array arrives e = absurd (true≢false (sym e))
 in-array inArray e = refl
