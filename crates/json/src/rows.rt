@@ -10,11 +10,17 @@ ghost use Rattle.json.specs.Rows.{Row, wordOf, kindIn, nameStartIn, name
 
 // The kinds of a row.
 pub const NULL: usize = 1;
+
 pub const FALSE: usize = 2;
+
 pub const TRUE: usize = 3;
+
 pub const NUMBER: usize = 4;
+
 pub const STRING: usize = 5;
+
 pub const ARRAY: usize = 6;
+
 pub const OBJECT: usize = 7;
 
 // Stores a row.
