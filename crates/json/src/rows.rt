@@ -8,7 +8,7 @@ ghost use lib.Seq.{sets};
 ghost use Rattle.text.specs.Limits.{rowWords};
 ghost use Rattle.json.specs.Rows.{Row, wordOf, kindIn, nameStartIn, nameEndIn, startIn, endIn, belowIn};
 
-// The kinds of a row.
+// The kinds of a row, NULL to OBJECT.
 pub const NULL: usize = 1;
 
 pub const FALSE: usize = 2;

@@ -1,6 +1,6 @@
 -- The values of an accepted text stand in it as specs/Placed.antt says.
 --     placed-text                                       an accepted text
---     spot, token-at, box-at, rest-at                   what that says of the first of some values, of what is inside it and of what follows
+--     spot, token-at, elements-at, members-at, rest-at  what that says of the first of some values, of what is inside it and of what follows
 --     single-value                                      an accepted value is one value
 --     placed-kinds                                      the kinds of values that hold no others are 1 to 5
 -- Assumes nothing.

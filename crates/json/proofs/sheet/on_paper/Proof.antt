@@ -1,3 +1,4 @@
+-- `json::sheet::on_paper` meets its contract: each answer has its line. Assumes nothing.
 use Rattle.text.specs.Sheet.{paper}
 use borrow.Author.Needs.{needs}
 use Rattle.json.proofs.sheet.on_paper.Statement.{statement}

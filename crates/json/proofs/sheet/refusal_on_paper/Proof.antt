@@ -1,3 +1,4 @@
+-- `json::sheet::refusal_on_paper` meets its contract: each refusal has its line. Assumes nothing.
 use Rattle.text.specs.Sheet.{refused}
 use borrow.Author.Needs.{needs}
 use Rattle.json.proofs.sheet.refusal_on_paper.Statement.{statement}
