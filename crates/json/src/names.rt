@@ -52,10 +52,7 @@ pub fn part_is(a: &[u8], lit: &[u8]) -> bool
         let want = peek(lit, i);
         match next_byte(a, x) {
             Next::Over => {
-                if want == 256 {
-                    return true;
-                }
-                return false;
+                return want == 256;
             }
             Next::Byte(p, x2) => {
                 if p as u16 != want {
