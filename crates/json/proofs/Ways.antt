@@ -17,6 +17,7 @@ use Rattle.text.specs.Tree.{Forest, none, leaf}
 use Rattle.text.specs.Reader.{good, bad, Reader, scalarWith, scalarAt, closeOf, container, deep, valueWith, named, colonAt, memberWith, memberOf, valueAt, elementsAt, membersAt, arrayAt, objectAt}
 use Rattle.text.specs.declared.Token.the-variants.{End, No2, No3}
 use Rattle.text.specs.declared.Refusal.the-variants.{Grammar, Character, Repeated, Deep, Many}
+use Rattle.text.proofs.Laws.{value-parts}
 use Rattle.json.specs.Parts.{bracketOf, containerAt, itemsAt}
 use Rattle.json.specs.declared.values.Container.{Container}
 use Rattle.json.specs.declared.values.Container.the-variants.{Array, Object}
@@ -44,30 +45,22 @@ module _ (L : Limits) (t : List ℕ) (kind ns ne at n : ℕ) where
 -- ---- a value by the kind of its first byte ----
 
 module _ (L : Limits) (t : List ℕ) (ns ne at n depth : ℕ) where
-  with-depth : valueAt L t depth ns ne at n ≡ valueWith L t (arrayAt L t depth) (objectAt L t depth) ns ne at n
-  unfolding valueAt arrayAt objectAt elementsAt membersAt
-  with-depth = go depth
-    where
-      go : (d : ℕ) → valueAt L t d ns ne at n ≡ valueWith L t (arrayAt L t d) (objectAt L t d) ns ne at n
-      go zero = refl
-      go (suc d) = refl
-
   module _ (kind : ℕ) (k : kind ≡ kindBy (byteAt t at)) where
     pub value-none : kind ≡ 0 → valueAt L t depth ns ne at n ≡ bad (Grammar at)
     unfolding valueWith
-    value-none h = with-depth ∙ rw (← k, h)
+    value-none h = value-parts L t depth ns ne at n ∙ rw (← k, h)
 
     pub value-array : kind ≡ 6 → valueAt L t depth ns ne at n ≡ arrayAt L t depth ns ne at n
     unfolding valueWith
-    value-array h = with-depth ∙ rw (← k, h)
+    value-array h = value-parts L t depth ns ne at n ∙ rw (← k, h)
 
     pub value-object : kind ≡ 7 → valueAt L t depth ns ne at n ≡ objectAt L t depth ns ne at n
     unfolding valueWith
-    value-object h = with-depth ∙ rw (← k, h)
+    value-object h = value-parts L t depth ns ne at n ∙ rw (← k, h)
 
     pub value-scalar : (kind ≡ 0 → ⊥) → (kind ≡ 6 → ⊥) → (kind ≡ 7 → ⊥) → valueAt L t depth ns ne at n ≡ scalarAt L t kind ns ne at n
     unfolding valueWith
-    value-scalar h₁ h₂ h₃ = with-depth ∙ rw (← k, ne-eqb _ _ h₁, ne-eqb _ _ h₂, ne-eqb _ _ h₃)
+    value-scalar h₁ h₂ h₃ = value-parts L t depth ns ne at n ∙ rw (← k, ne-eqb _ _ h₁, ne-eqb _ _ h₂, ne-eqb _ _ h₃)
 
 -- ---- containers ----
 

@@ -23,6 +23,7 @@ unread t Over = []
 
 -- ---- the answer itself
 
+-- a cursor with its three fields
 abbrev pub cursor : (at code left : ℕ) → Cursor
 cursor at code left = record { at = at; code = code; left = left }
 

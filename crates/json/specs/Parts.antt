@@ -63,20 +63,24 @@ Closes kind ns ne at n (Next to after) old new r =
     (r ≡ Next to after) × (new ≡ sets old (n * rowWords) (kind ∷ ns ∷ ne ∷ at ∷ to ∷ (after - n - 1) ∷ []))
 Closes kind ns ne at n (Stop x) old new r = r ≡ Stop x
 
--- ---- the two containers: a container's bracket, its own definition, that of one item, and that of all that is inside
+-- ---- the two containers
 
+-- a container's bracket
 abbrev pub bracketOf : Container → Bracket
 bracketOf Array = square
 bracketOf Object = curly
 
+-- its own definition, from its bracket on
 abbrev pub containerAt : Container → Limits → List ℕ → (depth : ℕ) → Reader
 containerAt Array = arrayAt
 containerAt Object = objectAt
 
+-- that of one item: an element has no name
 abbrev pub itemOf : Container → Limits → List ℕ → (depth : ℕ) → ItemReader
 itemOf Array L t depth = λ done. valueAt L t depth 0 0
 itemOf Object L t depth = memberOf L t (valueAt L t depth)
 
+-- that of all that is inside, from after its bracket to after its closing byte
 abbrev pub itemsAt : Container → Limits → List ℕ → (depth at n : ℕ) → Read
 itemsAt of L t depth = insideOf t (itemOf of L t depth) (closing (bracketOf of))
 
@@ -94,6 +98,7 @@ pub record Past (t : List ℕ) (end ne from : ℕ) : Type 0 where
   pub inside : from ≤ length t
   pub is : (value : Reader) (at n : ℕ) → colonAt t value at end n ≡ value (at + 1) ne from n
 
+-- what is told behind a name: the place of the value, or the refusal
 abbrev pub Colon : List ℕ → (end : ℕ) → Key → Type 0
 Colon t end (Value ne from) = Past t end ne from
 Colon t end (Broken r) = (value : Reader) (at n : ℕ) → colonAt t value at end n ≡ bad r

@@ -8,24 +8,33 @@ use Rattle.text.specs.Limits.{rowWords}
 abbrev pub wordOf : List ℕ → ℕ → ℕ → ℕ
 wordOf table k i = getD table (k * rowWords + i) 0
 
--- 01's order of the words: kind, name start, name end, value start, value end, number of values below
+-- ---- 01's order of the words
+
+-- the kind
 abbrev pub kindIn : List ℕ → ℕ → ℕ
 kindIn table k = wordOf table k 0
 
+-- where the name starts, after the quote
 abbrev pub nameStartIn : List ℕ → ℕ → ℕ
 nameStartIn table k = wordOf table k 1
 
+-- where the name ends, before the quote
 abbrev pub nameEndIn : List ℕ → ℕ → ℕ
 nameEndIn table k = wordOf table k 2
 
+-- where the value starts
 abbrev pub startIn : List ℕ → ℕ → ℕ
 startIn table k = wordOf table k 3
 
+-- where the value ends
 abbrev pub endIn : List ℕ → ℕ → ℕ
 endIn table k = wordOf table k 4
 
+-- the number of values below it
 abbrev pub belowIn : List ℕ → ℕ → ℕ
 belowIn table k = wordOf table k 5
+
+-- ---- a row that is stored
 
 -- a number fits a word of 32 bits
 abbrev pub Word : ℕ → Type 0

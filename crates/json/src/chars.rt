@@ -26,6 +26,7 @@ fn digit_at(text: &[u8], at: usize) -> u32
     digit(peek(text, at))
 }
 
+// The four digits from a place on, as a number, or the place of the first that is none.
 fn hex4(text: &[u8], at: usize) -> Hex
     requires { ⌜ at ≤ length (now text) + 8 ⌝ }
     ensures { λ r. ⌜ r ≡ hex4At (now (text .entry)) at ⌝ }
@@ -109,7 +110,7 @@ fn tail_at(text: &[u8], at: usize) -> u32
     tail(peek(text, at))
 }
 
-// The code point of a sequence of two, three or four bytes, or 0x110000 where it is none.
+// The code point of a sequence of two bytes, or 0x110000 where it is none.
 fn code2(b: u16, x: u32) -> u32
     ensures { λ r. ⌜ r ≡ seq2 b x ⌝ }
 {
@@ -120,6 +121,7 @@ fn code2(b: u16, x: u32) -> u32
     if code < 128 { 0x110000 } else { code }
 }
 
+// The same of three bytes.
 fn code3(b: u16, x: u32, y: u32) -> u32
     ensures { λ r. ⌜ r ≡ seq3 b x y ⌝ }
 {
@@ -133,6 +135,7 @@ fn code3(b: u16, x: u32, y: u32) -> u32
     if code < 2048 { 0x110000 } else { code }
 }
 
+// The same of four bytes.
 fn code4(b: u16, x: u32, y: u32, z: u32) -> u32
     ensures { λ r. ⌜ r ≡ seq4 b x y z ⌝ }
 {

@@ -26,6 +26,7 @@ pub fn start() -> Cursor
     }
 }
 
+// What a cursor hands out: a byte and the cursor after it, or nothing, at the end.
 pub enum Next {
     Byte(u8, Cursor),
     Over,

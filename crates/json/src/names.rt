@@ -10,7 +10,7 @@ ghost use Rattle.laws.specs.Order.{orderOf, same};
 ghost use Rattle.text.specs.Strings.{decode, nameOf};
 
 // The order of two strings' inner bytes, decoded.
-pub(crate) fn order_of(a: &[u8], b: &[u8]) -> Order
+fn order_of(a: &[u8], b: &[u8]) -> Order
     ensures { λ r. ⌜ r ≡ orderOf (decode (now (a .entry))) (decode (now (b .entry))) ⌝ }
 {
     let mut x = start();
@@ -42,7 +42,7 @@ pub(crate) fn order_of(a: &[u8], b: &[u8]) -> Order
     }
 }
 
-// Is a string's inner bytes, decoded, the literal?
+// Do a string's inner bytes decode to the literal?
 pub fn part_is(a: &[u8], lit: &[u8]) -> bool
     ensures { λ r. ⌜ r ≡ same (decode (now (a .entry))) (now (lit .entry)) ⌝ }
 {
@@ -52,10 +52,7 @@ pub fn part_is(a: &[u8], lit: &[u8]) -> bool
         let want = peek(lit, i);
         match next_byte(a, x) {
             Next::Over => {
-                if want == 256 {
-                    return true;
-                }
-                return false;
+                return want == 256;
             }
             Next::Byte(p, x2) => {
                 if p as u16 != want {

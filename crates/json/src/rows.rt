@@ -8,13 +8,19 @@ ghost use lib.Seq.{sets};
 ghost use Rattle.text.specs.Limits.{rowWords};
 ghost use Rattle.json.specs.Rows.{Row, wordOf, kindIn, nameStartIn, nameEndIn, startIn, endIn, belowIn};
 
-// The kinds of a row.
+// The kinds of a row, NULL to OBJECT.
 pub const NULL: usize = 1;
+
 pub const FALSE: usize = 2;
+
 pub const TRUE: usize = 3;
+
 pub const NUMBER: usize = 4;
+
 pub const STRING: usize = 5;
+
 pub const ARRAY: usize = 6;
+
 pub const OBJECT: usize = 7;
 
 // Stores a row.

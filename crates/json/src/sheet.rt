@@ -5,6 +5,7 @@ use text::Refusal;
 ghost use mathlib.Core.Path.{_≡_};
 ghost use Rattle.text.specs.Sheet.{numbers, paper, refused};
 
+// A line of the sheet: a number and the number that goes with it, and no bytes written.
 fn line(number: u64, second: usize) -> Paper
     ensures { λ r. ⌜ r ≡ numbers number second 0 ⌝ }
 {

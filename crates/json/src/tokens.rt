@@ -1,5 +1,12 @@
 // White space, and the tokens of the values that hold no others: literals, numbers, strings.
 use crate::bytes::peek;
+use crate::rows::ARRAY;
+use crate::rows::FALSE;
+use crate::rows::NULL;
+use crate::rows::NUMBER;
+use crate::rows::OBJECT;
+use crate::rows::STRING;
+use crate::rows::TRUE;
 use crate::strings::string_end;
 use text::Token;
 ghost use mathlib.Core.Path.{_≡_};
@@ -143,6 +150,7 @@ fn exp(text: &[u8], at: usize) -> Token
     Token::End(at)
 }
 
+// A number: a minus or none, its whole part, its fraction and its exponent.
 fn number(text: &[u8], at: usize) -> Token
     ensures { λ r. ⌜ r ≡ tokens.numberAt (now (text .entry)) at ⌝ }
 {
@@ -162,28 +170,28 @@ pub(crate) fn kind_of(b: u16) -> usize
     ensures { λ r. ⌜ r ≡ tokens.kindBy b ⌝ }
 {
     match b {
-        110 => 1,
-        102 => 2,
-        116 => 3,
-        45 => 4,
-        34 => 5,
-        91 => 6,
-        123 => 7,
-        48..=57 => 4,
+        110 => NULL,
+        102 => FALSE,
+        116 => TRUE,
+        45 => NUMBER,
+        34 => STRING,
+        91 => ARRAY,
+        123 => OBJECT,
+        48..=57 => NUMBER,
         _ => 0,
     }
 }
 
-// The token of a kind from 1 to 5 whose first byte stands at a place.
+// The token of a kind from NULL to STRING whose first byte stands at a place.
 pub(crate) fn token_end(text: &[u8], kind: usize, at: usize) -> Token
     requires { ⌜ at ≤ length (now text) ⌝ }
     ensures { λ r. ⌜ r ≡ tokens.tokenAt (now (text .entry)) kind at ⌝ }
 {
     match kind {
-        1 => word(text, b"null", at),
-        2 => word(text, b"false", at),
-        3 => word(text, b"true", at),
-        4 => number(text, at),
+        NULL => word(text, b"null", at),
+        FALSE => word(text, b"false", at),
+        TRUE => word(text, b"true", at),
+        NUMBER => number(text, at),
         _ => string_end(text, at + 1),
     }
 }

@@ -2,6 +2,8 @@
 use crate::bytes::peek;
 use crate::members::Key;
 use crate::members::read_key;
+use crate::rows::ARRAY;
+use crate::rows::OBJECT;
 use crate::rows::put_row;
 use crate::tokens::kind_of;
 use crate::tokens::skip;
@@ -74,8 +76,8 @@ fn kind_in(of: Container) -> usize
     ensures { λ r. ⌜ r ≡ tree.kindIn (bracketOf of) ⌝ }
 {
     match of {
-        Container::Array => 6,
-        Container::Object => 7,
+        Container::Array => ARRAY,
+        Container::Object => OBJECT,
     }
 }
 
@@ -131,10 +133,10 @@ pub(crate) fn read_value(
     if kind == 0 {
         return Part::Stop(Refusal::Grammar(at));
     }
-    if kind == 6 {
+    if kind == ARRAY {
         return read_array(text, table, limit, depth, ns, ne, at, count);
     }
-    if kind == 7 {
+    if kind == OBJECT {
         return read_object(text, table, limit, depth, ns, ne, at, count);
     }
     read_scalar(text, table, limit, kind, ns, ne, at, count)

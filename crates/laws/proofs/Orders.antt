@@ -4,17 +4,18 @@
 --     same-refl, same-sym, same-trans          `same` is an equivalence
 --     order-flip, order-trans        the order the other way round; from the first over the second to the third
 --     before-irrefl, before-asym, before-trans, one-of-three     `before` is a strict and total order
+--     before-earlier                 and it is the byte order that the rules of `Earlier` state
 -- Assumes nothing.
 use mathlib.Core.Path.{_≡_, refl, sym, ap, _∙_}
 use mathlib.Core.List.{List, [], _∷_}
 use mathlib.Core.Bool.{Bool, true, false}
-use mathlib.Core.Logic.{_⊎_, inl, inr}
+use mathlib.Core.Logic.{_↔_, _⊎_, inl, inr}
 use Prim.Native.Nat.{ℕ, _+_, _≤_, _<_}
 use native.Mathlib.Decide.{decLe, decLt}
 use native.Mathlib.Omega.{arith}
 use lib.ListN.{length, getD, drop, drop-of-length-le}
 use borrow.Author.Tests.{lt-ltb, le-ltb}
-use Rattle.laws.specs.Order.{orderOf, isSame, isLess, same, before}
+use Rattle.laws.specs.Order.{orderOf, isSame, isLess, same, before, Earlier, begins, smaller, equal}
 use Rattle.laws.proofs.Places.{drop-byte}
 use Rattle.laws.specs.declared.Order.{Order}
 use Rattle.laws.specs.declared.Order.the-variants.{Less, Same, More}
@@ -171,3 +172,26 @@ one-outcome More = third
 
 pub one-of-three : (xs ys : List ℕ) → OneOf (before xs ys) (same xs ys) (before ys xs)
 one-of-three xs ys = rw (order-flip xs ys) (one-outcome (orderOf xs ys))
+
+-- ---- before is the order of the rules
+
+less-earlier : (xs ys : List ℕ) → orderOf xs ys ≡ Less → Earlier xs ys
+unfolding orderOf
+less-earlier [] [] e = let z : _≡_ {A = ℕ} 0 1 = cc in absurd (omega arith)
+less-earlier [] (y ∷ ys) e = begins
+less-earlier (x ∷ xs) [] e = let z : _≡_ {A = ℕ} 0 1 = cc in absurd (omega arith)
+less-earlier (x ∷ xs) (y ∷ ys) e = go (first-less x y xs ys e) (λ h. less-earlier xs ys h)
+  where
+    go : (x < y) ⊎ ((x ≡ y) × (orderOf xs ys ≡ Less)) → (orderOf xs ys ≡ Less → Earlier xs ys) → Earlier (x ∷ xs) (y ∷ ys)
+    go (inl a) later = smaller a
+    go (inr a) later = rw (a .0) (equal (later (a .1)))
+
+earlier-less : {xs ys : List ℕ} → Earlier xs ys → orderOf xs ys ≡ Less
+unfolding orderOf
+earlier-less begins = refl
+earlier-less (smaller {x} {y} {xs} {ys} h) = order-less x y xs ys h
+earlier-less (equal {x} {xs} {ys} r) = order-on x x xs ys (omega arith) (omega arith) ∙ earlier-less r
+
+-- theorem: of two runs of bytes `before` tells the one that comes earlier
+pub before-earlier : (xs ys : List ℕ) → (before xs ys ≡ true) ↔ Earlier xs ys
+before-earlier xs ys = (λ e. less-earlier xs ys (is-less (orderOf xs ys) e), λ r. ap isLess (earlier-less r))

@@ -1,5 +1,5 @@
 -- Ascending byte order: how two runs of bytes compare. Assumes nothing: these are definitions.
-use Prim.Native.Nat.{ℕ}
+use Prim.Native.Nat.{ℕ, _<_}
 use mathlib.Core.List.{List, [], _∷_}
 use mathlib.Core.Bool.{Bool, true, false, cond}
 use lib.Dec.{ltb}
@@ -32,3 +32,9 @@ same xs ys = isSame (orderOf xs ys)
 -- does the one stand before the other?
 abbrev pub before : List ℕ → List ℕ → Bool
 before xs ys = isLess (orderOf xs ys)
+
+-- the byte order by rules and not by a reader: the one of two runs that comes earlier
+pub data Earlier : List ℕ → List ℕ → Type 0 where
+  begins : {y : ℕ} {ys : List ℕ} → Earlier [] (y ∷ ys)
+  smaller : {x y : ℕ} {xs ys : List ℕ} → x < y → Earlier (x ∷ xs) (y ∷ ys)
+  equal : {x : ℕ} {xs ys : List ℕ} → Earlier xs ys → Earlier (x ∷ xs) (x ∷ ys)

@@ -1,6 +1,6 @@
 -- Reading with fewer values: what a reading that may take v values answers, against one that may take w of them, v ≤ w.
 --     value-fewer, read-fewer          they answer the same, or the first says that there is one value too many
---     value-fits, value-refuses        accepted values are no more than the limit; a value is refused by 2 to 6 only
+--     value-fits                       accepted values are no more than the limit
 -- The answer for a table of so many words, from a reading with as many values as it has rows, v ≤ 2,048:
 --     first-good, first-size           what is accepted stands, and has room
 --     first-bad                        what is refused for another reason than one value too many stands
@@ -270,21 +270,12 @@ cut-good p f to (neither {r} i) e q = different f to r (sym q)
 cut-good p f to (cut (more g h)) e q = let same : g ≡ f = cc in rw (← same) h
 cut-good p f to (cut (refuses {r} i)) e q = different f to r (sym q)
 
-refused-in : {v n : ℕ} {a b : Read} (r : Refusal) → Fewer v n a b → b ≡ bad r → InText r
-refused-in r (both g {to = u} h) e = different g u r e
-refused-in r (neither {r = s} i) e = let same : s ≡ r = cc in rw (← same) i
-refused-in r (cut (more g {to = u} h)) e = different g u r e
-refused-in r (cut (refuses {r = s} i)) e = let same : s ≡ r = cc in rw (← same) i
-
 -- ---- values and texts ----
 
--- what is accepted after n values is no more than the limit in all; what is refused, is by 2 to 6
+-- what is accepted after n values is no more than the limit in all
 module _ (L : Limits) (t : List ℕ) (depth ns ne at n : ℕ) where
   pub value-fits : (f : Forest) (to : ℕ) → valueAt L t depth ns ne at n ≡ good f to → n + size f ≤ L .values
   value-fits f to e = fits f to (value-fewer L t (L .values) (L .values) (omega arith) depth ns ne at n) e
-
-  pub value-refuses : (r : Refusal) → valueAt L t depth ns ne at n ≡ bad r → InText r
-  value-refuses r e = refused-in r (value-fewer L t (L .values) (L .values) (omega arith) depth ns ne at n) e
 
 end-over : (t : List ℕ) {v n : ℕ} {b : Read} → Over v n b → Over v n (endOf t b)
 unfolding endOf

@@ -1,27 +1,23 @@
 -- Laws for callers:
 --     end-inside       a string that ends does so inside the text, after the place where the reading began
---     decode-plain     bytes without a backslash decode to themselves
 --     value-parts      a value is, by its kind, the array, the object or the scalar that stands at its place
 --     two, three, four          the UTF-8 of a raw character's code point is its own bytes
 -- Assumes nothing.
 use mathlib.Core.Path.{_≡_, refl, sym, ap, ap₂, _∙_}
 use mathlib.Core.List.{List, [], _∷_}
 use Prim.Native.Nat.{ℕ, zero, suc, _+_, _-_, _*_, _/_, _%_, _≤_, _<_}
-use native.Mathlib.Decide.{decLe}
 use native.Mathlib.Omega.{arith}
-use lib.ListN.{length, drop, drop-of-length-le}
-use borrow.Author.Tests.{lt-ltb, le-ltb, ne-eqb}
+use lib.ListN.{length}
+use borrow.Author.Tests.{lt-ltb, le-ltb}
 use Rattle.text.specs.Limits.{Limits}
-use Rattle.text.specs.Text.{byteAt}
 use Rattle.text.specs.Chars.{seq2, seq3, seq4, stepAt}
-use Rattle.text.specs.Strings.{stringEnd, conts, utf8, stop, piece, pieceBy, decodeFrom, decode}
+use Rattle.text.specs.Strings.{stringEnd, conts, utf8}
 use Rattle.text.specs.Reader.{valueWith, valueAt, elementsAt, membersAt, arrayAt, objectAt}
 use Rattle.text.specs.declared.Step.{Step}
 use Rattle.text.specs.declared.Step.the-variants.{Close, Char, Bad2, Bad3}
 use Rattle.text.specs.declared.Token.the-variants.{End, No2, No3}
-use Rattle.laws.proofs.Places.{drop-byte}
 use Rattle.text.proofs.Sequences.{by-seq2, by-seq3, by-seq4}
-use Rattle.text.proofs.Walks.{end-at, decode-at, past-piece, close-inside, char-inside}
+use Rattle.text.proofs.Walks.{end-at, close-inside, char-inside}
 
 -- ---- where a string ends ----
 
@@ -55,27 +51,6 @@ ends (suc f) t i e h q = go (stepAt t i) refl (λ j l g. ends f t j e l g)
 
 pub end-inside : (t : List ℕ) (i e : ℕ) → stringEnd t i ≡ End e → Ends t i e
 end-inside t i e q = ends (suc (length t - i)) t i e (omega arith) q
-
--- ---- bytes without a backslash ----
-
--- no byte is a backslash, and each is a byte
-pub record Plain (l : List ℕ) : Type 0 where
-  pub none : (i : ℕ) → byteAt l i ≡ 92 → ⊥
-  pub small : (i : ℕ) → i < length l → byteAt l i < 256
-
-plain : (f : ℕ) (l : List ℕ) (i : ℕ) → Plain l → length l - i < f → decodeFrom l i ≡ drop i l
-unfolding pieceBy
-plain zero l i p h = absurd (omega arith)
-plain (suc f) l i p h = elim (decLe (length l) i) [
-  | yes k ↦ decode-at l i stop (past-piece l i k) ∙ sym (drop-of-length-le l k)
-  | no k ↦
-      let small : byteAt l i < 256 = p .small i (omega arith) in
-      let e : pieceBy l i (byteAt l i) ≡ piece (byteAt l i ∷ []) 1 = simp (ne-eqb (byteAt l i) 256 (omega arith), ne-eqb (byteAt l i) 92 (p .none i)) in
-      decode-at l i (piece (byteAt l i ∷ []) 1) e ∙ ap (λ (r : List ℕ). byteAt l i ∷ r) (plain f l (i + 1) p (omega arith)) ∙ sym (drop-byte l i (omega arith))
-]
-
-pub decode-plain : (l : List ℕ) → Plain l → decode l ≡ l
-decode-plain l p = plain (suc (length l - 0)) l 0 p (omega arith)
 
 -- ---- the UTF-8 of a raw character ----
 

@@ -1,4 +1,5 @@
 -- How a new name is spelled (specs/Writing.antt):
+--     spelled-as           a byte is spelled as the rules of `SpelledAs` say, and no other way
 --     respelled            what `spelled` writes between its quotes spells the name's code points again
 --     new-label            so it says the name
 --     shortest, label-shortest     and nothing shorter does
@@ -6,14 +7,15 @@
 use mathlib.Core.Path.{_≡_, refl, sym, ap, _∙_}
 use mathlib.Core.List.{List, [], _∷_, _++_, append-assoc, append-nil}
 use Prim.Native.Nat.{ℕ, _+_, _*_, _/_, _%_, _≤_, _<_}
-use native.Mathlib.Decide.{decLt}
+use mathlib.Core.Logic.{_↔_}
+use native.Mathlib.Decide.{decLe, decLt}
 use native.Mathlib.Omega.{arith}
 use lib.ListN.{length, length-append}
-use borrow.Author.Tests.{ne-eqb, le-ltb}
+use borrow.Author.Tests.{ne-eqb, le-ltb, lt-ltb}
 use Rattle.laws.proofs.Branches.{if-less, if-equal}
 use Rattle.text.specs.Strings.{utf8}
 use Rattle.text.specs.Spelling.{Good, Bare, HexDigit, decimal, small, FourDigits, four, Short, quote, backslash, slash, backspace, form-feed, line-feed, carriage-return, tab, Spell, raw, short, unit, pair, Spells, none, more, utf8s}
-use Rattle.text.specs.Writing.{smallHex, shortOf, spelledByte, spelledBytes, spelled}
+use Rattle.text.specs.Writing.{smallHex, shortOf, spelledByte, spelledBytes, spelled, SmallDigit, figure, letter, SpelledAs, itself, escaped, digits}
 use Rattle.text.specs.Labels.{Labelled}
 use Rattle.text.proofs.Spelling.Codes.{by-utf8, one-byte}
 use Rattle.text.proofs.Spelling.Digits.{four-length}
@@ -77,10 +79,9 @@ high-byte : (b : ℕ) → 128 ≤ b → spelledByte b ≡ b ∷ []
 high-byte b h = rw (high-short b h, le-ltb b 32 (omega arith))
 
 -- a character that may stand raw
-raw-byte : (b : ℕ) → Bare b → spelledByte b ≡ b ∷ []
-raw-byte b u =
+bare-short : (b : ℕ) → Bare b → shortOf b ≡ 0
+bare-short b u =
     let low = u .no-control in
-    let z : shortOf b ≡ 0 =
     simp (
       ne-eqb b 34 (u .no-quote),
       ne-eqb b 92 (u .no-backslash),
@@ -89,8 +90,87 @@ raw-byte b u =
       ne-eqb b 10 (omega arith),
       ne-eqb b 12 (omega arith),
       ne-eqb b 13 (omega arith),
-    ) in
-    rw (z, le-ltb b 32 low)
+    )
+
+raw-byte : (b : ℕ) → Bare b → spelledByte b ≡ b ∷ []
+raw-byte b u = rw (bare-short b u, le-ltb b 32 (u .no-control))
+
+-- ---- one byte by the rules
+
+low-bare : (b : ℕ) → b < 32 → Bare b → ⊥
+low-bare b h u = let k = u .no-control in omega arith
+
+-- below 32 only what `shortOf` tells has a short escape
+low-short : (b : ℕ) → b < 32 → shortOf b ≡ 0 → (l : ℕ) → Short l b → ⊥
+low-short b h z l quote = omega arith
+low-short b h z l backslash = omega arith
+low-short b h z l slash = omega arith
+low-short b h z l backspace = omega arith
+low-short b h z l form-feed = omega arith
+low-short b h z l line-feed = omega arith
+low-short b h z l carriage-return = omega arith
+low-short b h z l tab = omega arith
+
+small-digit : (n : ℕ) → n < 16 → SmallDigit (smallHex n) n
+small-digit n h = if-less (λ x. SmallDigit x n) n 10 (λ k. figure k) (λ k. letter k h)
+
+byte-rules : (b : ℕ) → SpelledAs b (spelledByte b)
+byte-rules b =
+    if-equal (SpelledAs b) (shortOf b) 0
+    (λ z. if-less (SpelledAs b) b 32 (λ l. two z l) (λ l. itself (plain-char b z l)))
+    (λ n. escaped (λ u. n (bare-short b u)) (short-of b n))
+  where
+    two : shortOf b ≡ 0 → b < 32 → SpelledAs b (92 ∷ 117 ∷ 48 ∷ 48 ∷ smallHex (b / 16) ∷ smallHex (b % 16) ∷ [])
+    two z l =
+        let e : b / 16 * 16 + b % 16 ≡ b = omega arith in
+        let s : SpelledAs (b / 16 * 16 + b % 16) (92 ∷ 117 ∷ 48 ∷ 48 ∷ smallHex (b / 16) ∷ smallHex (b % 16) ∷ []) =
+        digits {x = b / 16} {y = b % 16}
+        (rw e (low-bare b l))
+        (rw e (low-short b l z))
+        (small-digit (b / 16) (omega arith))
+        (small-digit (b % 16) (omega arith)) in
+        rw e at s
+
+digit-low : {d v : ℕ} → SmallDigit d v → v < 16
+digit-low (figure h) = omega arith
+digit-low (letter h k) = k
+
+digit-hex : {d v : ℕ} → SmallDigit d v → d ≡ smallHex v
+digit-hex (figure {v} h) = rw (lt-ltb v 10 h)
+digit-hex (letter {v} h k) = rw (le-ltb v 10 h)
+
+rules-short : {l b : ℕ} → (Bare b → ⊥) → Short l b → 92 ∷ l ∷ [] ≡ spelledByte b
+rules-short n quote = refl
+rules-short n backslash = refl
+rules-short n slash = absurd (n (record { no-control = omega arith; no-quote = λ e. omega arith; no-backslash = λ e. omega arith }))
+rules-short n backspace = refl
+rules-short n form-feed = refl
+rules-short n line-feed = refl
+rules-short n carriage-return = refl
+rules-short n tab = refl
+
+-- what has no short escape and may not stand raw
+rules-low : (b : ℕ) → (Bare b → ⊥) → ((l : ℕ) → Short l b → ⊥) → (shortOf b ≡ 0) × (b < 32)
+rules-low b n m = elim (decLe (shortOf b) 0) [
+  | yes z ↦ elim (decLt b 32) [
+    | yes h ↦ (omega arith, h)
+    | no h ↦ absurd (n (plain-char b (omega arith) (omega arith)))
+  ]
+  | no z ↦ absurd (m (shortOf b) (short-of b (λ e. omega arith)))
+]
+
+rules-byte : {b : ℕ} {w : List ℕ} → SpelledAs b w → w ≡ spelledByte b
+rules-byte (itself {b} u) = sym (raw-byte b u)
+rules-byte (escaped n s) = rules-short n s
+rules-byte (digits {d} {e} {x} {y} n m p q) =
+    let k = rules-low (x * 16 + y) n m in
+    let i : (x * 16 + y) / 16 ≡ x = omega (arith, digit-low q) in
+    let j : (x * 16 + y) % 16 ≡ y = omega (arith, digit-low q) in
+    rw (k .0, lt-ltb (x * 16 + y) 32 (k .1), i, j, digit-hex p, digit-hex q)
+
+-- theorem: each byte is spelled by the rules, and one way only
+pub spelled-as : (b : ℕ) (w : List ℕ) → SpelledAs b w ↔ (w ≡ spelledByte b)
+spelled-as b w = (rules-byte, λ e. rw e (byte-rules b))
 
 -- ---- one character
 

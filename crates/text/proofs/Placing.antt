@@ -1,6 +1,6 @@
 -- The values of an accepted text stand in it as specs/Placed.antt says.
---     placed-value, placed-text                         an accepted value, an accepted text
---     spot, token-at, box-at, rest-at                   what that says of the first of some values, of what is inside it and of what follows
+--     placed-text                                       an accepted text
+--     spot, token-at, elements-at, members-at, rest-at  what that says of the first of some values, of what is inside it and of what follows
 --     single-value                                      an accepted value is one value
 --     placed-kinds                                      the kinds of values that hold no others are 1 to 5
 -- Assumes nothing.
@@ -195,11 +195,6 @@ module _ (L : Limits) (t : List ℕ) where
         element = λ depth edge at to done f r v. row-item square edge at at 0 0 to done f r (record { start = refl; end = refl }) (omega arith) v;
         member = λ depth edge at end to done f r q e fresh c v. row-member edge at end to done f r q e c v;
       }
-
-  -- an accepted value
-  pub placed-value : (depth ns ne at n : ℕ) (f : Forest) (to : ℕ) → valueAt L t depth ns ne at n ≡ good f to
-      → (b : Bracket) (from : ℕ) → NameIn t b from ns ne at → from ≤ at → Placed t b f from to
-  placed-value depth ns ne at n f to e = value-induction L t _ _ placed-rules depth ns ne at n f to e .placed
 
   -- an accepted text: its value stands in it, as an element does
   pub placed-text : (f : Forest) (to : ℕ) → readOf L t ≡ good f to → Placed t square f 0 (length t)

@@ -21,7 +21,7 @@
 --     spot, bounds          its name's places, that it is not empty, inside the text and between the places around it; its first byte begins its kind
 --     next-after            it ends before the next one starts
 --     elements-at, members-at          what is inside an array or an object stands strictly within it
---     rest-at, keep-placed  what follows it is placed too
+--     rest-at               what follows it is placed too
 --     name-at, no-name-at   a member's name stands in quotes, before its value, and spells; elements and the root have the name 0, 0
 --     token-at, string-at, number-at   the bytes of a value by its kind; a string's inside spells
 --     placed-kinds          values that hold no others have kinds 1 to 5
@@ -42,9 +42,7 @@ use lib.Dec.{ltb}
 use borrow.Author.Tests.{ltb-false}
 use Rattle.laws.specs.Lists.{filled}
 use Rattle.text.specs.Limits.{Limits}
-use Rattle.text.specs.Tree.{Bracket, Forest, size}
-use Rattle.text.specs.Firsts.{HasFirst, endAt, restAt}
-use Rattle.text.specs.Placed.{Placed}
+use Rattle.text.specs.Tree.{Forest, size}
 use Rattle.text.specs.Promised.{Promised, Filled}
 use Rattle.text.specs.Reader.{Read, good, bad}
 use Rattle.text.specs.Tokens.{skip}
@@ -218,8 +216,3 @@ module _ (L : Limits) (words : ℕ) (t table : List ℕ) (is : table ≡ tableOf
           let answer : Refused r ≡ Refused s = q ∙ ap answerOf w in
           let same : s ≡ r = cc in
           record { whole = w ∙ ap bad same; cleared = is ∙ ap (tableOf words) w }
-
--- ---- for a walk that keeps where the values stand ----
-
-pub keep-placed : (t : List ℕ) (b : Bracket) (to : ℕ) (f : Forest) → HasFirst f → (from : ℕ) × Placed t b f from to → (from : ℕ) × Placed t b (restAt f) from to
-keep-placed t b to f s (from, p) = (endAt f, rest-at p s)

@@ -49,11 +49,6 @@ by-kind b k e p1 p2 p3 p4 p5 p6 p7 p8 p0 =
 never : {P : Type 0} {A : Type 0} (a k : ℕ) → (a ≡ k → ⊥) → A → a ≡ k → P
 never a k h x e = absurd (h e)
 
-pub kind-string : (b : ℕ) → kindBy b ≡ 5 → b ≡ 34
-kind-string b e =
-    by-kind b 5 e (never 1 5 (omega arith)) (never 2 5 (omega arith)) (never 3 5 (omega arith)) (never 4 5 (omega arith)) (λ x y. x)
-    (never 6 5 (omega arith)) (never 7 5 (omega arith)) (never 4 5 (omega arith)) (λ y. absurd (omega arith))
-
 pub kind-number : (b : ℕ) → kindBy b ≡ 4 → cond (isDigit b) true (eqb b 45) ≡ true
 kind-number b e =
     by-kind b 4 e (never 1 4 (omega arith)) (never 2 4 (omega arith)) (never 3 4 (omega arith)) (λ x y. rw x) (never 5 4 (omega arith))

@@ -1,7 +1,7 @@
 -- Where white space, literals, numbers and strings end:
 --     run-on, run-end        a run's own equation: a byte of it, and then the run from the next place on
 --     run-byte, run-span     a byte of a run stands inside the text; a run ends where it starts or later, inside the text
---     skip-on, skip-end, skip-span, digits-on, digits-end     the same for white space and for digits
+--     skip-span, digits-end  the same for white space and for digits
 --     token-span             a token ends after its first byte, inside the text
 -- Assumes nothing.
 use mathlib.Core.Path.{_≡_, refl, subst, _∙_}
@@ -66,17 +66,8 @@ module _ (is : ℕ → Bool) (t : List ℕ) (ends : is 256 ≡ false) where
   run-span i k = span (suc (length t - i)) i (omega arith) k
 
 module _ (t : List ℕ) where
-  pub skip-on : (i : ℕ) → isSpace (byteAt t i) ≡ true → skip t i ≡ skip t (i + 1)
-  skip-on = run-on isSpace t refl
-
-  pub skip-end : (i : ℕ) → isSpace (byteAt t i) ≡ false → skip t i ≡ i
-  skip-end = run-end isSpace t refl
-
   pub skip-span : (i : ℕ) → i ≤ length t → Span t i (skip t i)
   skip-span = run-span isSpace t refl
-
-  pub digits-on : (i : ℕ) → isDigit (byteAt t i) ≡ true → digitsEnd t i ≡ digitsEnd t (i + 1)
-  digits-on = run-on isDigit t refl
 
   pub digits-end : (i : ℕ) → isDigit (byteAt t i) ≡ false → digitsEnd t i ≡ i
   digits-end = run-end isDigit t refl

@@ -1,4 +1,4 @@
--- The definitions in the order in which they are read: none uses a later one.
+-- The definitions in the order in which they are read: none uses a later one. In comments 01 is the rules paper.
 
 -- limits and bytes, and the refusal sheet
 pub mod Limits

@@ -1,9 +1,10 @@
 -- The text of a document: no white space outside strings, every token as it is; and how a name that was in no text is spelled.
 -- Assumes nothing: these are definitions.
-use Prim.Native.Nat.{ℕ, _+_, _/_, _%_}
+use Prim.Native.Nat.{ℕ, _+_, _*_, _/_, _%_, _≤_, _<_}
 use mathlib.Core.List.{List, [], _∷_, _++_}
 use mathlib.Core.Bool.{Bool, true, false, cond}
 use lib.Dec.{eqb, ltb}
+use Rattle.text.specs.Spelling.{Bare, Short}
 use Rattle.text.specs.Doc.{Name, Doc, scalar, array, object, Members, empty, member}
 
 -- ---- the compact text
@@ -63,3 +64,18 @@ spelledBytes (b ∷ bs) = spelledByte b ++ spelledBytes bs
 -- a name as it is written, quotes included
 abbrev pub spelled : Name → List ℕ
 spelled n = 34 ∷ spelledBytes n ++ (34 ∷ [])
+
+-- ---- the same of a byte by rules
+
+-- a small hexadecimal digit and its value
+pub data SmallDigit : (byte value : ℕ) → Type 0 where
+  figure : {v : ℕ} → v < 10 → SmallDigit (48 + v) v
+  letter : {v : ℕ} → 10 ≤ v → v < 16 → SmallDigit (87 + v) v
+
+-- a byte of a new name and how it is spelled: itself where it may stand raw (so a slash does), else the short escape,
+-- else \u00 and two small digits
+pub data SpelledAs : (byte : ℕ) → List ℕ → Type 0 where
+  itself : {b : ℕ} → Bare b → SpelledAs b (b ∷ [])
+  escaped : {l b : ℕ} → (Bare b → ⊥) → Short l b → SpelledAs b (92 ∷ l ∷ [])
+  digits : {d e x y : ℕ} → (Bare (x * 16 + y) → ⊥) → ((l : ℕ) → Short l (x * 16 + y) → ⊥) → SmallDigit d x → SmallDigit e y
+      → SpelledAs (x * 16 + y) (92 ∷ 117 ∷ 48 ∷ 48 ∷ d ∷ e ∷ [])

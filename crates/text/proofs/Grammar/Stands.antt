@@ -84,11 +84,7 @@ module _ {t : List ℕ} where
   pub like-stuck : {q at x : ℕ} {w : List ℕ} → Like t q at (x ∷ w) → (byteAt t at ≡ x → ⊥) → q ≤ at
   like-stuck {q} {at} h k = by-order at q (λ l. absurd (k (like-here h l))) (λ l. l)
 
-  -- as far as a place before, and no shorter than that
+  -- as far as a place before
   pub like-less : {p q at : ℕ} {w : List ℕ} → p ≤ q → Like t q at w → Like t p at w
   like-less l (Like.done {at} h) = Like.done {at = at} (omega arith)
   like-less {p} {q} l (Like.next {at} {x} e h) = Like.next {at = at} (λ k. e (omega arith)) (like-less l h)
-
-  pub like-long : {q at : ℕ} {w : List ℕ} → Like t q at w → q ≤ at + length w
-  like-long (Like.done h) = omega arith
-  like-long (Like.next e h) = omega (arith, like-long h)

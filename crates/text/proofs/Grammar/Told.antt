@@ -1,6 +1,5 @@
 -- What an answer says (proofs/Grammar/Sound.antt), by induction on the definition: the containers that may be opened, then the turns.
 --     value-told, item-told           what is read of a value and of an item
---     value-later, item-within, ..    where an answer's place is
 -- Assumes nothing.
 use mathlib.Core.Path.{_≡_, refl, sym, ap, ap₂, subst, _∙_}
 use mathlib.Core.List.{List, [], _∷_, _++_, append-assoc}

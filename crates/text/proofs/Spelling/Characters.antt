@@ -1,6 +1,6 @@
 -- The step is right about one character:
---     char-spelled, spelled-char     the step at i is c of n bytes exactly if the text has n bytes from i on, and they spell c
---     within-text                    the same for a text that is put together of what comes before, the spelling and the rest
+--     char-spelled                   where the step at i is c of n bytes, the text has n bytes from i on, and they spell c
+--     within-text                    and back, for a text that is put together of what comes before, the spelling and the rest
 --     one-char, one-length           so the character at a place is unique, and so is its length
 --     some-bytes                     a spelling has a byte
 -- No bound on the elements of the text is asked: what is no byte is taken as the end.
@@ -9,8 +9,8 @@ use mathlib.Core.Path.{_≡_, refl, sym, ap, subst, _∙_}
 use mathlib.Core.List.{List, [], _++_}
 use Prim.Native.Nat.{ℕ, _+_, _≤_, _<_}
 use native.Mathlib.Omega.{arith}
-use lib.ListN.{length, take, drop, length-drop, take-append-drop}
-use lib.Seq.{take-at, length-take-le, drop-append-seam}
+use lib.ListN.{length, take, drop}
+use lib.Seq.{take-at, drop-append-seam}
 use Rattle.laws.proofs.Splits.{within, at-seam}
 use Rattle.text.specs.Chars.{stepAt}
 use Rattle.text.specs.Spelling.{Spell}
@@ -35,12 +35,6 @@ char-spelled t i c n e =
     let m = a .size in
     let in-text = within t i (a .bytes) (a .rest) (a .split) (omega arith) in
     record { in-range = omega arith; spelled = rw (a .split, take-at (a .bytes) (a .rest) n m) (a .spelled) }
-
-pub spelled-char : (t : List ℕ) (i c n : ℕ) → Spelled t i c n → stepAt t i ≡ Char c n
-spelled-char t i c n s =
-    let h = s .in-range in
-    let size : length (take n (drop i t)) ≡ n = length-take-le n (drop i t) (simp length-drop (omega arith)) in
-    spelled-step t i (s .spelled) (drop n (drop i t)) (sym (take-append-drop n (drop i t))) ∙ ap (Char c) size
 
 pub within-text : (u w r : List ℕ) {c : ℕ} → Spell w c → stepAt (u ++ w ++ r) (length u) ≡ Char c (length w)
 within-text u w r s = spelled-step (u ++ w ++ r) (length u) s r (at-seam u w r)

@@ -2,7 +2,6 @@
 --     one-spelling         bytes spell at most one list of code points
 --     decode-spelled       bytes that spell decode to the UTF-8 of their code points: all of it, so decoding never stops early
 --     name-decoded         so does the inside of every string that ends
--- That bytes without a backslash decode to themselves is `decode-plain` of Laws.antt.
 -- Assumes nothing.
 use mathlib.Core.Path.{_≡_, refl, sym, ap, ap₂, _∙_}
 use mathlib.Core.List.{List, [], _∷_, _++_, append-assoc, append-nil}

@@ -148,14 +148,6 @@ four-value t j (Rules.four {a} {b} {c} {d} {w} {x} {y} {z} p q m n) r e =
 pub four-length : {w : List ℕ} {u : ℕ} → FourDigits w u → length w ≡ 4
 four-length (Rules.four p q m n) = refl
 
-pub four-bound : {w : List ℕ} {u : ℕ} → FourDigits w u → u < 65536
-four-bound (Rules.four p q m n) =
-    let w' = digit-bounds p in
-    let x' = digit-bounds q in
-    let y' = digit-bounds m in
-    let z' = digit-bounds n in
-    omega arith
-
 -- ---- what stands where four digits should ----
 
 pub record FourAt (t : List ℕ) (j u : ℕ) : Type 0 where

@@ -1,5 +1,4 @@
 -- The UTF-8 of good code points:
---     utf8s-bytes          it is bytes
 --     utf8s-injective      two lists of good code points that have the same UTF-8 are the same
 --     spells-good          what is spelled is good, so (same-codes) two strings decode to the same bytes exactly if they have the same code points
 -- Assumes nothing.
@@ -9,24 +8,12 @@ use Prim.Native.Nat.{ℕ, _≤_, _<_}
 use native.Mathlib.Decide.{decLt}
 use native.Mathlib.Omega.{arith}
 use lib.ListN.{getD}
-use Rattle.laws.specs.Bounds.{AllBelow}
-use Rattle.laws.proofs.Bounds.{below-append}
 use Rattle.text.specs.Strings.{utf8, decode}
 use Rattle.text.specs.Spelling.{Good, Spell, raw, short, unit, pair, Spells, none, more, utf8s}
 use Rattle.text.proofs.Spelling.Codes.{ascii-good, by-utf8}
 use Rattle.text.proofs.Spelling.Digits.{short-some}
 use Rattle.text.proofs.Spelling.Characters.{one-char}
 use Rattle.text.proofs.Spelling.Decoded.{decode-spelled}
-
--- ---- it is bytes ----
-
-pub utf8-bytes : (c : ℕ) → AllBelow 256 (utf8 c)
-utf8-bytes c = by-utf8 (AllBelow 256) c (λ h. omega arith) (λ h k. omega arith) (λ h k. omega arith) (λ h. omega arith)
-
-pub utf8s-bytes : (cs : List ℕ) → AllBelow 256 (utf8s cs)
-unfolding utf8s
-utf8s-bytes [] = tt
-utf8s-bytes (c ∷ cs) = below-append 256 (utf8 c) (utf8s cs) (utf8-bytes c) (utf8s-bytes cs)
 
 -- ---- it tells good code points apart ----
 

@@ -1,6 +1,6 @@
 -- What reading a string from a place on answers, by rules. Each holds exactly if the answer is given (`answers`, `answered`):
 --     ended-spells, spells-ended     it ends at e: the bytes up to the quote before e spell some code points
---     no2-cut, cut-no2               2 at p: bytes that spell, and then the beginning of a character that the byte at p can't continue
+--     Refused2                       2 at p: bytes that spell, and then the beginning of a character that the byte at p can't continue
 --     no3-ill, ill-no3               3 at p: bytes that spell up to p, and there bytes that aim at a character and begin with none
 -- No bound on the elements of the text is asked: what is no byte is taken as the end.
 -- Assumes nothing.
@@ -104,12 +104,6 @@ module _ (t : List ℕ) (i : ℕ) where
 
   pub spells-ended : (e : ℕ) → Closed t i e → stringEnd t i ≡ End e
   spells-ended e = answered (End e)
-
-  pub no2-cut : (p : ℕ) → stringEnd t i ≡ No2 p → Refused2 t i p
-  no2-cut p q = subst (Answers t i) q answers
-
-  pub cut-no2 : (p : ℕ) → Refused2 t i p → stringEnd t i ≡ No2 p
-  cut-no2 p = answered (No2 p)
 
   pub no3-ill : (p : ℕ) → stringEnd t i ≡ No3 p → Refused3 t i p
   no3-ill p q = subst (Answers t i) q answers

@@ -1,6 +1,6 @@
 -- `json::names::order_of` meets its contract: the order of what the two cursors have left is the order of the two names: each `rw` goes from
--- the invariant by what the two answers of `next_byte` ensure. The measure is the number of bytes that the first cursor has left. Assumes
--- nothing.
+-- the invariant by what the two answers of `next_byte` ensure. The measure is the number of bytes that the first cursor has left.
+-- Assumes nothing.
 use mathlib.Core.Path.{_≡_, refl, ap}
 use native.Mathlib.Omega.{arith}
 use lib.ListN.{length}

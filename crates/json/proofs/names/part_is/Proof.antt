@@ -1,15 +1,19 @@
 -- `json::names::part_is` meets its contract: what the cursor has left is the same as the rest of the literal just where the name is the
 -- literal. The measure is the number of bytes that the cursor has left. Assumes nothing.
 use mathlib.Core.Path.{_≡_, refl, sym, ap}
-use Prim.Native.Nat.{_≤_, _<_}
+use Prim.Native.Nat.{ℕ, _≤_, _<_}
+use mathlib.Core.List.{List, []}
+use native.Mathlib.Decide.{decLe}
 use native.Mathlib.Omega.{arith}
-use lib.ListN.{length, getD, drop, drop-of-length-le}
+use lib.ListN.{length, getD, drop, drop-of-length-le, List·getD-eq-default}
+use lib.Dec.{eqb}
+use borrow.Author.Tests.{ne-eqb}
 use denote.Ref.{now}
 use borrow.Author.Needs.{needs}
 use Rattle.text.specs.Strings.{conts, decode}
 use Rattle.json.specs.Cursors.{rest}
 use Rattle.laws.specs.Order.{orderOf, same}
-use Rattle.laws.proofs.Places.{inside, ended, drop-byte}
+use Rattle.laws.proofs.Places.{any-default, inside, drop-byte}
 use Rattle.json.proofs.Handed.{handed}
 use Rattle.laws.proofs.Orders.{agree, absent}
 use Rattle.json.proofs.names.part_is.Statement.{statement}
@@ -37,40 +41,35 @@ next-byte-requires c κs = search needs
 enum-told : tie.Need-enum-told Inv-loop μ-loop
 enum-told c = search needs
 
-returns : tie.Need-returns Inv-loop μ-loop
+-- where the name is over, the literal has to be
+over : (l : List ℕ) (i : ℕ) → getD l i 0 < 256 → eqb (getD l i 256) 256 ≡ same [] (drop i l)
 unfolding orderOf
-returns c =
-    let l = now (c .before .before .before .before .before .before .before .before .before .args .lit) in
-    let i = c .before .before .before .before .before .loop .i in
-    let eb = drop-of-length-le l (ended l i (omega (arith, c .before .before .before .before .before .before .before .shared-slice-known2 .given i)) (cc)) in
-    rw (
-      ← c .before .before .before .before .before .loop .inv .0,
-      ← c .before .before .before .next-byte .ensures .0,
-      c .before .enum-told .given .1,
-      eb,
-    )
+over l i small = elim (decLe (length l) i) [
+  | yes h ↦ rw (drop-of-length-le l h, List·getD-eq-default l 256 h)
+  | no h ↦
+      let k : i < length l = omega arith in
+      let b : getD l i 0 ≡ getD l i 256 = any-default 0 256 l i k in
+      rw (drop-byte l i k, ne-eqb (getD l i 256) 256 (omega arith))
+]
 
-returns-2 : tie.Need-returns-2 Inv-loop μ-loop
-unfolding orderOf
-returns-2 c =
-    let l = now (c .before .before .before .before .before .before .before .before .before .args .lit) in
-    let i = c .before .before .before .before .before .loop .i in
-    let eb = drop-byte l i (inside l i (omega arith)) in
+returns : tie.Need-returns Inv-loop μ-loop
+returns c =
+    let l = now (c .before .before .before .before .before .before .before .before .args .lit) in
+    let i = c .before .before .before .before .loop .i in
+    let e : c .before .before .before .peek .result ≡ getD l i 256 = cc in
     rw (
-      ← c .before .before .before .before .before .loop .inv .0,
-      ← c .before .before .before .next-byte .ensures .0,
-      c .before .enum-told .given .1,
-      eb,
+      ← c .before .before .before .before .loop .inv .0,
+      ← c .before .before .next-byte .ensures .0,
+      c .enum-told .given .1,
+      e,
     )
+    (over l i (omega (arith, c .before .before .before .before .before .before .shared-slice-known2 .given i)))
 
 enum-known-p : tie.Need-enum-known-p Inv-loop μ-loop
 enum-known-p c = search needs
 
-cast-if2 : tie.Need-cast-if2 Inv-loop μ-loop
-cast-if2 c = search needs
-
-returns-3 : tie.Need-returns-3 Inv-loop μ-loop
-returns-3 c =
+returns-2 : tie.Need-returns-2 Inv-loop μ-loop
+returns-2 c =
     let l = now (c .before .before .before .before .before .before .before .before .before .before .args .lit) in
     let i = c .before .before .before .before .before .before .loop .i in
     let ne : (c .before .before .p .given .0 .0 ≡ getD l i 256 → ⊥) = omega arith in
@@ -121,10 +120,9 @@ part-is-spec =
     next-byte-requires
     enum-told
     returns
-    returns-2
     enum-known-p
-    cast-if2
-    returns-3
+    (λ c. search needs)
+    returns-2
     add-i
     loop-less
     loop-again)

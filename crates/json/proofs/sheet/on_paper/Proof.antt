@@ -1,34 +1,25 @@
+-- `json::sheet::on_paper` meets its contract: each answer has its line. Assumes nothing.
 use Rattle.text.specs.Sheet.{paper}
 use borrow.Author.Needs.{needs}
 use Rattle.json.proofs.sheet.on_paper.Statement.{statement}
 use Rattle.json.proofs.sheet.on_paper.Tie as tie
-use Rattle.json.proofs.sheet.on_paper.Reads as reads
-use Rattle.json.proofs.sheet.on_paper.Lts as lts
-use Rattle.json.proofs.sheet.line.Reads as line-reads
-use Rattle.json.proofs.sheet.refusal_on_paper.Reads as refusal-on-paper-reads
 
--- src/sheet.rt:38:23
 enum-known-r : tie.Need-enum-known-r
 enum-known-r c = search needs
 
--- src/sheet.rt:38:29
 line-requires : tie.Need-line-requires
 line-requires c κs = search needs
 
--- src/sheet.rt:39:26
 enum-known-r-2 : tie.Need-enum-known-r-2
 enum-known-r-2 c = search needs
 
--- src/sheet.rt:39:34
 refusal-on-paper-requires : tie.Need-refusal-on-paper-requires
 refusal-on-paper-requires c κs = search needs
 
--- src/sheet.rt:34:1
 returns : tie.Need-returns
 unfolding paper
 returns c = rw (c .before .before .r .given .1) (c .line .ensures)
 
--- src/sheet.rt:34:1
 returns-2 : tie.Need-returns-2
 unfolding paper
 returns-2 c = rw (c .before .before .r2 .given .1) (c .refusal-on-paper .ensures)

@@ -1,98 +1,75 @@
+-- `json::sheet::refusal_on_paper` meets its contract: each refusal has its line. Assumes nothing.
 use Rattle.text.specs.Sheet.{refused}
 use borrow.Author.Needs.{needs}
 use Rattle.json.proofs.sheet.refusal_on_paper.Statement.{statement}
 use Rattle.json.proofs.sheet.refusal_on_paper.Tie as tie
-use Rattle.json.proofs.sheet.refusal_on_paper.Reads as reads
-use Rattle.json.proofs.sheet.refusal_on_paper.Lts as lts
-use Rattle.json.proofs.sheet.line.Reads as line-reads
 
--- src/sheet.rt:23:29
 enum-told : tie.Need-enum-told
 enum-told c = search needs
 
--- src/sheet.rt:23:29
 line-requires : tie.Need-line-requires
 line-requires c κs = search needs
 
--- src/sheet.rt:24:26
 enum-known-r : tie.Need-enum-known-r
 enum-known-r c = search needs
 
--- src/sheet.rt:24:32
 line-requires-2 : tie.Need-line-requires-2
 line-requires-2 c κs = search needs
 
--- src/sheet.rt:25:28
 enum-known-r-2 : tie.Need-enum-known-r-2
 enum-known-r-2 c = search needs
 
--- src/sheet.rt:25:34
 line-requires-3 : tie.Need-line-requires-3
 line-requires-3 c κs = search needs
 
--- src/sheet.rt:26:27
 enum-known-r-3 : tie.Need-enum-known-r-3
 enum-known-r-3 c = search needs
 
--- src/sheet.rt:26:33
 line-requires-4 : tie.Need-line-requires-4
 line-requires-4 c κs = search needs
 
--- src/sheet.rt:27:23
 enum-known-r-4 : tie.Need-enum-known-r-4
 enum-known-r-4 c = search needs
 
--- src/sheet.rt:27:29
 line-requires-5 : tie.Need-line-requires-5
 line-requires-5 c κs = search needs
 
--- src/sheet.rt:28:23
 enum-known-r-5 : tie.Need-enum-known-r-5
 enum-known-r-5 c = search needs
 
--- src/sheet.rt:28:29
 line-requires-6 : tie.Need-line-requires-6
 line-requires-6 c κs = search needs
 
--- src/sheet.rt:29:24
 enum-known-r-6 : tie.Need-enum-known-r-6
 enum-known-r-6 c = search needs
 
--- src/sheet.rt:29:33
 line-requires-7 : tie.Need-line-requires-7
 line-requires-7 c κs = search needs
 
--- src/sheet.rt:19:1
 returns : tie.Need-returns
 unfolding refused
 returns c = rw (c .before .enum-told .given .1) (c .line .ensures)
 
--- src/sheet.rt:19:1
 returns-2 : tie.Need-returns-2
 unfolding refused
 returns-2 c = rw (c .before .before .r .given .1) (c .line2 .ensures)
 
--- src/sheet.rt:19:1
 returns-3 : tie.Need-returns-3
 unfolding refused
 returns-3 c = rw (c .before .before .r2 .given .1) (c .line3 .ensures)
 
--- src/sheet.rt:19:1
 returns-4 : tie.Need-returns-4
 unfolding refused
 returns-4 c = rw (c .before .before .r3 .given .1) (c .line4 .ensures)
 
--- src/sheet.rt:19:1
 returns-5 : tie.Need-returns-5
 unfolding refused
 returns-5 c = rw (c .before .before .r4 .given .1) (c .line5 .ensures)
 
--- src/sheet.rt:19:1
 returns-6 : tie.Need-returns-6
 unfolding refused
 returns-6 c = rw (c .before .before .r5 .given .1) (c .line6 .ensures)
 
--- src/sheet.rt:19:1
 returns-7 : tie.Need-returns-7
 unfolding refused
 returns-7 c = rw (c .before .before .r6 .given .1) (c .line7 .ensures)
