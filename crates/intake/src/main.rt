@@ -2,18 +2,20 @@
 // A failed read is never taken for the end of the card: then standard output stays empty and standard error has a line.
 use card::judge::judge;
 use card::sheet::verdict_on_paper;
+use json::limits::BYTES;
+use json::limits::ROW_WORDS;
+use json::limits::VALUES;
 use libc::STDERR_FILENO;
 use libc::STDIN_FILENO;
 use libc::STDOUT_FILENO;
-ghost use Prim.Native.Nat.{_≤_};
 ghost use lib.ListN.{length};
 ghost use Rattle.intake.specs.Input.{Within};
 
 // The limit of a card's bytes, and one more, by which a longer one shows.
-const ROOM: usize = 65537;
+const ROOM: usize = BYTES + 1;
 
-// The words of 2,048 rows, so that 7 is never the answer.
-const WORDS: usize = 12288;
+// The words of as many rows as a text may have values, so that 7 is never the answer.
+const WORDS: usize = VALUES * ROW_WORDS;
 
 // What reading gave: so many bytes, 0 at the end of the input; or a failure.
 enum Got {
