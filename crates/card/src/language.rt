@@ -1,6 +1,7 @@
 // The PatchObject of a language: the member of that name of the card's `localizations`.
 use crate::members::Found;
 use json::names::name_is;
+use json::rows::OBJECT;
 use json::rows::below;
 use json::rows::kind;
 use json::rows::name_end;
@@ -37,7 +38,7 @@ fn child_row(text: &[u8], table: &[u32], row: usize, name: &[u8]) -> Found
     requires { ⌜ ((g : Forest) × KnownAt (now table) row g) ⌝ }
     ensures { λ r. ⌜ ((g : Forest) (limit : ℕ) → Held (now (table .entry)) limit row g → Leads (now (text .entry)) (now (table .entry)) limit (child (now (name .entry)) (docOf (now (text .entry)) g)) r) ⌝ }
 {
-    if kind(table, row) != 7 {
+    if kind(table, row) != OBJECT {
         return Found::Nothing;
     }
     let first = row + 1;

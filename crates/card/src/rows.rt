@@ -1,6 +1,7 @@
 // The rows of a value's members, by the reading layer's accessors: from one member to the next, and the member of a name.
 use crate::types::is_content;
 use json::names::name_is;
+use json::rows::STRING;
 use json::rows::below;
 use json::rows::kind;
 use json::rows::name_end;
@@ -108,7 +109,7 @@ pub(crate) fn has_kind(
 fn is_string(text: &[u8], table: &[u32], k: usize, content: &[u8]) -> bool
     ensures { λ r. ⌜ ((f : Forest) → ValueAt (now (table .entry)) k f → r ≡ isString (now (content .entry)) (docOf (now (text .entry)) f)) ⌝ }
 {
-    if kind(table, k) != 5 {
+    if kind(table, k) != STRING {
         return false;
     }
     is_content(text, value_start(table, k), value_end(table, k), content)

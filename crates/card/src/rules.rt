@@ -5,6 +5,10 @@ use crate::rows::has_kind;
 use crate::rows::has_string;
 use crate::rows::next_row;
 use crate::types::Object;
+use json::rows::ARRAY;
+use json::rows::OBJECT;
+use json::rows::STRING;
+use json::rows::TRUE;
 use json::rows::kind;
 ghost use mathlib.Core.Path.{_≡_};
 ghost use Rattle.text.specs.Tree.{Forest};
@@ -20,7 +24,7 @@ fn breaks_card(text: &[u8], table: &[u32], from: usize, end: usize) -> bool
     requires { ⌜ ((f : Forest) × StandsTo (now table) from end f) ⌝ }
     ensures { λ r. ⌜ ((f : Forest) → StandsTo (now (table .entry)) from end f → r ≡ breaksCard (membersOf (now (text .entry)) f)) ⌝ }
 {
-    if !has_kind(text, table, from, end, b"members", 7) {
+    if !has_kind(text, table, from, end, b"members", OBJECT) {
         return false;
     }
     !has_string(text, table, from, end, b"kind", b"group")
@@ -33,7 +37,7 @@ fn is_separator(text: &[u8], table: &[u32], k: usize) -> bool
     requires { ⌜ ((f : Forest) × ValueAt (now table) k f) ⌝ }
     ensures { λ r. ⌜ ((f : Forest) → ValueAt (now (table .entry)) k f → r ≡ isSeparator (docOf (now (text .entry)) f)) ⌝ }
 {
-    if kind(table, k) != 7 {
+    if kind(table, k) != OBJECT {
         return false;
     }
     let end = next_row(table, k);
@@ -103,7 +107,7 @@ fn components(text: &[u8], table: &[u32], from: usize, end: usize) -> Marks
     requires { ⌜ ((f : Forest) × StandsTo (now table) from end f) ⌝ }
     ensures { λ r. ⌜ ((f : Forest) → StandsTo (now (table .entry)) from end f → r ≡ tally fresh (marksIn (listIn (membersOf (now (text .entry)) f)))) ⌝ }
 {
-    let Found::At(k) = find_kind(text, table, from, end, b"components", 6) else {
+    let Found::At(k) = find_kind(text, table, from, end, b"components", ARRAY) else {
         return Marks {
             any: false,
             all: true,
@@ -125,16 +129,16 @@ fn breaks_separators(text: &[u8], table: &[u32], from: usize, end: usize) -> boo
     if m.twice {
         return true;
     }
-    if has_kind(text, table, from, end, b"isOrdered", 3) {
-        if has_kind(text, table, from, end, b"components", 6) {
+    if has_kind(text, table, from, end, b"isOrdered", TRUE) {
+        if has_kind(text, table, from, end, b"components", ARRAY) {
             return false;
         }
-        return has_kind(text, table, from, end, b"defaultSeparator", 5);
+        return has_kind(text, table, from, end, b"defaultSeparator", STRING);
     }
     if m.any {
         return true;
     }
-    has_kind(text, table, from, end, b"defaultSeparator", 5)
+    has_kind(text, table, from, end, b"defaultSeparator", STRING)
 }
 
 // Name: `full` or `components` is there; a list there has an entry that isn't a separator.
@@ -142,14 +146,14 @@ fn breaks_name(text: &[u8], table: &[u32], from: usize, end: usize) -> bool
     requires { ⌜ ((f : Forest) × StandsTo (now table) from end f) ⌝ }
     ensures { λ r. ⌜ ((f : Forest) → StandsTo (now (table .entry)) from end f → r ≡ breaksName (membersOf (now (text .entry)) f)) ⌝ }
 {
-    if has_kind(text, table, from, end, b"components", 6) {
+    if has_kind(text, table, from, end, b"components", ARRAY) {
         let m = components(text, table, from, end);
         if m.all {
             return true;
         }
         return breaks_separators(text, table, from, end);
     }
-    match find_kind(text, table, from, end, b"full", 5) {
+    match find_kind(text, table, from, end, b"full", STRING) {
         Found::Nothing => true,
         Found::At(_) => breaks_separators(text, table, from, end),
     }

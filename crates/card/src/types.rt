@@ -6,6 +6,12 @@ use crate::values::is_count;
 use crate::values::is_id;
 use json::names::part;
 use json::names::part_is;
+use json::rows::ARRAY;
+use json::rows::FALSE;
+use json::rows::NUMBER;
+use json::rows::OBJECT;
+use json::rows::STRING;
+use json::rows::TRUE;
 ghost use mathlib.Core.Path.{_≡_};
 ghost use mathlib.Core.Bool.{true, cond};
 ghost use mathlib.Core.List.{List};
@@ -67,10 +73,10 @@ pub enum Ty {
 fn is_flag(kind: usize) -> bool
     ensures { λ r. ⌜ r ≡ cond (eqb kind 2) true (eqb kind 3) ⌝ }
 {
-    if kind == 2 {
+    if kind == FALSE {
         return true;
     }
-    kind == 3
+    kind == TRUE
 }
 
 fn item_fits(item: Item, kind: usize) -> bool
@@ -78,15 +84,15 @@ fn item_fits(item: Item, kind: usize) -> bool
 {
     match item {
         Item::Any => true,
-        Item::AnyString => kind == 5,
-        Item::TypeName(_) => kind == 5,
-        Item::Version => kind == 5,
+        Item::AnyString => kind == STRING,
+        Item::TypeName(_) => kind == STRING,
+        Item::Version => kind == STRING,
         Item::Flag => is_flag(kind),
         Item::Yes => is_flag(kind),
-        Item::Count(_, _) => kind == 4,
-        Item::Time => kind == 5,
-        Item::ObjectOf(_) => kind == 7,
-        Item::AnyObject => kind == 7,
+        Item::Count(_, _) => kind == NUMBER,
+        Item::Time => kind == STRING,
+        Item::ObjectOf(_) => kind == OBJECT,
+        Item::AnyObject => kind == OBJECT,
     }
 }
 
@@ -96,8 +102,8 @@ pub(crate) fn kind_fits(ty: Ty, kind: usize) -> bool
 {
     match ty {
         Ty::One(item) => item_fits(item, kind),
-        Ty::ListOf(_) => kind == 6,
-        Ty::MapOf(_, _) => kind == 7,
+        Ty::ListOf(_) => kind == ARRAY,
+        Ty::MapOf(_, _) => kind == OBJECT,
     }
 }
 
@@ -202,7 +208,7 @@ fn item_allows(text: &[u8], item: Item, kind: usize, from: usize, to: usize) -> 
         Item::TypeName(o) => is_type_name(content(text, from, to), o),
         Item::Version => is_content(text, from, to, b"1.0"),
         Item::Flag => true,
-        Item::Yes => kind == 3,
+        Item::Yes => kind == TRUE,
         Item::Count(low, high) => is_count(part(text, from, to), low, high),
         Item::Time => is_time(content(text, from, to)),
         Item::ObjectOf(_) => true,
