@@ -6,7 +6,6 @@ use json::rows::below;
 use json::rows::kind;
 use json::rows::name_end;
 use json::rows::name_start;
-ghost use mathlib.Core.Path.{_≡_};
 ghost use Prim.Native.Nat.{ℕ};
 ghost use Rattle.text.specs.Tree.{Forest};
 ghost use Rattle.text.specs.Standing.{StandsTo};

@@ -19,7 +19,7 @@ ghost use Rattle.contact.specs.Patch.{walk};
 ghost use Rattle.card.specs.Paths.{walkOf};
 
 // It arrives at an object that has, or could have, the last part; or goes inside an array (25); or meets no object (26).
-pub enum Path {
+pub(crate) enum Path {
     Arrives,
     InArray,
     NoObject,

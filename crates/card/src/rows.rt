@@ -20,7 +20,7 @@ ghost use Rattle.json.specs.Rows.{nameStartIn, nameEndIn, belowIn};
 ghost use Rattle.card.specs.Rows.{ValueAt, Finds, ofKind};
 
 // Where a member was found.
-pub enum Found {
+pub(crate) enum Found {
     At(usize),
     Nothing,
 }

@@ -45,13 +45,14 @@ fn is_separator(text: &[u8], table: &[u32], k: usize) -> bool
 }
 
 // What is told of the entries of a list so far: is any a separator, are all, are two in a row, and is the last one?
-pub struct Marks {
+pub(crate) struct Marks {
     pub any: bool,
     pub all: bool,
     pub twice: bool,
     pub last: bool,
 }
 
+// What is told with one more entry, a separator or not.
 fn marked(m: Marks, separator: bool) -> Marks
     ensures { λ r. ⌜ r ≡ markOn m separator ⌝ }
 {

@@ -24,10 +24,10 @@ ghost use Rattle.text.specs.Strings.{nameOf, contentOf};
 ghost use Rattle.text.specs.Doc.{Name};
 ghost use Rattle.contact.specs.Schema.{fits};
 ghost use Rattle.contact.specs.Judge.{allowed, memberType, keyFits};
-ghost use Rattle.card.specs.Types.{objectType, typeOf, itemType, AsObject, innerType};
+ghost use Rattle.card.specs.Types.{typeOf, itemType, AsObject, innerType};
 
 // Object types.
-pub enum Object {
+pub(crate) enum Object {
     Card,
     Name,
     NameComponent,
@@ -38,13 +38,13 @@ pub enum Object {
 }
 
 // The keys of a map: any, or Ids.
-pub enum Keys {
+pub(crate) enum Keys {
     Free,
     Ids,
 }
 
 // What a value may have to be, or each value of a list or a map.
-pub enum Item {
+pub(crate) enum Item {
     // of an unknown property: nothing is judged
     Any,
     AnyString,
@@ -63,13 +63,14 @@ pub enum Item {
     AnyObject,
 }
 
-pub enum Ty {
+// What a value has to be: one item, a list of such items, or a map of them.
+pub(crate) enum Ty {
     One(Item),
     ListOf(Item),
     MapOf(Keys, Item),
 }
 
-// The JSON kinds: 1 null, 2 false, 3 true, 4 number, 5 string, 6 array, 7 object.
+// Is it the kind of a Boolean, false or true?
 fn is_flag(kind: usize) -> bool
     ensures { λ r. ⌜ r ≡ cond (eqb kind 2) true (eqb kind 3) ⌝ }
 {
@@ -79,6 +80,7 @@ fn is_flag(kind: usize) -> bool
     kind == TRUE
 }
 
+// May a value of that kind be such an item?
 fn item_fits(item: Item, kind: usize) -> bool
     ensures { λ r. ⌜ r ≡ fits (itemType item) kind ⌝ }
 {
@@ -108,11 +110,12 @@ pub(crate) fn kind_fits(ty: Ty, kind: usize) -> bool
 }
 
 // What a type is for the rules on objects.
-pub enum Role {
+pub(crate) enum Role {
     As(Object),
     Other,
 }
 
+// The object type of an item that is one.
 fn item_role(item: Item) -> Role
     ensures { λ r. ⌜ AsObject r (itemType item) ⌝ }
 {
@@ -199,6 +202,7 @@ pub(crate) fn is_content(text: &[u8], from: usize, to: usize, lit: &[u8]) -> boo
     part_is(content(text, from, to), lit)
 }
 
+// Is a value of that kind, which may be such an item, allowed as one?
 fn item_allows(text: &[u8], item: Item, kind: usize, from: usize, to: usize) -> bool
     ensures { λ r. ⌜ r ≡ allowed (itemType item) kind (partOf (now (text .entry)) from to) ⌝ }
 {
