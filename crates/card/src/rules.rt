@@ -52,6 +52,18 @@ pub(crate) struct Marks {
     pub last: bool,
 }
 
+// What is told of no entries.
+fn no_marks() -> Marks
+    ensures { λ r. ⌜ r ≡ fresh ⌝ }
+{
+    Marks {
+        any: false,
+        all: true,
+        twice: false,
+        last: false,
+    }
+}
+
 // What is told with one more entry, a separator or not.
 fn marked(m: Marks, separator: bool) -> Marks
     ensures { λ r. ⌜ r ≡ markOn m separator ⌝ }
@@ -89,12 +101,7 @@ fn tally_of(text: &[u8], table: &[u32], from: usize, end: usize) -> Marks
     requires { ⌜ ((f : Forest) × StandsTo (now table) from end f) ⌝ }
     ensures { λ r. ⌜ ((f : Forest) → StandsTo (now (table .entry)) from end f → r ≡ tally fresh (marksOf (membersOf (now (text .entry)) f))) ⌝ }
 {
-    let mut m = Marks {
-        any: false,
-        all: true,
-        twice: false,
-        last: false,
-    };
+    let mut m = no_marks();
     let mut at = from;
     while at < end {
         m = marked(m, is_separator(text, table, at));
@@ -109,12 +116,7 @@ fn components(text: &[u8], table: &[u32], from: usize, end: usize) -> Marks
     ensures { λ r. ⌜ ((f : Forest) → StandsTo (now (table .entry)) from end f → r ≡ tally fresh (marksIn (listIn (membersOf (now (text .entry)) f)))) ⌝ }
 {
     let Found::At(k) = find_kind(text, table, from, end, b"components", ARRAY) else {
-        return Marks {
-            any: false,
-            all: true,
-            twice: false,
-            last: false,
-        };
+        return no_marks();
     };
     let after = next_row(table, k);
     tally_of(text, table, k + 1, after)

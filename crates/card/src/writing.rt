@@ -45,13 +45,13 @@ ghost use Rattle.card.specs.Copied.{openOf, closeOf, headOf, labelIn, Co
 ghost use Rattle.card.specs.Patched.{InRows, Said, membersIn, isOut, keptBy, adds, pointerIn, entryOf, Ending, idle, Passed, PutMember, PutValue, PutCard};
 
 // Where the next byte goes, and whether the next member is the first of its object.
-pub(crate) struct Spot {
+struct Spot {
     pub to: usize,
     pub first: bool,
 }
 
 // A run of the rows of entries, and how many parts of each entry's pointer have been walked.
-pub(crate) struct Run {
+struct Run {
     pub lo: usize,
     pub hi: usize,
     pub parts: usize,
@@ -96,7 +96,7 @@ fn put_head(
 }
 
 // The value at a row, whole.
-pub(crate) fn copy_value(text: &[u8], table: &[u32], row: usize, out: &mut [u8], at: usize) -> usize
+fn copy_value(text: &[u8], table: &[u32], row: usize, out: &mut [u8], at: usize) -> usize
     ensures { λ r. ⌜ Copied (now (text .entry)) (now (table .entry)) row (now (out .entry)) at (now (out .exit)) r ⌝ }
 {
     let k = kind(table, row);
@@ -177,10 +177,7 @@ fn is_added(
     let Onward::Last = next_part(key, c) else {
         return false;
     };
-    if has_member(text, table, row, root, key, c) {
-        return false;
-    }
-    true
+    !has_member(text, table, row, root, key, c)
 }
 
 // The member that the entry at the row e adds to the object at a row, if it adds one.
@@ -341,7 +338,7 @@ fn put_member(
 }
 
 // The value at a row as the run leaves it; at the root without the member `localizations`.
-pub(crate) fn put_value(
+fn put_value(
     text: &[u8],
     table: &[u32],
     row: usize,
