@@ -15,7 +15,7 @@ ghost use mathlib.Core.List.{List};
 ghost use Prim.Native.Nat.{ℕ, _≤_};
 ghost use lib.ListN.{length};
 ghost use Rattle.text.specs.Strings.{decode};
-ghost use Rattle.text.specs.Tree.{Forest, size};
+ghost use Rattle.text.specs.Tree.{Forest};
 ghost use Rattle.text.specs.Firsts.{HasFirst, Kinds};
 ghost use Rattle.text.specs.Standing.{Stands, StandsTo};
 ghost use Rattle.text.specs.Doc.{Members, docOf, membersOf};

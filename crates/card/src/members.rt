@@ -11,7 +11,7 @@ ghost use Rattle.text.specs.Standing.{StandsTo};
 ghost use Rattle.card.specs.Parts.{nameLeft};
 ghost use Rattle.card.specs.Members.{Near, Finds};
 
-// Where a member was found.
+// Where a member was found, if there is one.
 pub(crate) enum Found {
     Row(usize),
     Nothing,

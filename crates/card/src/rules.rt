@@ -1,5 +1,5 @@
 // Rules between members (refusal 14), by object type. A member of the wrong kind counts as absent.
-use crate::rows::Found;
+use crate::members::Found;
 use crate::rows::find_kind;
 use crate::rows::has_kind;
 use crate::rows::has_string;
@@ -115,7 +115,7 @@ fn components(text: &[u8], table: &[u32], from: usize, end: usize) -> Marks
     requires { ⌜ ((f : Forest) × StandsTo (now table) from end f) ⌝ }
     ensures { λ r. ⌜ ((f : Forest) → StandsTo (now (table .entry)) from end f → r ≡ tally fresh (marksIn (listIn (membersOf (now (text .entry)) f)))) ⌝ }
 {
-    let Found::At(k) = find_kind(text, table, from, end, b"components", ARRAY) else {
+    let Found::Row(k) = find_kind(text, table, from, end, b"components", ARRAY) else {
         return no_marks();
     };
     let after = next_row(table, k);
@@ -158,7 +158,7 @@ fn breaks_name(text: &[u8], table: &[u32], from: usize, end: usize) -> bool
     }
     match find_kind(text, table, from, end, b"full", STRING) {
         Found::Nothing => true,
-        Found::At(_) => breaks_separators(text, table, from, end),
+        Found::Row(_) => breaks_separators(text, table, from, end),
     }
 }
 

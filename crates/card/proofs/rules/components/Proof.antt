@@ -1,5 +1,5 @@
 -- `card::rules::components` meets its contract: the list is found by its row, or there is none. Assumes nothing.
-use mathlib.Core.Path.{_≡_, refl}
+use mathlib.Core.Path.{_≡_}
 use borrow.Author.Needs.{needs}
 use denote.Ref.{now}
 use mathlib.Core.Option.{Option}
