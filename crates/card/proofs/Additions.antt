@@ -1,6 +1,6 @@
 -- A walk along the entries of a run, each of which adds a member or none:
---     first-said              the first entry of a run, and those after it
---     Adding, adding-start, adding-on, adding-end     the members that are still to be added, and the closing brace
+--     First, first-said, none-said      the first entry of a run, and those after it; or there is none
+--     Adding, adding-on, adding-end     the members that are still to be added, and the closing brace
 -- Assumes nothing.
 use Prim.Native.Nat.{ℕ, _+_, _≤_, _<_}
 use mathlib.Core.Path.{_≡_, refl, ap, _∙_}

@@ -37,10 +37,6 @@ module _ {A : Type 0} (t : List ℕ) (from end : ℕ) (F : Forest → A) where
         let v = first-at ws h lt in
         (restAt ws, rw (e, row-at ws (v .some) (v .stands) .below) (after ws (v .some) h), q ∙ step ws v)
 
-    -- the value that decides
-    pub along-hit : at < end → (P : A → Type 0) → ((ws : Forest) → ValueAt t at ws → P (G ws)) → (vs : Forest) → StandsTo t from end vs → P (F vs)
-    along-hit lt P this vs s = let (ws, h, q) = g vs s in rw q (this ws (first-at ws h lt))
-
     -- the end
     pub along-end : end ≤ at → (P : A → Type 0) → P (G none) → (vs : Forest) → StandsTo t from end vs → P (F vs)
     along-end le P this vs s = let (ws, h, q) = g vs s in rw (q, none-at ws h le) this

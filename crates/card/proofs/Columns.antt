@@ -1,4 +1,4 @@
--- The words of the code's table are the entries' spellings, and its type names the types' names. Assumes nothing.
+-- The words of the code's table are the lines' spellings, and its type names the types' names. Assumes nothing.
 use mathlib.Core.Path.{_≡_, refl, _∙_}
 use mathlib.Core.List.{List, [], _∷_, _++_, map}
 use mathlib.Core.Bool.{Bool, true}
@@ -11,7 +11,7 @@ use Rattle.laws.proofs.Tables.{below, below-at}
 use Rattle.text.specs.Doc.{Name}
 use Rattle.contact.specs.Schema.{ObjectType, card, name, nameComponent, address, addressComponent, emailAddress, phone, properties}
 use Rattle.card.specs.Types.{numberOf, typeName}
-use Rattle.card.specs.Table.{nameWidth, wordOf, Entry, entries, noEntry, count}
+use Rattle.card.specs.Table.{nameWidth, wordOf, Line, lines, noLine, count}
 
 -- words with spaces after them, each of the width
 abbrev padded : List Name → List ℕ
@@ -21,7 +21,7 @@ padded (s ∷ ss) = s ++ replicate (nameWidth - length s) 32 ++ padded ss
 -- ---- names of properties
 
 abbrev pub spellings : List Name
-spellings = map (λ (e : Entry). e .known .spelling) entries
+spellings = map (λ (e : Line). e .known .spelling) lines
 
 abbrev pub names : List ℕ
 names = padded spellings
@@ -30,14 +30,14 @@ right : ℕ → Bool
 right i = same (wordOf (drop (i * nameWidth) names)) (getD spellings i [])
 
 all-right : below right count ≡ true
-unfolding right orderOf entries properties
+unfolding right orderOf lines properties
 all-right = refl
 
-pub name-at : (i : ℕ) → i < count → wordOf (drop (i * nameWidth) names) ≡ getD entries i noEntry .known .spelling
+pub name-at : (i : ℕ) → i < count → wordOf (drop (i * nameWidth) names) ≡ getD lines i noLine .known .spelling
 unfolding right
 name-at i h =
     same-eq (wordOf (drop (i * nameWidth) names)) (getD spellings i []) (below-at right count all-right i h)
-    ∙ List·getD-map (λ (e : Entry). e .known .spelling) entries i noEntry
+    ∙ List·getD-map (λ (e : Line). e .known .spelling) lines i noLine
 
 -- ---- names of object types
 

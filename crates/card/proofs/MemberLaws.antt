@@ -14,7 +14,7 @@ use Rattle.text.specs.Tree as T
 use Rattle.text.specs.Firsts.{HasFirst, Kinds, nameStart, nameEnd, restAt}
 use Rattle.text.specs.Standing.{StandsTo}
 use Rattle.text.specs.Doc.{Name, membersOf, seek}
-use Rattle.text.proofs.Promise.{row-at, after, within, some-at, none-at, members-first, members-none}
+use Rattle.text.proofs.Promise.{row-at, after, some-at, none-at, members-first, members-none}
 use Rattle.json.specs.Rows.{nameStartIn, nameEndIn, belowIn}
 use Rattle.card.specs.Members.{firstMember, Standing}
 
@@ -63,12 +63,6 @@ module _ (t table : List ℕ) (from end : ℕ) (n : Name) where
           kinds = l .kinds;
           is = l .is ∙ seek-here t n (l .ahead) s (rw (name-at lt) at e);
         }
-
-    pub seek-room : at < end → at + 1 + belowIn table at ≤ end
-    seek-room lt =
-        let l = g f h in
-        let s = some-at (l .ahead) (l .stands) lt in
-        rw (row-at (l .ahead) s (l .stands .stands) .below) (within (l .ahead) s (l .stands))
 
     pub seek-next : at < end → same (nameOf t (nameStartIn table at) (nameEndIn table at)) n ≡ false → Left f (at + 1 + belowIn table at)
     seek-next lt e =

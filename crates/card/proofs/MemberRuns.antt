@@ -1,7 +1,7 @@
 -- Laws of entries in ascending order, of which a run concerns one member:
 --     Named, middle          the run between two bounds has the member's name as first part, and says of the member all that is said of it
 --     run-ends               its first pointer ends there: it says what becomes of the member
---     Deep, run-goes         its first pointer goes on: all do, nothing is said of the member itself, and the run is for its value, one part further
+--     Deep and its laws      its first pointer goes on: all do, nothing is said of the member itself, and the run is for its value, one part further
 -- Assumes nothing.
 use Prim.Native.Nat.{ℕ, _+_}
 use mathlib.Core.Path.{_≡_, refl, ap, _∙_}

@@ -1,7 +1,8 @@
 -- Laws of pointers as they are read byte by byte:
---     part-end, part-slash, part-plain, part-tilde    the first part of a key, by its first byte
---     tail-end, tail-slash, tail-on                    what follows the first part
---     ends, goes                                       a pointer by what follows its first part
+--     part-plain, part-tilde          the first part of a key, by its first byte
+--     tailOf, tail-on                 what follows the first part
+--     ends, goes                      a pointer by what follows its first part
+--     by-part, by-name, named, over   what is read of a part or a name, and what is left of it
 -- Assumes nothing.
 use mathlib.Core.Path.{_≡_, refl, ap, sym, _∙_}
 use mathlib.Core.Bool.{Bool, true, false}

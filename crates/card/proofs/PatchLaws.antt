@@ -3,13 +3,13 @@
 --     based-object, based-other     a value as the entries leave it, by its kind
 --     kept-linked         the members of the object, one after the other
 --     added-linked        the members that ascending entries add, one entry after the other: they stand in the order of the entries
---     adds-null, adds-down, adds-none, adds-it     what an entry adds
+--     adds-null, adds-down, adds-last     what an entry adds
 --     passed-none, passed-some     a member that is not written, and one that is
 --     there-out, there-found, there-none      the member of a name, where one is left out
 -- Assumes nothing.
 use Prim.Native.Nat.{ℕ, _<_}
 use mathlib.Core.Path.{_≡_, refl, ap, _∙_}
-use mathlib.Core.Bool.{Bool, true, false, cond}
+use mathlib.Core.Bool.{Bool, true, false, not, cond}
 use mathlib.Core.List.{List, [], _∷_, _++_, append-assoc}
 use mathlib.Core.Option.{Option, none, some}
 use native.Mathlib.Omega.{arith}
@@ -183,18 +183,12 @@ adds-down ms p c e = rw e
 -- it ends there and is not null: is there a member of the name?
 module _ (ms : Members) (p : Pointer) (d : Doc) {there : Bool} (ends : p ≡ last (firstPart p)) (some-value : kindOf d ≡ 1 → ⊥)
     (is : there ≡ isThere (seek (firstPart p) ms)) where
-  adds-last : adds ms (entry p (changeOf d)) ≡ cond there none (some d)
+  pub adds-last : adds ms (entry p (changeOf d)) ≡ cond (not there) (some d) none
   adds-last = rw (ends, change-set d some-value, is) (go (seek (firstPart p) ms))
     where
-      go : (o : Option Property) → freshly o d ≡ cond (isThere o) none (some d)
+      go : (o : Option Property) → freshly o d ≡ cond (not (isThere o)) (some d) none
       go none = refl
       go (some q) = refl
-
-  pub adds-none : there ≡ true → adds ms (entry p (changeOf d)) ≡ none
-  adds-none e = adds-last ∙ rw e
-
-  pub adds-it : there ≡ false → adds ms (entry p (changeOf d)) ≡ some d
-  adds-it e = adds-last ∙ rw e
 
 -- the part of an entry's key at which a cursor stands
 pub at-part : (t : List ℕ) (parts : ℕ) {table : List ℕ} {row : ℕ} {h : Forest} (key : List ℕ) (c : Cursor) → KnownAt table row h

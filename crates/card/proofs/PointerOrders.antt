@@ -1,8 +1,8 @@
 -- Laws of the order of pointers:
---     pointer-flip, pointer-refl, pointer-eq, pointer-trans     Less and More are opposite, Same is said of equals alone, and Less leads on
---     pointer-total, row-total                                  so pointers sort, and rows by their keys
---     first-upto                                                a pointer before another has a first part before the other's or the same
---     less-apart                                                of two pointers that do not clash, one that is not More is Less
+--     pointer-flip, pointer-eq, pointer-trans     Less and More are opposite, Same is said of equals alone, and Less leads on
+--     pointer-total, row-total                    so pointers sort, and rows by their keys
+--     first-upto                                  a pointer before another has a first part before the other's or the same
+--     less-apart                                  of two pointers that do not clash, one that is not More is Less
 -- Assumes nothing.
 use mathlib.Core.Path.{_≡_, refl, ap, sym, _∙_}
 use mathlib.Core.Logic.{_⊎_, inl, inr, _≢_}
@@ -11,7 +11,7 @@ use mathlib.Core.List.{List}
 use Prim.Native.Nat.{ℕ}
 use native.Mathlib.Omega.{arith}
 use Rattle.laws.specs.Order.{orderOf, isSame}
-use Rattle.laws.proofs.Orders.{flip, order-flip, order-refl, order-trans, same-eq, same-refl}
+use Rattle.laws.proofs.Orders.{flip, order-flip, order-trans, same-eq, same-refl}
 use Rattle.laws.proofs.Sorting.{Total, total-by, total-pull}
 use Rattle.laws.specs.declared.Order.{Order}
 use Rattle.laws.specs.declared.Order.the-variants.{Less, Same, More}
@@ -68,11 +68,6 @@ pointer-flip (last n) (last m) = order-flip n m
 pointer-flip (last n) (down m q) = rw (order-flip n m) (flip-then (orderOf n m) More Less refl)
 pointer-flip (down n p) (last m) = rw (order-flip n m) (flip-then (orderOf n m) Less More refl)
 pointer-flip (down n p) (down m q) = rw (order-flip n m) (flip-then (orderOf n m) (pointerOrder q p) (pointerOrder p q) (pointer-flip p q))
-
-pub pointer-refl : (p : Pointer) → pointerOrder p p ≡ Same
-unfolding pointerOrder
-pointer-refl (last n) = order-refl n
-pointer-refl (down n p) = rw (order-refl n) (pointer-refl p)
 
 pub pointer-eq : (p q : Pointer) → pointerOrder p q ≡ Same → p ≡ q
 unfolding pointerOrder

@@ -1,30 +1,15 @@
--- What a type that is no object type asks: no members, no rules between them; and below a single item stands nothing that is judged.
+-- The members of a type that is no object type; and below a single item stands nothing that is judged.
 -- Assumes nothing.
 use mathlib.Core.Path.{_≡_, refl}
 use mathlib.Core.List.{List}
-use mathlib.Core.Bool.{true, false}
-use Rattle.text.specs.Doc.{Members}
+use mathlib.Core.Bool.{true}
 use Rattle.text.specs.Doc as D
 use Rattle.contact.specs.Schema.{any, simple, objectOf, listOf, mapOf}
 use Rattle.contact.specs.Schema as S
-use Rattle.contact.specs.Judge.{lacks, breaksRule, memberType, keyFits}
+use Rattle.contact.specs.Judge.{memberType, keyFits}
 use Rattle.card.specs.Types.{itemType, NotObject, innerType}
 use Rattle.card.specs.declared.types.Item.{Item}
 use Rattle.card.specs.declared.types.Item.the-variants.{Any, AnyString, TypeName, Version, Flag, Yes, Count, Time, ObjectOf, AnyObject}
-
-pub lacks-other : (ty : S.Ty) (ms : Members) → NotObject ty → lacks ty ms ≡ false
-lacks-other any ms h = refl
-lacks-other (simple l) ms h = refl
-lacks-other (objectOf o) ms h = absurd h
-lacks-other (listOf ty) ms h = refl
-lacks-other (mapOf keys ty) ms h = refl
-
-pub breaks-other : (ty : S.Ty) (ms : Members) → NotObject ty → breaksRule ty ms ≡ false
-breaks-other any ms h = refl
-breaks-other (simple l) ms h = refl
-breaks-other (objectOf o) ms h = absurd h
-breaks-other (listOf ty) ms h = refl
-breaks-other (mapOf keys ty) ms h = refl
 
 pub member-other : (ty : S.Ty) (n : D.Name) → NotObject ty → innerType ty ≡ memberType ty n
 member-other any n h = refl

@@ -17,11 +17,11 @@ use Rattle.text.specs.Doc.{Name, Members, Property, docOf, membersOf, kindOf, s
 use Rattle.text.proofs.Promise.{members-first, members-none}
 use Rattle.contact.specs.Schema.{name, address, Ty, simple, flag, string, keySet, listOf, objectOf, nameComponent, addressComponent, properties, typeIn, fits}
 use Rattle.contact.specs.Rules.{ifFits, present, isTrue, isString, isThisString, hasKind, isSeparator, marksOf, marks, breaksCard, breaksSeparators, breaksName}
-use Rattle.card.specs.Rows.{ValueAt, Finds, ofKind}
+use Rattle.card.specs.Rows.{ValueAt, RowOf, ofKind}
 use Rattle.card.specs.Marks.{marks as kept, fresh, markOn, tally, marksIn, listIn, separatorsBreak, separatorsRule}
 use Rattle.card.specs.declared.rules.Marks.{Marks}
-use Rattle.card.specs.declared.rows.Found.{Found}
-use Rattle.card.specs.declared.rows.Found.the-variants.{At, Nothing}
+use Rattle.card.specs.declared.members.Found.{Found}
+use Rattle.card.specs.declared.members.Found.the-variants.{Row, Nothing}
 use Rattle.card.proofs.ValueLaws.{by-found, by-nothing}
 
 -- ---- the marks of a list
@@ -183,8 +183,8 @@ name-rule ms =
     )
 
 -- what the search for `full` says
-module _ (text t : List ℕ) {r : Found} (ms : Members) (s : Finds text t r (ofKind 5 (seek (bytes "full") ms))) where
-  pub full-there : {k : ℕ} → r ≡ At k → fullIn ms ≡ true
+module _ (text t : List ℕ) {r : Found} (ms : Members) (s : RowOf text t r (ofKind 5 (seek (bytes "full") ms))) where
+  pub full-there : {k : ℕ} → r ≡ Row k → fullIn ms ≡ true
   full-there q = by-found text t (ofKind 5 (seek (bytes "full") ms)) s (λ (o : Option Property). isThere o ≡ true) q (λ p g v e. refl)
 
   pub full-absent : r ≡ Nothing → fullIn ms ≡ false

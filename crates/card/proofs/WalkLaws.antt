@@ -1,7 +1,7 @@
 -- The walk over a card's rows, by the definition's own steps:
 --     row-unfit, row-object, row-value    the number of one row
---     breach-row, breach-none             a value's breach is its row's, or the first below it
---     Ahead and its laws                  what is left of the members of a value
+--     breach-row                          a value's breach is its row's
+--     Ahead, judging-starts, -hit, -on, -ends    or the first below it: what is left of the members of a value
 -- Assumes nothing.
 use Prim.Native.Nat.{ℕ, zero, suc, _+_, _≤_, _<_}
 use mathlib.Core.Path.{_≡_, refl, sym, ap, _∙_}
@@ -15,7 +15,7 @@ use Rattle.text.specs.Tree.{Forest}
 use Rattle.text.specs.Firsts.{HasFirst, Kinds, kindAt, nameStart, nameEnd, insideAt, belowAt, restAt}
 use Rattle.text.specs.Standing.{StandsTo}
 use Rattle.text.specs.Doc.{Name, Doc, scalar, array, object, membersOf, docOf, below, countOf}
-use Rattle.text.proofs.Promise.{row-at, inside, after, within, some-at, none-at, doc-kind, doc-token, doc-below, members-first, members-none, count-doc}
+use Rattle.text.proofs.Promise.{row-at, inside, after, some-at, none-at, doc-kind, doc-token, doc-below, members-first, members-none, count-doc}
 use Rattle.contact.specs.Schema.{ObjectType, SimpleType, anyString, exactly, flag, yes, count, time, Ty, any, simple, objectOf, listOf, mapOf, fits, fitsSimple}
 use Rattle.contact.specs.Judge.{memberType, keyFits, rowNumber, Breach, nothing, found, onRow, orElse, breachOf, breachAmong}
 use Rattle.json.specs.Rows.{nameStartIn, nameEndIn, belowIn}
@@ -134,10 +134,6 @@ module _ (t table : List ℕ) (ty : Ty) (key : Bool) (row end : ℕ) where
     pub kinds-here : Kinds here
     unfolding here
     kinds-here = g f v k .kinds
-
-    pub room-here : at + 1 + belowIn table at ≤ end
-    unfolding here
-    room-here = rw (row-at here some-here (g f v k .stands .stands) .below) (within here some-here (g f v k .stands))
 
     -- the breach of the value here, of the type and key that the code has asked
     module _ (inner : Ty) (fit : Bool) (b : Breach) (typed : inner ≡ memberType ty (nameOf t (nameStartIn table at) (nameEndIn table at)))

@@ -12,9 +12,11 @@ use Rattle.card.specs.Rows.{KnownAt}
 
 -- ---- what is inside an array (6) or an object (7)
 
+-- its opening bracket, as a byte
 abbrev pub openOf : (kind : ℕ) → ℕ
 openOf kind = cond (eqb kind 7) 123 91
 
+-- its closing one
 abbrev pub closeOf : (kind : ℕ) → ℕ
 closeOf kind = cond (eqb kind 7) 125 93
 

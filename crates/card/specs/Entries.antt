@@ -40,10 +40,11 @@ stripped parts (member key label d ms) = entry (strip parts (pointerOf key)) (ch
 abbrev pub keyBytes : (t table : List ℕ) → (row : ℕ) → List ℕ
 keyBytes t table row = partOf t (nameStartIn table row) (nameEndIn table row)
 
--- the decoded name at a row, and the order of two rows by their names as pointers
+-- the key at a row, decoded
 abbrev pub keyAt : (t table : List ℕ) → (row : ℕ) → Name
 keyAt t table row = nameOf t (nameStartIn table row) (nameEndIn table row)
 
+-- the order of two rows by their keys as pointers
 abbrev pub rowOrder : (t table : List ℕ) → (row other : ℕ) → Order
 rowOrder t table row other = pointerOrder (pointerOf (keyAt t table row)) (pointerOf (keyAt t table other))
 
@@ -56,11 +57,12 @@ pub record Collects (table : List ℕ) (from end room : ℕ) : Type 0 where
   pub room-for : size values ≤ room
   pub few : end ≤ base .values
 
--- 22, a `~` that neither `0` nor `1` follows; 23, a pointer that begins with `localizations`: of one key, and of any
+-- 22, a `~` that neither `0` nor `1` follows; 23, a pointer that begins with `localizations`
 abbrev pub isFaulty : Fault → Name → Bool
 isFaulty Tilde key = badTilde key
 isFaulty Own key = same (firstPart (pointerOf key)) (bytes "localizations")
 
+-- has any key the fault?
 abbrev pub anyFaulty : Fault → Members → Bool
 anyFaulty Tilde ms = anyBadKey ms
 anyFaulty Own ms = anyOwn (entriesOf ms)

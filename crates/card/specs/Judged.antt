@@ -28,5 +28,6 @@ abbrev pub Found : (old : List ℕ) (n : ℕ) (f : Forest) → Breach → Verdic
 Found old n f nothing r new = (r ≡ Passed n) × (new ≡ old)
 Found old n f (found row number) r new = (r ≡ Failed (Card (faultOf number (getD (startsOf f) row 0)))) × (new ≡ replicate (length old) 0)
 
+-- the answer and the table are those of the first breach of the document
 abbrev pub JudgedRows : (t old : List ℕ) (n : ℕ) (f : Forest) → Verdict → (new : List ℕ) → Type 0
 JudgedRows t old n f r new = Found old n f (cardBreach (docOf t f)) r new

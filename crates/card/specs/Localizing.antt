@@ -74,6 +74,7 @@ abbrev pub Left : (words : ℕ) → Outcome → (table out : List ℕ) → Type 
 Left words (done text f) table out = (table ≡ filled words (rowsOf f)) × (length text ≤ length out) × (take (length text) out ≡ text)
 Left words (denied r) table out = Prim.Unit {0}
 
+-- the answer is the outcome's, and the table and the output are left so
 pub record Answers (words : ℕ) (o : Outcome) (r : Localized) (table out : List ℕ) : Type 0 where
   pub answer : r ≡ answerOfOutcome o
   pub left : Left words o table out

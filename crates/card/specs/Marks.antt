@@ -12,6 +12,7 @@ use Rattle.card.specs.declared.rules.Marks.{Marks}
 
 -- ---- a tally of marks
 
+-- a tally by its four answers: any, all, two in a row, the last
 abbrev pub marks : (any all twice last : Bool) → Marks
 marks any all twice last = record { any = any; all = all; twice = twice; last = last }
 
@@ -23,6 +24,7 @@ fresh = marks false true false false
 abbrev pub markOn : Marks → Bool → Marks
 markOn m s = marks (m .any || s) (m .all && s) (m .twice || (m .last && s)) s
 
+-- all entries of a list, one after the other
 unfoldable pub tally : Marks → List Bool → Marks
 tally m [] = m
 tally m (s ∷ ss) = tally (markOn m s) ss
@@ -34,19 +36,25 @@ abbrev pub marksIn : Option Property → List Bool
 marksIn none = []
 marksIn (some p) = marksOf (below (p .content))
 
--- `components` is a list (6), `isOrdered` is true (3), `defaultSeparator` is a String (5), for Name and Address alike
+-- For Name and Address alike `components` is a list (6), `isOrdered` is true (3), `defaultSeparator` is a String (5); of another kind it is absent.
+
+-- the list `components`
 abbrev pub listIn : Members → Option Property
 listIn ms = ofKind 6 (seek (bytes "components") ms)
 
+-- is `isOrdered` there, and true?
 abbrev pub orderedIn : Members → Bool
 orderedIn ms = isThere (ofKind 3 (seek (bytes "isOrdered") ms))
 
+-- is `defaultSeparator` there, a String?
 abbrev pub separatedIn : Members → Bool
 separatedIn ms = isThere (ofKind 5 (seek (bytes "defaultSeparator") ms))
 
+-- two separators in a row, one without order, or a default one without order or a list
 unfoldable pub separatorsBreak : (adjacent any ordered separated listed : Bool) → Bool
 separatorsBreak adjacent any ordered separated listed = adjacent || (any && not ordered) || (separated && not (ordered && listed))
 
+-- of an object's members: do they break the rule?
 abbrev pub separatorsRule : Members → Bool
 separatorsRule ms =
     separatorsBreak (adjacent (marksIn (listIn ms))) (anyMark (marksIn (listIn ms))) (orderedIn ms) (separatedIn ms) (isThere (listIn ms))

@@ -27,11 +27,12 @@ unfoldable pub tildeLeft : List ℕ → Name
 tildeLeft [] = 126 ∷ []
 tildeLeft (b ∷ bs) = cond (eqb b 49) (47 ∷ partLeft bs) (cond (eqb b 48) (126 ∷ partLeft bs) (126 ∷ partLeft (b ∷ bs)))
 
--- the same of a part of a pointer, or of a whole name
+-- what is left at a cursor of a part of a pointer, or of a whole name
 abbrev pub nameLeft : (part : Bool) → List ℕ → Cursor → Name
 nameLeft true key c = partLeft (rest key c)
 nameLeft false key c = rest key c
 
+-- what an answer about a part or a name stands for
 abbrev pub nameUnread : (part : Bool) → List ℕ → Next → Name
 nameUnread part key (Byte b c) = b ∷ nameLeft part key c
 nameUnread part key Over = []

@@ -39,10 +39,12 @@ pub record Said (t table rows : List ℕ) (lo hi parts : ℕ) (ms : Members) : T
 
 -- ---- the card at its root is taken without its localizations
 
+-- a value, which is the card if it is the root
 abbrev pub based : (root : Bool) → Doc → Doc
 based true d = start d
 based false d = d
 
+-- the same of its members
 abbrev pub basedAll : (root : Bool) → Members → Members
 basedAll true ms = without (bytes "localizations") ms
 basedAll false ms = ms
@@ -72,20 +74,22 @@ stays root n es d =
 
 -- ---- what an entry adds
 
+-- a value is added where no member of its name was found
 abbrev pub freshly : Option Property → Doc → Option Doc
 freshly none v = some v
 freshly (some p) v = none
 
--- to an object with these members
+-- what an entry adds to an object with these members
 abbrev pub adds : Members → Entry → Option Doc
 adds ms (entry (last n) remove) = none
 adds ms (entry (last n) (set v)) = freshly (seek n ms) v
 adds ms (entry (down n p) c) = none
 
--- the entry that stands at a row, without the first parts of its pointer
+-- the pointer of the entry that stands at a row, without its first parts
 abbrev pub pointerIn : (t : List ℕ) → (parts : ℕ) → Forest → Pointer
 pointerIn t parts g = strip parts (pointerOf (nameOf t (nameStart g) (nameEnd g)))
 
+-- the entry itself
 abbrev pub entryOf : (t : List ℕ) → (parts : ℕ) → Forest → Entry
 entryOf t parts g = entry (pointerIn t parts g) (changeOf (docOf t g))
 
@@ -96,6 +100,7 @@ abbrev pub isLast : Pointer → Bool
 isLast (last n) = true
 isLast (down n p) = false
 
+-- is there a first entry, and does its pointer end so?
 abbrev pub endsFirst : List Entry → Bool
 endsFirst [] = false
 endsFirst (entry p c ∷ es) = isLast p
@@ -116,6 +121,7 @@ abbrev pub link : Option Doc → Name → (label : List ℕ) → Members → Mem
 link none n label ms = ms
 link (some d) n label ms = member n label d ms
 
+-- the bytes of a member that is written, or none
 abbrev pub piece : Option Doc → (first : Bool) → (label : List ℕ) → List ℕ
 piece none first label = []
 piece (some d) first label = headOf 7 first label ++ written d

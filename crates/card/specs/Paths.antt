@@ -3,6 +3,7 @@ use Rattle.contact.specs.Patch.{Walk, arrives, inArray, noObject}
 use Rattle.card.specs.declared.paths.Path.{Path}
 use Rattle.card.specs.declared.paths.Path.the-variants.{Arrives, InArray, NoObject}
 
+-- each answer of the code
 abbrev pub walkOf : Path → Walk
 walkOf Arrives = arrives
 walkOf InArray = inArray

@@ -9,8 +9,8 @@ use Rattle.text.specs.Tree.{Forest}
 use Rattle.text.specs.Firsts.{HasFirst, Kinds}
 use Rattle.text.specs.Standing.{Stands}
 use Rattle.text.specs.Doc.{Property, docOf, kindOf}
-use Rattle.card.specs.declared.rows.Found.{Found}
-use Rattle.card.specs.declared.rows.Found.the-variants.{At, Nothing}
+use Rattle.card.specs.declared.members.Found.{Found}
+use Rattle.card.specs.declared.members.Found.the-variants.{Row, Nothing}
 
 -- a value stands at the row, the first of some
 pub record ValueAt (table : List ℕ) (row : ℕ) (f : Forest) : Type 0 where
@@ -23,12 +23,12 @@ pub record KnownAt (table : List ℕ) (row : ℕ) (f : Forest) : Type 0 where
   pub kinds : Kinds f
   pub stands : Stands table row f
 
--- the answer names the row of the member that is sought, or none
-abbrev pub Finds : (text table : List ℕ) → Found → Option Property → Type 0
-Finds text table (At k) (some p) = (f : Forest) × ValueAt table k f × (p .content ≡ docOf text f)
-Finds text table (At k) none = ⊥
-Finds text table Nothing (some p) = ⊥
-Finds text table Nothing none = Prim.Unit {0}
+-- the answer is the row of the value of the property, or there is none
+abbrev pub RowOf : (text table : List ℕ) → Found → Option Property → Type 0
+RowOf text table (Row k) (some p) = (f : Forest) × ValueAt table k f × (p .content ≡ docOf text f)
+RowOf text table (Row k) none = ⊥
+RowOf text table Nothing (some p) = ⊥
+RowOf text table Nothing none = Prim.Unit {0}
 
 -- a member of another kind counts as absent
 abbrev pub ofKind : ℕ → Option Property → Option Property

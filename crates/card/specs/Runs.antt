@@ -38,9 +38,11 @@ pub data Side (past : Bool) (n : Name) (is : Bool) : List Entry → Type 0 where
   side-more : {p : Pointer} {c : Change} {es : List Entry} → aheadBy past (orderOf (firstPart p) n) ≡ is → Side past n is es
       → Side past n is (entry p c ∷ es)
 
+-- all stand before it
 abbrev pub AllBefore : (past : Bool) → Name → List Entry → Type 0
 AllBefore past n es = Side past n true es
 
+-- none does
 abbrev pub NoneBefore : (past : Bool) → Name → List Entry → Type 0
 NoneBefore past n es = Side past n false es
 

@@ -29,44 +29,48 @@ pub record WordEnd (names : List ℕ) (from to : ℕ) : Type 0 where
 
 -- ---- the table
 
--- a property, and the object type that has it
-pub record Entry : Type 0 where
+-- a line: a property, and the object type that has it
+pub record Line : Type 0 where
   pub owner : ObjectType
   pub known : Known
 
-abbrev pub entriesOf : ObjectType → List Entry
-entriesOf o = map (λ (k : Known). record { owner = o; known = k }) (properties o)
+-- the lines of an object type
+abbrev pub linesOf : ObjectType → List Line
+linesOf o = map (λ (k : Known). record { owner = o; known = k }) (properties o)
 
-unfoldable pub entries : List Entry
-entries =
-    entriesOf card
-    ++ entriesOf name
-    ++ entriesOf nameComponent
-    ++ entriesOf address
-    ++ entriesOf addressComponent
-    ++ entriesOf emailAddress
-    ++ entriesOf phone
+-- all of them, in the order of the types' numbers
+unfoldable pub lines : List Line
+lines =
+    linesOf card
+    ++ linesOf name
+    ++ linesOf nameComponent
+    ++ linesOf address
+    ++ linesOf addressComponent
+    ++ linesOf emailAddress
+    ++ linesOf phone
 
-abbrev pub noEntry : Entry
-noEntry = record { owner = card; known = record { spelling = []; type = any; mandatory = false } }
+-- what stands behind the last one
+abbrev pub noLine : Line
+noLine = record { owner = card; known = record { spelling = []; type = any; mandatory = false } }
 
-abbrev pub isOwned : ObjectType → Entry → Bool
+-- does the object type have the property?
+abbrev pub isOwned : ObjectType → Line → Bool
 isOwned o e = eqb (numberOf (e .owner)) (numberOf o)
 
--- the entry of the property of that name
-abbrev pub isProperty : ObjectType → Name → Entry → Bool
+-- the line of the property of that name
+abbrev pub isProperty : ObjectType → Name → Line → Bool
 isProperty o n e = cond (isOwned o e) (same n (e .known .spelling)) false
 
--- the entry of a mandatory property that is not among the members
-abbrev pub isMissing : ObjectType → Members → Entry → Bool
+-- the line of a mandatory property that is not among the members
+abbrev pub isMissing : ObjectType → Members → Line → Bool
 isMissing o ms e = cond (isOwned o e) (e .known .mandatory && not (isThere (seek (e .known .spelling) ms))) false
 
 -- the code counts them too, and a law says that they agree
 abbrev pub count : ℕ
 count = 53
 
--- the number that says all of an entry but its name
-pub record CodeOf (code : ℕ) (e : Entry) : Type 0 where
+-- the number that says all of a line but its name
+pub record CodeOf (code : ℕ) (e : Line) : Type 0 where
   pub has : code / 1024 ≡ numberOf (e .owner)
   pub must : eqb (code / 512 % 2) 1 ≡ e .known .mandatory
   pub type : typeAt code ≡ e .known .type

@@ -18,6 +18,7 @@ use Rattle.card.specs.declared.types.Role.the-variants.{As, Other}
 use Rattle.card.specs.declared.types.Ty.{Ty}
 use Rattle.card.specs.declared.types.Ty.the-variants.{One, ListOf, MapOf}
 
+-- an object type of the code
 abbrev pub objectType : Object → ObjectType
 objectType Card = card
 objectType Name = name
@@ -47,10 +48,12 @@ typeName addressComponent = bytes "AddressComponent"
 typeName emailAddress = bytes "EmailAddress"
 typeName phone = bytes "Phone"
 
+-- the keys of a map
 abbrev pub keysOf : Keys → S.Keys
 keysOf Free = free
 keysOf Ids = ids
 
+-- an item is a type by itself
 abbrev pub itemType : Item → S.Ty
 itemType Any = any
 itemType AnyString = simple anyString
@@ -63,6 +66,7 @@ itemType Time = simple time
 itemType (ObjectOf o) = objectOf (objectType o)
 itemType AnyObject = mapOf free any
 
+-- a type of the code: an item, a list or a map of such
 abbrev pub typeOf : Ty → S.Ty
 typeOf (One i) = itemType i
 typeOf (ListOf i) = listOf (itemType i)
@@ -93,6 +97,7 @@ innerType (mapOf keys ty) = ty
 
 -- ---- what the numbers of the code's table stand for
 
+-- the object type with a number
 unfoldable pub objectAt : ℕ → ObjectType
 objectAt n =
     cond (eqb n 0) card
@@ -100,6 +105,7 @@ objectAt n =
     (cond (eqb n 2) nameComponent
     (cond (eqb n 3) address (cond (eqb n 4) addressComponent (cond (eqb n 5) emailAddress phone)))))
 
+-- an item: a type's own name from 64 on, an object of a type from 32 on, below that the rest
 unfoldable pub itemAt : ℕ → S.Ty
 itemAt n =
     cond (leb 64 n) (simple (exactly (typeName (objectAt (n - 64)))))
@@ -112,6 +118,7 @@ itemAt n =
     (cond (eqb n 6) (simple time)
     (cond (eqb n 7) (mapOf free any) any))))))))
 
+-- a property's type: its item, and above that whether it is a list or a map of such
 unfoldable pub typeAt : ℕ → S.Ty
 typeAt code =
     let item = itemAt (code % 128) in

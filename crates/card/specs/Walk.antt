@@ -26,6 +26,7 @@ valueNumber ty key t f =
     let own : ℕ = cond (allowed ty (kindAt f) (partOf t (startAt f) (endAt f))) 0 13 in
     cond key own 13
 
+-- a breach of the code
 abbrev pub foundOf : Breach → J.Breach
 foundOf Nothing = J.nothing
 foundOf (At row number) = J.found row number

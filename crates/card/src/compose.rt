@@ -8,6 +8,7 @@ use crate::sort::sort_rows;
 use crate::writing::put_card;
 use contact::LocalRefusal;
 use json::limits::VALUES;
+use json::rows::OBJECT;
 use json::rows::below;
 use json::rows::kind;
 ghost use Prim.Native.Nat.{_≤_};
@@ -87,7 +88,7 @@ pub(crate) fn compose_for(text: &[u8], table: &[u32], language: &[u8], out: &mut
     let Found::Row(patch) = patch_row(text, table, language) else {
         return Attempt::Refused(LocalRefusal::NoLanguage);
     };
-    if kind(table, patch) != 7 {
+    if kind(table, patch) != OBJECT {
         return Attempt::Refused(LocalRefusal::NoLanguage);
     }
     compose(text, table, text, table, patch, out)

@@ -17,7 +17,7 @@ ghost use Rattle.card.specs.Conditions.{byWalk, conditionOf};
 ghost use Rattle.card.specs.Paths.{walkOf};
 
 // All are kept, or one is broken.
-pub enum Condition {
+pub(crate) enum Condition {
     Kept,
     Broken(LocalRefusal),
 }

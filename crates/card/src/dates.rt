@@ -21,6 +21,7 @@ const MONTHS: [u32; 12] = [31, 28, 31, 30, 31, 30, 31, 31, 30, 31, 30, 31];
 // How a time begins, where d is any digit.
 const SHAPE: [u8; 19] = *b"dddd-dd-ddTdd:dd:dd";
 
+// Is it a leap year of the Gregorian calendar?
 fn is_leap(year: u32) -> bool
     ensures { λ r. ⌜ r ≡ isLeap year ⌝ }
 {
@@ -53,6 +54,7 @@ fn days_of(year: u32, month: u32) -> u32
     MONTHS[at]
 }
 
+// Does the month of that year have the day?
 fn is_day(year: u32, month: u32, day: u32) -> bool
     ensures { λ r. ⌜ r ≡ isDay year month day ⌝ }
 {

@@ -10,12 +10,12 @@ use json::rows::below;
 use json::rows::name_end;
 use json::rows::name_start;
 ghost use mathlib.Core.Path.{_≡_};
-ghost use mathlib.Core.Bool.{Bool, _||_};
+ghost use mathlib.Core.Bool.{_||_};
 ghost use mathlib.Core.List.{List};
 ghost use Prim.Native.Nat.{ℕ, _≤_};
 ghost use lib.ListN.{length};
 ghost use Rattle.text.specs.Strings.{decode};
-ghost use Rattle.text.specs.Tree.{Forest, size};
+ghost use Rattle.text.specs.Tree.{Forest};
 ghost use Rattle.text.specs.Firsts.{HasFirst, Kinds};
 ghost use Rattle.text.specs.Standing.{Stands, StandsTo};
 ghost use Rattle.text.specs.Doc.{Members, docOf, membersOf};
@@ -47,7 +47,7 @@ pub(crate) fn collect(table: &[u32], from: usize, end: usize, rows: &mut [u32]) 
 }
 
 // What is wrong with one key by itself.
-pub enum Fault {
+pub(crate) enum Fault {
     Tilde,
     Own,
 }
@@ -77,7 +77,7 @@ pub(crate) fn any_faulty(fault: Fault, text: &[u8], table: &[u32], rows: &[u32],
 }
 
 // Two rows whose pointers clash.
-pub enum Clash {
+pub(crate) enum Clash {
     Pair(usize, usize),
     Nothing,
 }
@@ -101,6 +101,7 @@ pub(crate) fn first_clash(text: &[u8], table: &[u32], rows: &[u32], n: usize) ->
     found
 }
 
+// Does the walk lead inside an array?
 fn is_in_array(p: Path) -> bool
     ensures { λ r. ⌜ r ≡ isInArray (walkOf p) ⌝ }
 {
@@ -111,7 +112,7 @@ fn is_in_array(p: Path) -> bool
     }
 }
 
-// Was there one before, or does this one meet no object?
+// Has an earlier pointer met no object, or does this one?
 fn or_no_object(before: bool, p: Path) -> bool
     ensures { λ r. ⌜ r ≡ before || isNoObject (walkOf p) ⌝ }
 {

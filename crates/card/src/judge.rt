@@ -12,8 +12,6 @@ use json::rows::value_start;
 use laws::clear::clear_words;
 use text::Reading;
 ghost use mathlib.Core.Path.{_≡_};
-ghost use mathlib.Core.List.{List};
-ghost use lib.ListN.{length};
 ghost use Rattle.text.specs.Limits.{base};
 ghost use Rattle.text.specs.Tree.{Forest};
 ghost use Rattle.contact.specs.Verdict.{faultOf};

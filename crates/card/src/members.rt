@@ -6,14 +6,13 @@ use json::names::part;
 use json::rows::below;
 use json::rows::name_end;
 use json::rows::name_start;
-ghost use mathlib.Core.Path.{_≡_};
 ghost use Rattle.text.specs.Tree.{Forest};
 ghost use Rattle.text.specs.Standing.{StandsTo};
 ghost use Rattle.card.specs.Parts.{nameLeft};
 ghost use Rattle.card.specs.Members.{Near, Finds};
 
-// Where a member was found.
-pub enum Found {
+// Where a member was found, if there is one.
+pub(crate) enum Found {
     Row(usize),
     Nothing,
 }

@@ -4,19 +4,18 @@ use json::decode::Next;
 use json::decode::next_byte;
 use laws::Order;
 ghost use mathlib.Core.Path.{_≡_};
-ghost use mathlib.Core.Bool.{Bool};
 ghost use Rattle.laws.specs.Order.{orderOf, same};
 ghost use Rattle.json.specs.Cursors.{rest};
 ghost use Rattle.contact.specs.Pointer.{pointerOf};
 ghost use Rattle.card.specs.Parts.{partLeft, partUnread, nameLeft, Goes, nameUnread, tildeLeft};
 
 // What follows a part: another, where the cursor stands, or none.
-pub enum Onward {
+pub(crate) enum Onward {
     Last,
     Part(Cursor),
 }
 
-// What a `~` and the byte after it stand for: that byte's cursor is gone on from where it counts.
+// What a `~` stands for, the cursor being behind it: `~1` is `/`, `~0` is `~`, and both bytes are passed; before any other byte it is `~` itself.
 fn tilde_byte(key: &[u8], on: Cursor) -> Next
     ensures { λ r. ⌜ partUnread (now (key .entry)) r ≡ tildeLeft (rest (now (key .entry)) on) ⌝ }
 {
@@ -58,7 +57,7 @@ pub(crate) fn name_byte(part: bool, key: &[u8], c: Cursor) -> Next
     next_byte(key, c)
 }
 
-// The order of two of them, from their cursors on.
+// The order of two parts or names, from their cursors on; `a_part`, `b_part` say which is a part of a pointer.
 pub(crate) fn names_order(
     a_part: bool,
     a: &[u8],
@@ -98,7 +97,7 @@ pub(crate) fn names_order(
     }
 }
 
-// Are they the same?
+// Are two parts or names the same, from their cursors on?
 pub(crate) fn names_same(
     a_part: bool,
     a: &[u8],

@@ -4,6 +4,8 @@ use crate::members::member_row;
 use crate::parts::Onward;
 use crate::parts::next_part;
 use json::decode::Cursor;
+use json::rows::ARRAY;
+use json::rows::OBJECT;
 use json::rows::below;
 use json::rows::kind;
 ghost use mathlib.Core.Path.{_≡_};
@@ -17,7 +19,7 @@ ghost use Rattle.contact.specs.Patch.{walk};
 ghost use Rattle.card.specs.Paths.{walkOf};
 
 // It arrives at an object that has, or could have, the last part; or goes inside an array (25); or meets no object (26).
-pub enum Path {
+pub(crate) enum Path {
     Arrives,
     InArray,
     NoObject,
@@ -29,10 +31,10 @@ pub(crate) fn follow(text: &[u8], table: &[u32], row: usize, key: &[u8], c: Curs
     ensures { λ r. ⌜ ((f : Forest) → HasFirst f → Stands (now (table .entry)) row f → Kinds f → walkOf r ≡ walk (pointerOf (rest (now (key .entry)) c)) (docOf (now (text .entry)) f)) ⌝ }
 {
     let k = kind(table, row);
-    if k == 6 {
+    if k == ARRAY {
         return Path::InArray;
     }
-    if k != 7 {
+    if k != OBJECT {
         return Path::NoObject;
     }
     let Onward::Part(on) = next_part(key, c) else {

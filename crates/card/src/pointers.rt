@@ -9,7 +9,6 @@ use json::decode::next_byte;
 use json::decode::start;
 use laws::Order;
 ghost use mathlib.Core.Path.{_≡_};
-ghost use mathlib.Core.Bool.{not};
 ghost use Rattle.laws.specs.Order.{same};
 ghost use Rattle.text.specs.Strings.{decode};
 ghost use Rattle.text.specs.Text.{bytes};

@@ -1,6 +1,8 @@
 // The rows of a value's members, by the reading layer's accessors: from one member to the next, and the member of a name.
+use crate::members::Found;
 use crate::types::is_content;
 use json::names::name_is;
+use json::rows::STRING;
 use json::rows::below;
 use json::rows::kind;
 use json::rows::name_end;
@@ -16,13 +18,8 @@ ghost use Rattle.text.specs.Standing.{StandsTo};
 ghost use Rattle.text.specs.Doc.{docOf, membersOf, seek, isThere};
 ghost use Rattle.contact.specs.Rules.{isString, hasKind};
 ghost use Rattle.json.specs.Rows.{nameStartIn, nameEndIn, belowIn};
-ghost use Rattle.card.specs.Rows.{ValueAt, Finds, ofKind};
-
-// Where a member was found.
-pub enum Found {
-    At(usize),
-    Nothing,
-}
+ghost use Rattle.card.specs.Members.{Finds};
+ghost use Rattle.card.specs.Rows.{ValueAt, RowOf, ofKind};
 
 // The row after a value and all that is below it.
 pub(crate) fn next_row(table: &[u32], at: usize) -> usize
@@ -39,15 +36,15 @@ fn is_named(text: &[u8], table: &[u32], at: usize, name: &[u8]) -> bool
     name_is(text, name_start(table, at), name_end(table, at), name)
 }
 
-// The member of a name among those of the rows from .. end.
-fn find(text: &[u8], table: &[u32], from: usize, end: usize, name: &[u8]) -> Found
+// The row of the first value among those of the rows from .. end that has the name. The name is given decoded: a backslash in it is one.
+pub(crate) fn find(text: &[u8], table: &[u32], from: usize, end: usize, name: &[u8]) -> Found
     requires { ⌜ ((f : Forest) × StandsTo (now table) from end f) ⌝ }
-    ensures { λ r. ⌜ ((f : Forest) → StandsTo (now (table .entry)) from end f → Finds (now (text .entry)) (now (table .entry)) r (seek (now (name .entry)) (membersOf (now (text .entry)) f))) ⌝ }
+    ensures { λ r. ⌜ ((f : Forest) → StandsTo (now (table .entry)) from end f → Finds (now (text .entry)) (now (table .entry)) end (now (name .entry)) f r) ⌝ }
 {
     let mut at = from;
     while at < end {
         if is_named(text, table, at, name) {
-            return Found::At(at);
+            return Found::Row(at);
         }
         at = next_row(table, at);
     }
@@ -60,7 +57,7 @@ pub(crate) fn has(text: &[u8], table: &[u32], from: usize, end: usize, name: &[u
     ensures { λ r. ⌜ ((f : Forest) → StandsTo (now (table .entry)) from end f → r ≡ isThere (seek (now (name .entry)) (membersOf (now (text .entry)) f))) ⌝ }
 {
     match find(text, table, from, end, name) {
-        Found::At(_) => true,
+        Found::Row(_) => true,
         Found::Nothing => false,
     }
 }
@@ -75,13 +72,13 @@ pub(crate) fn find_kind(
     wanted: usize,
 ) -> Found
     requires { ⌜ ((f : Forest) × StandsTo (now table) from end f) ⌝ }
-    ensures { λ r. ⌜ ((f : Forest) → StandsTo (now (table .entry)) from end f → Finds (now (text .entry)) (now (table .entry)) r (ofKind wanted (seek (now (name .entry)) (membersOf (now (text .entry)) f)))) ⌝ }
+    ensures { λ r. ⌜ ((f : Forest) → StandsTo (now (table .entry)) from end f → RowOf (now (text .entry)) (now (table .entry)) r (ofKind wanted (seek (now (name .entry)) (membersOf (now (text .entry)) f)))) ⌝ }
 {
-    let Found::At(k) = find(text, table, from, end, name) else {
+    let Found::Row(k) = find(text, table, from, end, name) else {
         return Found::Nothing;
     };
     if kind(table, k) == wanted {
-        return Found::At(k);
+        return Found::Row(k);
     }
     Found::Nothing
 }
@@ -99,7 +96,7 @@ pub(crate) fn has_kind(
     ensures { λ r. ⌜ ((f : Forest) → StandsTo (now (table .entry)) from end f → r ≡ isThere (ofKind wanted (seek (now (name .entry)) (membersOf (now (text .entry)) f)))) ⌝ }
 {
     match find_kind(text, table, from, end, name, wanted) {
-        Found::At(_) => true,
+        Found::Row(_) => true,
         Found::Nothing => false,
     }
 }
@@ -108,7 +105,7 @@ pub(crate) fn has_kind(
 fn is_string(text: &[u8], table: &[u32], k: usize, content: &[u8]) -> bool
     ensures { λ r. ⌜ ((f : Forest) → ValueAt (now (table .entry)) k f → r ≡ isString (now (content .entry)) (docOf (now (text .entry)) f)) ⌝ }
 {
-    if kind(table, k) != 5 {
+    if kind(table, k) != STRING {
         return false;
     }
     is_content(text, value_start(table, k), value_end(table, k), content)
@@ -127,7 +124,7 @@ pub(crate) fn has_string(
     ensures { λ r. ⌜ ((f : Forest) → StandsTo (now (table .entry)) from end f → r ≡ hasKind (now (content .entry)) (seek (now (name .entry)) (membersOf (now (text .entry)) f))) ⌝ }
 {
     match find(text, table, from, end, name) {
-        Found::At(k) => is_string(text, table, k, content),
+        Found::Row(k) => is_string(text, table, k, content),
         Found::Nothing => false,
     }
 }

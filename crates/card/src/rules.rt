@@ -1,10 +1,14 @@
 // Rules between members (refusal 14), by object type. A member of the wrong kind counts as absent.
-use crate::rows::Found;
+use crate::members::Found;
 use crate::rows::find_kind;
 use crate::rows::has_kind;
 use crate::rows::has_string;
 use crate::rows::next_row;
 use crate::types::Object;
+use json::rows::ARRAY;
+use json::rows::OBJECT;
+use json::rows::STRING;
+use json::rows::TRUE;
 use json::rows::kind;
 ghost use mathlib.Core.Path.{_≡_};
 ghost use Rattle.text.specs.Tree.{Forest};
@@ -20,7 +24,7 @@ fn breaks_card(text: &[u8], table: &[u32], from: usize, end: usize) -> bool
     requires { ⌜ ((f : Forest) × StandsTo (now table) from end f) ⌝ }
     ensures { λ r. ⌜ ((f : Forest) → StandsTo (now (table .entry)) from end f → r ≡ breaksCard (membersOf (now (text .entry)) f)) ⌝ }
 {
-    if !has_kind(text, table, from, end, b"members", 7) {
+    if !has_kind(text, table, from, end, b"members", OBJECT) {
         return false;
     }
     !has_string(text, table, from, end, b"kind", b"group")
@@ -33,7 +37,7 @@ fn is_separator(text: &[u8], table: &[u32], k: usize) -> bool
     requires { ⌜ ((f : Forest) × ValueAt (now table) k f) ⌝ }
     ensures { λ r. ⌜ ((f : Forest) → ValueAt (now (table .entry)) k f → r ≡ isSeparator (docOf (now (text .entry)) f)) ⌝ }
 {
-    if kind(table, k) != 7 {
+    if kind(table, k) != OBJECT {
         return false;
     }
     let end = next_row(table, k);
@@ -41,13 +45,26 @@ fn is_separator(text: &[u8], table: &[u32], k: usize) -> bool
 }
 
 // What is told of the entries of a list so far: is any a separator, are all, are two in a row, and is the last one?
-pub struct Marks {
+pub(crate) struct Marks {
     pub any: bool,
     pub all: bool,
     pub twice: bool,
     pub last: bool,
 }
 
+// What is told of no entries.
+fn no_marks() -> Marks
+    ensures { λ r. ⌜ r ≡ fresh ⌝ }
+{
+    Marks {
+        any: false,
+        all: true,
+        twice: false,
+        last: false,
+    }
+}
+
+// What is told with one more entry, a separator or not.
 fn marked(m: Marks, separator: bool) -> Marks
     ensures { λ r. ⌜ r ≡ markOn m separator ⌝ }
 {
@@ -84,12 +101,7 @@ fn tally_of(text: &[u8], table: &[u32], from: usize, end: usize) -> Marks
     requires { ⌜ ((f : Forest) × StandsTo (now table) from end f) ⌝ }
     ensures { λ r. ⌜ ((f : Forest) → StandsTo (now (table .entry)) from end f → r ≡ tally fresh (marksOf (membersOf (now (text .entry)) f))) ⌝ }
 {
-    let mut m = Marks {
-        any: false,
-        all: true,
-        twice: false,
-        last: false,
-    };
+    let mut m = no_marks();
     let mut at = from;
     while at < end {
         m = marked(m, is_separator(text, table, at));
@@ -103,13 +115,8 @@ fn components(text: &[u8], table: &[u32], from: usize, end: usize) -> Marks
     requires { ⌜ ((f : Forest) × StandsTo (now table) from end f) ⌝ }
     ensures { λ r. ⌜ ((f : Forest) → StandsTo (now (table .entry)) from end f → r ≡ tally fresh (marksIn (listIn (membersOf (now (text .entry)) f)))) ⌝ }
 {
-    let Found::At(k) = find_kind(text, table, from, end, b"components", 6) else {
-        return Marks {
-            any: false,
-            all: true,
-            twice: false,
-            last: false,
-        };
+    let Found::Row(k) = find_kind(text, table, from, end, b"components", ARRAY) else {
+        return no_marks();
     };
     let after = next_row(table, k);
     tally_of(text, table, k + 1, after)
@@ -125,16 +132,16 @@ fn breaks_separators(text: &[u8], table: &[u32], from: usize, end: usize) -> boo
     if m.twice {
         return true;
     }
-    if has_kind(text, table, from, end, b"isOrdered", 3) {
-        if has_kind(text, table, from, end, b"components", 6) {
+    if has_kind(text, table, from, end, b"isOrdered", TRUE) {
+        if has_kind(text, table, from, end, b"components", ARRAY) {
             return false;
         }
-        return has_kind(text, table, from, end, b"defaultSeparator", 5);
+        return has_kind(text, table, from, end, b"defaultSeparator", STRING);
     }
     if m.any {
         return true;
     }
-    has_kind(text, table, from, end, b"defaultSeparator", 5)
+    has_kind(text, table, from, end, b"defaultSeparator", STRING)
 }
 
 // Name: `full` or `components` is there; a list there has an entry that isn't a separator.
@@ -142,16 +149,16 @@ fn breaks_name(text: &[u8], table: &[u32], from: usize, end: usize) -> bool
     requires { ⌜ ((f : Forest) × StandsTo (now table) from end f) ⌝ }
     ensures { λ r. ⌜ ((f : Forest) → StandsTo (now (table .entry)) from end f → r ≡ breaksName (membersOf (now (text .entry)) f)) ⌝ }
 {
-    if has_kind(text, table, from, end, b"components", 6) {
+    if has_kind(text, table, from, end, b"components", ARRAY) {
         let m = components(text, table, from, end);
         if m.all {
             return true;
         }
         return breaks_separators(text, table, from, end);
     }
-    match find_kind(text, table, from, end, b"full", 5) {
+    match find_kind(text, table, from, end, b"full", STRING) {
         Found::Nothing => true,
-        Found::At(_) => breaks_separators(text, table, from, end),
+        Found::Row(_) => breaks_separators(text, table, from, end),
     }
 }
 

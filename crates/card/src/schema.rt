@@ -1,5 +1,6 @@
 // The one table of the known properties of a card's types.
-// A new property is a line in NAMES and one in KNOWN, at its type's place; the proofs compute over both and need no change.
+// A new property is a line in contact/specs/Schema.antt and, at the same place of its type, one in NAMES and one in KNOWN; COUNT, and `count` in
+// specs/Table.antt, go up by one. The proofs compute over the table.
 use crate::rows::has;
 use crate::types::Item;
 use crate::types::Keys;
@@ -18,7 +19,7 @@ ghost use Rattle.text.specs.Doc.{membersOf, seek, isThere};
 ghost use Rattle.contact.specs.Schema.{properties, typeIn};
 ghost use Rattle.contact.specs.Judge.{lacking};
 ghost use Rattle.card.specs.Types.{numberOf, objectType, typeName, typeOf, itemType, objectAt, itemAt, typeAt};
-ghost use Rattle.card.specs.Table.{count, nameWidth, wordOf, WordEnd, entries, noEntry, isOwned, isProperty, isMissing, CodeOf};
+ghost use Rattle.card.specs.Table.{count, nameWidth, wordOf, WordEnd, lines, noLine, isOwned, isProperty, isMissing, CodeOf};
 
 // ---- the table
 
@@ -69,8 +70,13 @@ const EMAIL_ADDRESS: u32 = 5;
 
 const PHONE: u32 = 6;
 
+// How many object types there are, and the bytes for each name.
+const TYPES: usize = 7;
+
+const WIDTH: usize = 20;
+
 // The names of the object types, by their numbers.
-const TYPE_NAMES: [u8; 140] = *b"\
+const TYPE_NAMES: [u8; TYPES * WIDTH] = *b"\
     Card                \
     Name                \
     NameComponent       \
@@ -79,12 +85,11 @@ const TYPE_NAMES: [u8; 140] = *b"\
     EmailAddress        \
     Phone               ";
 
-// How many properties the table has, and the bytes for each name.
+// How many properties the table has.
 const COUNT: usize = 53;
 
-const WIDTH: usize = 20;
-
-const NAMES: [u8; 1060] = *b"\
+// Their names.
+const NAMES: [u8; COUNT * WIDTH] = *b"\
     @type               \
     version             \
     uid                 \
@@ -139,6 +144,7 @@ const NAMES: [u8; 1060] = *b"\
     pref                \
     label               ";
 
+// All else of each property.
 const KNOWN: [u32; COUNT] = [
     CARD * HAS + MUST + NAME_OF + CARD, // @type
     CARD * HAS + MUST + VERSION, // version
@@ -195,6 +201,7 @@ const KNOWN: [u32; COUNT] = [
     PHONE * HAS + STRING, // label
 ];
 
+// The number of an object type in the table.
 fn number_of(o: Object) -> u32
     ensures { λ r. ⌜ r ≡ numberOf (objectType o) ⌝ }
 {
@@ -237,7 +244,7 @@ fn word_at(names: &[u8], i: usize) -> &[u8]
 // Is a name of a text, decoded, that of property i?
 fn named(text: &[u8], s: usize, e: usize, i: usize) -> bool
     requires { ⌜ i < count ⌝ }
-    ensures { λ r. ⌜ r ≡ same (nameOf (now (text .entry)) s e) (getD entries i noEntry .known .spelling) ⌝ }
+    ensures { λ r. ⌜ r ≡ same (nameOf (now (text .entry)) s e) (getD lines i noLine .known .spelling) ⌝ }
 {
     name_is(text, s, e, word_at(&NAMES, i))
 }
@@ -250,6 +257,7 @@ pub(crate) fn is_type_name(content: &[u8], o: Object) -> bool
     part_is(content, word_at(&TYPE_NAMES, i))
 }
 
+// The object type with that number.
 fn object_of(n: u32) -> Object
     ensures { λ r. ⌜ objectType r ≡ objectAt n ⌝ }
 {
@@ -264,6 +272,7 @@ fn object_of(n: u32) -> Object
     }
 }
 
+// The item that the lowest part of a property's number stands for.
 fn item_of(n: u32) -> Item
     ensures { λ r. ⌜ itemType r ≡ itemAt n ⌝ }
 {
@@ -285,6 +294,7 @@ fn item_of(n: u32) -> Item
     }
 }
 
+// The type that a property's number stands for.
 fn type_of(code: u32) -> Ty
     ensures { λ r. ⌜ typeOf r ≡ typeAt code ⌝ }
 {
@@ -300,14 +310,15 @@ fn type_of(code: u32) -> Ty
 // What the table says of property i besides its name.
 fn code_at(i: usize) -> u32
     requires { ⌜ i < count ⌝ }
-    ensures { λ r. ⌜ CodeOf r (getD entries i noEntry) ⌝ }
+    ensures { λ r. ⌜ CodeOf r (getD lines i noLine) ⌝ }
 {
     KNOWN[i]
 }
 
+// Is property i mandatory?
 fn is_needed(i: usize) -> bool
     requires { ⌜ i < count ⌝ }
-    ensures { λ r. ⌜ r ≡ getD entries i noEntry .known .mandatory ⌝ }
+    ensures { λ r. ⌜ r ≡ getD lines i noLine .known .mandatory ⌝ }
 {
     code_at(i) / MUST % 2 == 1
 }
@@ -315,7 +326,7 @@ fn is_needed(i: usize) -> bool
 // Is property i one of the object type's?
 fn is_owned(o: Object, i: usize) -> bool
     requires { ⌜ i < count ⌝ }
-    ensures { λ r. ⌜ r ≡ isOwned (objectType o) (getD entries i noEntry) ⌝ }
+    ensures { λ r. ⌜ r ≡ isOwned (objectType o) (getD lines i noLine) ⌝ }
 {
     code_at(i) / HAS == number_of(o)
 }
@@ -323,7 +334,7 @@ fn is_owned(o: Object, i: usize) -> bool
 // Is a name of a text, decoded, that of property i of the object type?
 fn is_property(text: &[u8], o: Object, s: usize, e: usize, i: usize) -> bool
     requires { ⌜ i < count ⌝ }
-    ensures { λ r. ⌜ r ≡ isProperty (objectType o) (nameOf (now (text .entry)) s e) (getD entries i noEntry) ⌝ }
+    ensures { λ r. ⌜ r ≡ isProperty (objectType o) (nameOf (now (text .entry)) s e) (getD lines i noLine) ⌝ }
 {
     if !is_owned(o, i) {
         return false;
@@ -335,7 +346,7 @@ fn is_property(text: &[u8], o: Object, s: usize, e: usize, i: usize) -> bool
 fn has_property(text: &[u8], table: &[u32], from: usize, end: usize, i: usize) -> bool
     requires { ⌜ i < count ⌝ }
     requires { ⌜ ((f : Forest) × StandsTo (now table) from end f) ⌝ }
-    ensures { λ r. ⌜ ((f : Forest) → StandsTo (now (table .entry)) from end f → r ≡ isThere (seek (getD entries i noEntry .known .spelling) (membersOf (now (text .entry)) f))) ⌝ }
+    ensures { λ r. ⌜ ((f : Forest) → StandsTo (now (table .entry)) from end f → r ≡ isThere (seek (getD lines i noLine .known .spelling) (membersOf (now (text .entry)) f))) ⌝ }
 {
     has(text, table, from, end, word_at(&NAMES, i))
 }
@@ -344,7 +355,7 @@ fn has_property(text: &[u8], table: &[u32], from: usize, end: usize, i: usize) -
 fn is_missing(text: &[u8], table: &[u32], from: usize, end: usize, o: Object, i: usize) -> bool
     requires { ⌜ i < count ⌝ }
     requires { ⌜ ((f : Forest) × StandsTo (now table) from end f) ⌝ }
-    ensures { λ r. ⌜ ((f : Forest) → StandsTo (now (table .entry)) from end f → r ≡ isMissing (objectType o) (membersOf (now (text .entry)) f) (getD entries i noEntry)) ⌝ }
+    ensures { λ r. ⌜ ((f : Forest) → StandsTo (now (table .entry)) from end f → r ≡ isMissing (objectType o) (membersOf (now (text .entry)) f) (getD lines i noLine)) ⌝ }
 {
     if !is_owned(o, i) {
         return false;

@@ -11,6 +11,7 @@ ghost use Rattle.text.specs.Sheet.{numbers};
 ghost use Rattle.contact.specs.Verdict.{refusedFault, refusedCard, paperOfVerdict};
 ghost use Rattle.contact.specs.Localize.{refusedLocal, paperOfLocalized};
 
+// A line of the sheet: its number, what goes with it, and the bytes written.
 fn line(number: u64, second: usize, written: usize) -> Paper
     ensures { λ r. ⌜ r ≡ numbers number second written ⌝ }
 {
@@ -21,6 +22,7 @@ fn line(number: u64, second: usize, written: usize) -> Paper
     }
 }
 
+// 11 to 14, and the place of the value.
 fn fault_on_paper(f: CardFault) -> Paper
     ensures { λ p. ⌜ p ≡ refusedFault f ⌝ }
 {
@@ -32,6 +34,7 @@ fn fault_on_paper(f: CardFault) -> Paper
     }
 }
 
+// The refusal of a card on paper: of its text, or of what it says.
 fn card_on_paper(r: CardRefusal) -> Paper
     ensures { λ p. ⌜ p ≡ refusedCard r ⌝ }
 {
@@ -63,6 +66,7 @@ fn inner_on_paper(r: CardRefusal) -> Paper
     }
 }
 
+// The refusal of localizing on paper: 21 to 28, or that of the card that was given.
 fn local_on_paper(r: LocalRefusal) -> Paper
     ensures { λ p. ⌜ p ≡ refusedLocal r ⌝ }
 {

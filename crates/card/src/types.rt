@@ -6,6 +6,12 @@ use crate::values::is_count;
 use crate::values::is_id;
 use json::names::part;
 use json::names::part_is;
+use json::rows::ARRAY;
+use json::rows::FALSE;
+use json::rows::NUMBER;
+use json::rows::OBJECT;
+use json::rows::STRING;
+use json::rows::TRUE;
 ghost use mathlib.Core.Path.{_≡_};
 ghost use mathlib.Core.Bool.{true, cond};
 ghost use mathlib.Core.List.{List};
@@ -18,10 +24,10 @@ ghost use Rattle.text.specs.Strings.{nameOf, contentOf};
 ghost use Rattle.text.specs.Doc.{Name};
 ghost use Rattle.contact.specs.Schema.{fits};
 ghost use Rattle.contact.specs.Judge.{allowed, memberType, keyFits};
-ghost use Rattle.card.specs.Types.{objectType, typeOf, itemType, AsObject, innerType};
+ghost use Rattle.card.specs.Types.{typeOf, itemType, AsObject, innerType};
 
 // Object types.
-pub enum Object {
+pub(crate) enum Object {
     Card,
     Name,
     NameComponent,
@@ -32,13 +38,13 @@ pub enum Object {
 }
 
 // The keys of a map: any, or Ids.
-pub enum Keys {
+pub(crate) enum Keys {
     Free,
     Ids,
 }
 
 // What a value may have to be, or each value of a list or a map.
-pub enum Item {
+pub(crate) enum Item {
     // of an unknown property: nothing is judged
     Any,
     AnyString,
@@ -57,36 +63,38 @@ pub enum Item {
     AnyObject,
 }
 
-pub enum Ty {
+// What a value has to be: one item, a list of such items, or a map of them.
+pub(crate) enum Ty {
     One(Item),
     ListOf(Item),
     MapOf(Keys, Item),
 }
 
-// The JSON kinds: 1 null, 2 false, 3 true, 4 number, 5 string, 6 array, 7 object.
+// Is it the kind of a Boolean, false or true?
 fn is_flag(kind: usize) -> bool
     ensures { λ r. ⌜ r ≡ cond (eqb kind 2) true (eqb kind 3) ⌝ }
 {
-    if kind == 2 {
+    if kind == FALSE {
         return true;
     }
-    kind == 3
+    kind == TRUE
 }
 
+// May a value of that kind be such an item?
 fn item_fits(item: Item, kind: usize) -> bool
     ensures { λ r. ⌜ r ≡ fits (itemType item) kind ⌝ }
 {
     match item {
         Item::Any => true,
-        Item::AnyString => kind == 5,
-        Item::TypeName(_) => kind == 5,
-        Item::Version => kind == 5,
+        Item::AnyString => kind == STRING,
+        Item::TypeName(_) => kind == STRING,
+        Item::Version => kind == STRING,
         Item::Flag => is_flag(kind),
         Item::Yes => is_flag(kind),
-        Item::Count(_, _) => kind == 4,
-        Item::Time => kind == 5,
-        Item::ObjectOf(_) => kind == 7,
-        Item::AnyObject => kind == 7,
+        Item::Count(_, _) => kind == NUMBER,
+        Item::Time => kind == STRING,
+        Item::ObjectOf(_) => kind == OBJECT,
+        Item::AnyObject => kind == OBJECT,
     }
 }
 
@@ -96,17 +104,18 @@ pub(crate) fn kind_fits(ty: Ty, kind: usize) -> bool
 {
     match ty {
         Ty::One(item) => item_fits(item, kind),
-        Ty::ListOf(_) => kind == 6,
-        Ty::MapOf(_, _) => kind == 7,
+        Ty::ListOf(_) => kind == ARRAY,
+        Ty::MapOf(_, _) => kind == OBJECT,
     }
 }
 
 // What a type is for the rules on objects.
-pub enum Role {
+pub(crate) enum Role {
     As(Object),
     Other,
 }
 
+// The object type of an item that is one.
 fn item_role(item: Item) -> Role
     ensures { λ r. ⌜ AsObject r (itemType item) ⌝ }
 {
@@ -193,6 +202,7 @@ pub(crate) fn is_content(text: &[u8], from: usize, to: usize, lit: &[u8]) -> boo
     part_is(content(text, from, to), lit)
 }
 
+// Is a value of that kind, which may be such an item, allowed as one?
 fn item_allows(text: &[u8], item: Item, kind: usize, from: usize, to: usize) -> bool
     ensures { λ r. ⌜ r ≡ allowed (itemType item) kind (partOf (now (text .entry)) from to) ⌝ }
 {
@@ -202,7 +212,7 @@ fn item_allows(text: &[u8], item: Item, kind: usize, from: usize, to: usize) -> 
         Item::TypeName(o) => is_type_name(content(text, from, to), o),
         Item::Version => is_content(text, from, to, b"1.0"),
         Item::Flag => true,
-        Item::Yes => kind == 3,
+        Item::Yes => kind == TRUE,
         Item::Count(low, high) => is_count(part(text, from, to), low, high),
         Item::Time => is_time(content(text, from, to)),
         Item::ObjectOf(_) => true,

@@ -10,6 +10,7 @@ ghost use Rattle.contact.specs.Values.{idByte, isId, isCount};
 // The largest unsigned integer: 2^53 - 1.
 const LARGEST: u64 = 9007199254740991;
 
+// A digit, 0-9.
 pub(crate) fn is_digit(b: u8) -> bool
     ensures { λ r. ⌜ r ≡ isDigit b ⌝ }
 {

@@ -26,7 +26,7 @@ ghost use Rattle.card.specs.Rows.{ValueAt};
 ghost use Rattle.card.specs.Walk.{objectNumber, valueNumber, foundOf};
 
 // Nothing is broken, or on a row the rule of a number.
-pub enum Breach {
+pub(crate) enum Breach {
     Nothing,
     At(usize, usize),
 }

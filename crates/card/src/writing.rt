@@ -15,6 +15,9 @@ use crate::runs::bound;
 use json::decode::Cursor;
 use json::decode::start;
 use json::names::part_is;
+use json::rows::ARRAY;
+use json::rows::NULL;
+use json::rows::OBJECT;
 use json::rows::below;
 use json::rows::kind;
 use json::rows::name_end;
@@ -42,13 +45,13 @@ ghost use Rattle.card.specs.Copied.{openOf, closeOf, headOf, labelIn, Co
 ghost use Rattle.card.specs.Patched.{InRows, Said, membersIn, isOut, keptBy, adds, pointerIn, entryOf, Ending, idle, Passed, PutMember, PutValue, PutCard};
 
 // Where the next byte goes, and whether the next member is the first of its object.
-pub(crate) struct Spot {
+struct Spot {
     pub to: usize,
     pub first: bool,
 }
 
 // A run of the rows of entries, and how many parts of each entry's pointer have been walked.
-pub(crate) struct Run {
+struct Run {
     pub lo: usize,
     pub hi: usize,
     pub parts: usize,
@@ -60,14 +63,14 @@ pub(crate) struct Run {
 fn open_of(kind: usize) -> u8
     ensures { λ r. ⌜ r ≡ openOf kind ⌝ }
 {
-    if kind == 7 { 123 } else { 91 }
+    if kind == OBJECT { 123 } else { 91 }
 }
 
 // The closing one.
 fn close_of(kind: usize) -> u8
     ensures { λ r. ⌜ r ≡ closeOf kind ⌝ }
 {
-    if kind == 7 { 125 } else { 93 }
+    if kind == OBJECT { 125 } else { 93 }
 }
 
 // What stands before the value at a row inside a container of the kind.
@@ -83,7 +86,7 @@ fn put_head(
     ensures { λ r. ⌜ Wrote (now (out .entry)) at (headOf kind first (labelIn (now (text .entry)) (now (table .entry)) row)) (now (out .exit)) r ⌝ }
 {
     let a = put_comma(first, out, at);
-    if kind == 7 {
+    if kind == OBJECT {
         let ns = name_start(table, row);
         let ne = name_end(table, row);
         let b = put_label(text, ns, ne, out, a);
@@ -93,11 +96,11 @@ fn put_head(
 }
 
 // The value at a row, whole.
-pub(crate) fn copy_value(text: &[u8], table: &[u32], row: usize, out: &mut [u8], at: usize) -> usize
+fn copy_value(text: &[u8], table: &[u32], row: usize, out: &mut [u8], at: usize) -> usize
     ensures { λ r. ⌜ Copied (now (text .entry)) (now (table .entry)) row (now (out .entry)) at (now (out .exit)) r ⌝ }
 {
     let k = kind(table, row);
-    if k < 6 {
+    if k < ARRAY {
         let from = value_start(table, row);
         let to = value_end(table, row);
         return put_part(text, from, to, out, at);
@@ -168,16 +171,13 @@ fn is_added(
 ) -> bool
     ensures { λ r. ⌜ ((t : List ℕ) (g h : Forest) → KnownAt (now (table .entry)) row g → KnownAt (now (ptable .entry)) e h → adds (membersIn root (now (text .entry)) g) (entry (pointerOf (rest (now (key .entry)) c)) (changeOf (docOf t h))) ≡ cond r (some (docOf t h)) none) ⌝ }
 {
-    if kind(ptable, e) == 1 {
+    if kind(ptable, e) == NULL {
         return false;
     }
     let Onward::Last = next_part(key, c) else {
         return false;
     };
-    if has_member(text, table, row, root, key, c) {
-        return false;
-    }
-    true
+    !has_member(text, table, row, root, key, c)
 }
 
 // The member that the entry at the row e adds to the object at a row, if it adds one.
@@ -275,12 +275,12 @@ fn put_replaced(
 ) -> Spot
     ensures { λ r. ⌜ ((h : Forest) (d : Doc) → KnownAt (now (ptable .entry)) e h → Passed (now (out .entry)) from (keptBy (some (changeOf (docOf (now (ptext .entry)) h))) d) (labelIn (now (text .entry)) (now (table .entry)) row) (now (out .exit)) r) ⌝ }
 {
-    if kind(ptable, e) == 1 {
+    if kind(ptable, e) == NULL {
         return from;
     }
     let first = from.first;
     let at = from.to;
-    let p = put_head(text, table, row, 7, first, out, at);
+    let p = put_head(text, table, row, OBJECT, first, out, at);
     let to = copy_value(ptext, ptable, e, out, p);
     Spot { to, first: false }
 }
@@ -326,7 +326,7 @@ fn put_member(
     }
     let first = from.first;
     let at = from.to;
-    let p = put_head(text, table, row, 7, first, out, at);
+    let p = put_head(text, table, row, OBJECT, first, out, at);
     let further = parts + 1;
     let inner = Run {
         lo,
@@ -338,7 +338,7 @@ fn put_member(
 }
 
 // The value at a row as the run leaves it; at the root without the member `localizations`.
-pub(crate) fn put_value(
+fn put_value(
     text: &[u8],
     table: &[u32],
     row: usize,
@@ -354,7 +354,7 @@ pub(crate) fn put_value(
     requires { ⌜ run .parts ≤ row ⌝ }
     ensures { λ r. ⌜ PutValue (now (text .entry)) (now (table .entry)) row root (now (ptext .entry)) (now (ptable .entry)) (now (rows .entry)) (run .lo) (run .hi) (run .parts) (now (out .entry)) at (now (out .exit)) r ⌝ }
 {
-    if kind(table, row) != 7 {
+    if kind(table, row) != OBJECT {
         return copy_value(text, table, row, out, at);
     }
     if is_idle(root, run) {

@@ -1,3 +1,4 @@
+-- `card::judge::fault_of` meets its contract. Assumes nothing.
 use Rattle.laws.proofs.Picks.{picks}
 use Rattle.contact.specs.Verdict.{faultOf}
 use Rattle.card.proofs.judge.fault_of.Statement.{statement}

@@ -1,3 +1,4 @@
+-- `card::judge::judge` meets its contract. Assumes nothing.
 use denote.Ref.{now}
 use Rattle.card.proofs.VerdictLaws.{read-into, rows-judged, text-refused}
 use borrow.Author.Needs.{needs}

@@ -1,3 +1,4 @@
+-- `card::judge::judge_rows` meets its contract. Assumes nothing.
 use mathlib.Core.Path.{refl, sym, ap, _∙_}
 use Rattle.contact.specs.Verdict.{faultOf}
 use Rattle.contact.specs.declared.CardRefusal.the-variants.{Card}

@@ -22,8 +22,8 @@ below-requires c κs = search needs
 add-end : tie.Need-add-end
 add-end c = omega (arith, c .below .ensures, far (c .before .before .before .before .before .before .pre .1))
 
-named-row-requires : tie.Need-named-row-requires
-named-row-requires c κs =
+find-requires : tie.Need-find-requires
+find-requires c κs =
     let p = c .before .before .before .before .before .before .pre in
     (insideAt (p .0), rw (c .below .ensures) (inside-to (p .1)))
 
@@ -31,10 +31,10 @@ returns-2 : tie.Need-returns-2
 returns-2 c =
     λ g limit h.
     let kind = c .before .before .before .kind in
-    child-is h _ _ (sym (kind .ensures) ∙ c .before .before .if1 .left) (c .named-row .result)
-    (rw (c .before .below .ensures) at (c .named-row .ensures (insideAt g) (rw (c .before .below .ensures) (inside-to (h .value)))))
+    child-is h _ _ (sym (kind .ensures) ∙ c .before .before .if1 .left) (c .find .result)
+    (rw (c .before .below .ensures) at (c .find .ensures (insideAt g) (rw (c .before .below .ensures) (inside-to (h .value)))))
 
 pub child-row-spec : {M : Type 1} → statement M
 child-row-spec =
     tie.close
-    (tie.spec kind-requires returns add-first below-requires add-end named-row-requires returns-2)
+    (tie.spec kind-requires returns add-first below-requires add-end find-requires returns-2)

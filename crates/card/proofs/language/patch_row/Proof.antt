@@ -1,7 +1,7 @@
+-- The PatchObject is a member of the card's member `localizations`. Assumes nothing.
 use Prim.Native.Nat.{_+_}
 use native.Mathlib.Omega.{arith}
 use Rattle.text.specs.Tree.{size}
--- The PatchObject is a member of the card's member `localizations`. Assumes nothing.
 use denote.Ref.{now}
 use Rattle.text.specs.Doc.{docOf}
 use Rattle.card.proofs.ChildLaws.{no-patch-in, at-row, patch-in}

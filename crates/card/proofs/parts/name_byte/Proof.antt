@@ -1,3 +1,4 @@
+-- `card::parts::name_byte` meets its contract. Assumes nothing.
 use denote.Ref.{now}
 use mathlib.Core.Path.{_∙_}
 use Rattle.card.proofs.PartLaws.{by-part, by-name}

@@ -1,3 +1,4 @@
+-- `card::parts::names_order` meets its contract. Assumes nothing.
 use Rattle.card.proofs.PartLaws.{named}
 use mathlib.Core.Path.{_≡_, refl, ap}
 use native.Mathlib.Omega.{arith}

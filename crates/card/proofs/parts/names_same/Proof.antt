@@ -1,3 +1,4 @@
+-- `card::parts::names_same` meets its contract. Assumes nothing.
 use borrow.Author.Needs.{needs}
 use Rattle.card.proofs.parts.names_same.Statement.{statement}
 use Rattle.card.proofs.parts.names_same.Tie as tie

@@ -1,3 +1,4 @@
+-- `card::parts::next_part` meets its contract. Assumes nothing.
 use mathlib.Core.Path.{_≡_, refl, sym, ap}
 use native.Mathlib.Omega.{arith}
 use lib.ListN.{length}

@@ -1,3 +1,4 @@
+-- `card::parts::part_byte` meets its contract. Assumes nothing.
 use denote.Ref.{now}
 use Rattle.json.specs.Cursors.{rest}
 use mathlib.Core.Path.{sym, _∙_}

@@ -1,3 +1,4 @@
+-- `card::parts::tilde_byte` meets its contract. Assumes nothing.
 use Rattle.laws.proofs.Picks.{picks}
 use Rattle.card.specs.Parts.{tildeLeft}
 use borrow.Author.Needs.{needs}

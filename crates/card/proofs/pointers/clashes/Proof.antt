@@ -1,3 +1,4 @@
+-- `card::pointers::clashes` meets its contract. Assumes nothing.
 use Rattle.laws.proofs.Picks.{granted, denied}
 use mathlib.Core.Path.{_≡_, refl, sym, _∙_}
 use lib.ListN.{length}

@@ -1,3 +1,4 @@
+-- `card::pointers::has_bad_tilde` meets its contract. Assumes nothing.
 use borrow.Author.Tests.{ne-eqb}
 use mathlib.Core.Path.{_≡_, refl, ap}
 use native.Mathlib.Omega.{arith}

@@ -1,3 +1,4 @@
+-- `card::pointers::is_own` meets its contract. Assumes nothing.
 use Rattle.text.specs.Strings.{conts}
 use Rattle.text.specs.Strings.{pieceBy, decodeFrom}
 use Rattle.laws.specs.Scan.{scan}

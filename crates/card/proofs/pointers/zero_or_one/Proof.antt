@@ -1,3 +1,4 @@
+-- `card::pointers::zero_or_one` meets its contract. Assumes nothing.
 use Rattle.laws.proofs.Picks.{picks}
 use borrow.Author.Needs.{needs}
 use Rattle.card.proofs.pointers.zero_or_one.Statement.{statement}

@@ -5,9 +5,9 @@ use denote.Ref.{now}
 use borrow.Author.Tests.{eq-eqb, ne-eqb}
 use mathlib.Core.Option.{Option}
 use Rattle.text.specs.Doc.{Property}
-use Rattle.card.specs.declared.rows.Found.the-variants.{At, Nothing}
-use Rattle.card.specs.Rows.{Finds, ofKind}
-use Rattle.card.proofs.ValueLaws.{seekIn, value-kind, by-found, by-nothing}
+use Rattle.card.specs.declared.members.Found.the-variants.{Row, Nothing}
+use Rattle.card.specs.Rows.{RowOf, ofKind}
+use Rattle.card.proofs.ValueLaws.{seekIn, row-of, value-kind, by-found, by-nothing}
 use Rattle.card.proofs.rows.find_kind.Statement.{statement}
 use Rattle.card.proofs.rows.find_kind.Tie as tie
 
@@ -26,8 +26,10 @@ returns c =
     let a = c .before .before .before .before .before .before .args in
     let text = now (a .text) in
     let table = now (a .table) in
-    by-nothing text table (seekIn text (now (a .name)) f) (c .before .before .find .ensures f s)
-    (λ (o : Option Property). Finds text table Nothing (ofKind (a .wanted) o)) (c .enum-told .given .1) tt
+    let find = c .before .before .find in
+    by-nothing text table (seekIn text (now (a .name)) f)
+    (row-of text table (a .end) (now (a .name)) f (find .result) (find .ensures f s))
+    (λ (o : Option Property). RowOf text table Nothing (ofKind (a .wanted) o)) (c .enum-told .given .1) tt
 
 kind-requires : tie.Need-kind-requires
 kind-requires c κs = search needs
@@ -40,8 +42,9 @@ returns-2 c =
     let table = now (a .table) in
     let find = c .before .before .before .before .before .find in
     let k = c .before .before .before .k in
-    by-found text table (seekIn text (now (a .name)) f) (find .ensures f s)
-    (λ (o : Option Property). Finds text table (At (k .given .0 .0)) (ofKind (a .wanted) o)) (k .given .1)
+    by-found text table (seekIn text (now (a .name)) f)
+    (row-of text table (a .end) (now (a .name)) f (find .result) (find .ensures f s))
+    (λ (o : Option Property). RowOf text table (Row (k .given .0 .0)) (ofKind (a .wanted) o)) (k .given .1)
     (λ p g v e. rw (e, ← value-kind text g v, ← c .before .kind .ensures, eq-eqb (c .before .kind .result) (a .wanted) (c .if1 .taken)) (g, v, refl))
 
 returns-3 : tie.Need-returns-3
@@ -52,7 +55,9 @@ returns-3 c =
     let table = now (a .table) in
     let find = c .before .before .before .before .before .find in
     let k = c .before .before .before .k in
-    by-found text table (seekIn text (now (a .name)) f) (find .ensures f s) (λ (o : Option Property). Finds text table Nothing (ofKind (a .wanted) o))
+    by-found text table (seekIn text (now (a .name)) f)
+    (row-of text table (a .end) (now (a .name)) f (find .result) (find .ensures f s))
+    (λ (o : Option Property). RowOf text table Nothing (ofKind (a .wanted) o))
     (k .given .1)
     (λ p g v e. rw (e, ← value-kind text g v, ← c .before .kind .ensures, ne-eqb (c .before .kind .result) (a .wanted) (c .if1 .left)) tt)
 

@@ -5,7 +5,7 @@ use denote.Ref.{now}
 use mathlib.Core.Bool.{true, false}
 use mathlib.Core.Option.{Option}
 use Rattle.text.specs.Doc.{Property, isThere}
-use Rattle.card.proofs.ValueLaws.{seekIn, by-found, by-nothing}
+use Rattle.card.proofs.ValueLaws.{seekIn, row-of, by-found, by-nothing}
 use Rattle.card.proofs.rows.has.Statement.{statement}
 use Rattle.card.proofs.rows.has.Tie as tie
 
@@ -23,7 +23,10 @@ returns c =
     λ f s.
     let a = c .before .before .before .before .before .before .args in
     let text = now (a .text) in
-    by-found text (now (a .table)) (seekIn text (now (a .name)) f) (c .before .before .find .ensures f s) (λ (o : Option Property). true ≡ isThere o)
+    let find = c .before .before .find in
+    by-found text (now (a .table)) (seekIn text (now (a .name)) f)
+    (row-of text (now (a .table)) (a .end) (now (a .name)) f (find .result) (find .ensures f s))
+    (λ (o : Option Property). true ≡ isThere o)
     (c .enum-told .given .1) (λ p g v e. refl)
 
 returns-2 : tie.Need-returns-2
@@ -31,7 +34,9 @@ returns-2 c =
     λ f s.
     let a = c .before .before .before .before .before .before .args in
     let text = now (a .text) in
-    by-nothing text (now (a .table)) (seekIn text (now (a .name)) f) (c .before .before .find .ensures f s)
+    let find = c .before .before .find in
+    by-nothing text (now (a .table)) (seekIn text (now (a .name)) f)
+    (row-of text (now (a .table)) (a .end) (now (a .name)) f (find .result) (find .ensures f s))
     (λ (o : Option Property). false ≡ isThere o) (c .enum-told2 .given .1) refl
 
 pub has-spec : {M : Type 1} → statement M

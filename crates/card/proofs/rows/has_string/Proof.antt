@@ -6,7 +6,7 @@ use mathlib.Core.Bool.{false}
 use mathlib.Core.Option.{Option}
 use Rattle.text.specs.Doc.{Property}
 use Rattle.contact.specs.Rules.{hasKind}
-use Rattle.card.proofs.ValueLaws.{seekIn, by-found, by-nothing}
+use Rattle.card.proofs.ValueLaws.{seekIn, row-of, by-found, by-nothing}
 use Rattle.card.proofs.rows.has_string.Statement.{statement}
 use Rattle.card.proofs.rows.has_string.Tie as tie
 
@@ -28,7 +28,8 @@ returns c =
     let a = c .before .before .before .before .before .before .before .before .before .args in
     let text = now (a .text) in
     let find = c .before .before .before .before .find in
-    by-found text (now (a .table)) (seekIn text (now (a .name)) f) (find .ensures f s)
+    by-found text (now (a .table)) (seekIn text (now (a .name)) f)
+    (row-of text (now (a .table)) (a .end) (now (a .name)) f (find .result) (find .ensures f s))
     (λ (o : Option Property). c .is-string .result ≡ hasKind (now (a .content)) o) (c .before .before .k .given .1)
     (λ p g v e. rw e (c .is-string .ensures g v))
 
@@ -37,7 +38,9 @@ returns-2 c =
     λ f s.
     let a = c .before .before .before .before .before .before .before .args in
     let text = now (a .text) in
-    by-nothing text (now (a .table)) (seekIn text (now (a .name)) f) (c .before .before .find .ensures f s)
+    let find = c .before .before .find in
+    by-nothing text (now (a .table)) (seekIn text (now (a .name)) f)
+    (row-of text (now (a .table)) (a .end) (now (a .name)) f (find .result) (find .ensures f s))
     (λ (o : Option Property). false ≡ hasKind (now (a .content)) o) (c .enum-told .given .1) refl
 
 pub has-string-spec : {M : Type 1} → statement M

@@ -1,5 +1,5 @@
 -- `card::rules::components` meets its contract: the list is found by its row, or there is none. Assumes nothing.
-use mathlib.Core.Path.{_≡_, refl}
+use mathlib.Core.Path.{_≡_}
 use borrow.Author.Needs.{needs}
 use denote.Ref.{now}
 use mathlib.Core.Option.{Option}
@@ -22,14 +22,17 @@ enum-known-k c = search needs
 enum-told : tie.Need-enum-told
 enum-told c = search needs
 
+no-marks-requires : tie.Need-no-marks-requires
+no-marks-requires c κs = search needs
+
 returns : tie.Need-returns
 unfolding tally
 returns c =
     λ f s.
-    let a = c .before .before .before .before .before .before .args in
+    let a = c .before .before .before .before .before .before .before .args in
     let text = now (a .text) in
-    by-nothing text (now (a .table)) (listIn (membersOf text f)) (c .before .before .find-kind .ensures f s)
-    (λ (o : Option Property). fresh ≡ tally fresh (marksIn o)) (c .enum-told .given .1) refl
+    by-nothing text (now (a .table)) (listIn (membersOf text f)) (c .before .before .before .find-kind .ensures f s)
+    (λ (o : Option Property). c .no-marks .result ≡ tally fresh (marksIn o)) (c .before .enum-told .given .1) (c .no-marks .ensures)
 
 next-row-requires : tie.Need-next-row-requires
 next-row-requires c κs =
@@ -71,6 +74,7 @@ components-spec =
     find-kind-requires
     enum-known-k
     enum-told
+    no-marks-requires
     returns
     next-row-requires
     add-tally-of

@@ -17,14 +17,17 @@ Inv-loop text table from end m₀ at₀ m at = Along table from end (tallyIn tex
 abbrev μ-loop : tie.MeasureT-loop
 μ-loop text table from end m₀ at₀ m at = end - at
 
+no-marks-requires : tie.Need-no-marks-requires Inv-loop μ-loop
+no-marks-requires c κs = search needs
+
 loop-holds : tie.Need-loop-holds Inv-loop μ-loop
-loop-holds c = along _ _ _ _
+loop-holds c = rw (c .no-marks .ensures) (along _ _ _ _)
 
 is-separator-requires : tie.Need-is-separator-requires Inv-loop μ-loop
 is-separator-requires c κs =
-    let a = c .before .before .before .before .args in
+    let a = c .before .before .before .before .before .args in
     let text = now (a .text) in
-    let p = c .before .before .before .before .pre in
+    let p = c .before .before .before .before .before .pre in
     let (ws, v, le) = along-here (now (a .table)) (a .from) (a .end) (tallyIn text fresh) (c .before .loop .at) (tallyIn text (c .before .loop .m))
     (c .before .loop .inv) (p .0) (p .1) (c .loop-test .taken) in
     (ws, v)
@@ -34,9 +37,9 @@ marked-requires c κs = search needs
 
 next-row-requires : tie.Need-next-row-requires Inv-loop μ-loop
 next-row-requires c κs =
-    let a = c .before .before .before .before .before .before .args in
+    let a = c .before .before .before .before .before .before .before .args in
     let text = now (a .text) in
-    let p = c .before .before .before .before .before .before .pre in
+    let p = c .before .before .before .before .before .before .before .pre in
     let loop = c .before .before .before .loop in
     let (ws, v, le) = along-here (now (a .table)) (a .from) (a .end) (tallyIn text fresh) (loop .at) (tallyIn text (loop .m)) (loop .inv) (p .0)
     (p .1) (c .before .before .loop-test .taken) in
@@ -44,9 +47,9 @@ next-row-requires c κs =
 
 loop-less : tie.Need-loop-less Inv-loop μ-loop
 loop-less c =
-    let a = c .before .before .before .before .before .before .before .args in
+    let a = c .before .before .before .before .before .before .before .before .args in
     let text = now (a .text) in
-    let p = c .before .before .before .before .before .before .before .pre in
+    let p = c .before .before .before .before .before .before .before .before .pre in
     let loop = c .before .before .before .before .loop in
     let loop-test = c .before .before .before .loop-test in
     let (ws, v, le) = along-here (now (a .table)) (a .from) (a .end) (tallyIn text fresh) (loop .at) (tallyIn text (loop .m)) (loop .inv) (p .0)
@@ -55,7 +58,7 @@ loop-less c =
 
 loop-again : tie.Need-loop-again Inv-loop μ-loop
 loop-again c =
-    let a = c .before .before .before .before .before .before .before .args in
+    let a = c .before .before .before .before .before .before .before .before .args in
     let text = now (a .text) in
     let loop = c .before .before .before .before .loop in
     let loop-test = c .before .before .before .loop-test in
@@ -66,7 +69,7 @@ loop-again c =
 
 returns : tie.Need-returns Inv-loop μ-loop
 returns c =
-    let a = c .before .before .before .before .args in
+    let a = c .before .before .before .before .before .args in
     let text = now (a .text) in
     along-end (now (a .table)) (a .from) (a .end) (tallyIn text fresh) (c .before .loop .at) (tallyIn text (c .before .loop .m))
     (c .before .loop .inv) (c .loop-test .left) (λ (r : Marks). c .before .loop .m ≡ r) (sym (tally-end text (c .before .loop .m)))
@@ -77,6 +80,7 @@ tally-of-spec =
     (tie.spec
     Inv-loop
     μ-loop
+    no-marks-requires
     loop-holds
     is-separator-requires
     marked-requires

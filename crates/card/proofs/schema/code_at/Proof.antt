@@ -1,10 +1,10 @@
--- `card::schema::code_at` meets its contract: the column is that of the entries, by computation over all of it. Assumes nothing.
+-- `card::schema::code_at` meets its contract: the column is that of the lines, by computation over all of it. Assumes nothing.
 use Prim.Native.Nat.{ℕ, _/_, _%_}
 use lib.Dec.{eqb}
 use borrow.Author.Needs.{needs}
 use Rattle.contact.specs.Schema.{properties}
 use Rattle.card.specs.Types.{numberOf, objectAt, itemAt, typeAt}
-use Rattle.card.specs.Table.{Entry, entries, noEntry}
+use Rattle.card.specs.Table.{Line, lines, noLine}
 use lib.ListN.{List·getD-map}
 use Rattle.card.proofs.schema.code_at.Statement.{statement}
 use Rattle.card.proofs.schema.code_at.Tie as tie
@@ -16,12 +16,12 @@ array-read-result : tie.Need-array-read-result
 array-read-result c = search needs
 
 returns : tie.Need-returns
-unfolding entries properties typeAt itemAt objectAt
+unfolding lines properties typeAt itemAt objectAt
 returns c =
     record {
-      has = rw (← List·getD-map (λ (n : ℕ). n / 1024)) (List·getD-map (λ (e : Entry). numberOf (e .owner)) entries (c .args .i) noEntry);
-      must = rw (← List·getD-map (λ (n : ℕ). eqb (n / 512 % 2) 1)) (List·getD-map (λ (e : Entry). e .known .mandatory) entries (c .args .i) noEntry);
-      type = rw (← List·getD-map typeAt) (List·getD-map (λ (e : Entry). e .known .type) entries (c .args .i) noEntry);
+      has = rw (← List·getD-map (λ (n : ℕ). n / 1024)) (List·getD-map (λ (e : Line). numberOf (e .owner)) lines (c .args .i) noLine);
+      must = rw (← List·getD-map (λ (n : ℕ). eqb (n / 512 % 2) 1)) (List·getD-map (λ (e : Line). e .known .mandatory) lines (c .args .i) noLine);
+      type = rw (← List·getD-map typeAt) (List·getD-map (λ (e : Line). e .known .type) lines (c .args .i) noLine);
     }
 
 pub code-at-spec : {M : Type 1} → statement M

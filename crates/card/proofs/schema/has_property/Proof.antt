@@ -1,10 +1,10 @@
--- `card::schema::has_property` meets its contract: the word is the entry's spelling. Assumes nothing.
+-- `card::schema::has_property` meets its contract: the word is the line's spelling. Assumes nothing.
 use mathlib.Core.Path.{ap, _∙_}
 use borrow.Author.Needs.{needs}
 use denote.Ref.{now}
 use Rattle.text.specs.Doc.{Name, membersOf, seek, isThere}
 use Rattle.contact.specs.Schema.{properties}
-use Rattle.card.specs.Table.{entries}
+use Rattle.card.specs.Table.{lines}
 use Rattle.card.proofs.Columns.{name-at}
 use Rattle.card.proofs.schema.has_property.Statement.{statement}
 use Rattle.card.proofs.schema.has_property.Tie as tie
@@ -16,11 +16,11 @@ word-at-requires : tie.Need-word-at-requires
 word-at-requires c κs = search needs
 
 has-requires : tie.Need-has-requires
-unfolding entries properties
+unfolding lines properties
 has-requires c κs = c .before .before .before .before .pre .1
 
 returns : tie.Need-returns
-unfolding entries properties
+unfolding lines properties
 returns c =
     λ f s.
     let a = c .before .before .before .before .before .args in

@@ -1,4 +1,4 @@
--- `card::schema::is_lacking` meets its contract: a search through the table. The measure is the entries left. Assumes nothing.
+-- `card::schema::is_lacking` meets its contract: a search through the table. The measure is the lines left. Assumes nothing.
 use mathlib.Core.Path.{_≡_, sym, _∙_}
 use Prim.Native.Nat.{_≤_, _-_}
 use native.Mathlib.Omega.{arith}
@@ -11,7 +11,7 @@ use Rattle.text.specs.Doc.{membersOf}
 use Rattle.contact.specs.Schema.{properties}
 use Rattle.contact.specs.Judge.{lacking}
 use Rattle.card.specs.Types.{objectType}
-use Rattle.card.specs.Table.{entries, count}
+use Rattle.card.specs.Table.{lines, count}
 use Rattle.card.proofs.Search.{lackingAmong, lacking-all, lacking-hit, lacking-on, lacking-end}
 use Rattle.card.proofs.schema.is_lacking.Statement.{statement}
 use Rattle.card.proofs.schema.is_lacking.Tie as tie
@@ -19,7 +19,7 @@ use Rattle.card.proofs.schema.is_lacking.Tie as tie
 abbrev Inv-loop : tie.InvT-loop
 Inv-loop text table from end o i₀ i =
     ((f : Forest) → StandsTo table from end f
-    → lackingAmong (objectType o) (membersOf text f) (drop i entries) ≡ lacking (properties (objectType o)) (membersOf text f)) × (i ≤ count)
+    → lackingAmong (objectType o) (membersOf text f) (drop i lines) ≡ lacking (properties (objectType o)) (membersOf text f)) × (i ≤ count)
 
 abbrev μ-loop : tie.MeasureT-loop
 μ-loop text table from end o i₀ i = count - i

@@ -1,11 +1,11 @@
--- `card::schema::named` meets its contract: the word is the entry's spelling. Assumes nothing.
+-- `card::schema::named` meets its contract: the word is the line's spelling. Assumes nothing.
 use mathlib.Core.Path.{ap, _∙_}
 use borrow.Author.Needs.{needs}
 use denote.Ref.{now}
 use Rattle.contact.specs.Schema.{properties}
 use Rattle.text.specs.Strings.{nameOf}
 use Rattle.laws.specs.Order.{same}
-use Rattle.card.specs.Table.{entries}
+use Rattle.card.specs.Table.{lines}
 use Rattle.card.proofs.Columns.{name-at}
 use Rattle.card.proofs.schema.named.Statement.{statement}
 use Rattle.card.proofs.schema.named.Tie as tie
@@ -20,7 +20,7 @@ name-is-requires : tie.Need-name-is-requires
 name-is-requires c κs = search needs
 
 returns : tie.Need-returns
-unfolding entries properties
+unfolding lines properties
 returns c =
     let a = c .before .before .before .before .args in
     let p = c .before .before .before .before .pre in

@@ -1,4 +1,4 @@
--- `card::schema::type_in` meets its contract: a search through the entries. The measure is the entries left. Assumes nothing.
+-- `card::schema::type_in` meets its contract: a search through the lines. The measure is the lines left. Assumes nothing.
 use mathlib.Core.Path.{_≡_, sym, _∙_}
 use Prim.Native.Nat.{_≤_, _-_}
 use native.Mathlib.Omega.{arith}
@@ -8,13 +8,13 @@ use lib.ListN.{drop}
 use Rattle.text.specs.Strings.{nameOf}
 use Rattle.contact.specs.Schema.{properties, typeIn}
 use Rattle.card.specs.Types.{objectType}
-use Rattle.card.specs.Table.{entries, count}
+use Rattle.card.specs.Table.{lines, count}
 use Rattle.card.proofs.Search.{typeAmong, type-all, type-hit, type-on, type-end}
 use Rattle.card.proofs.schema.type_in.Statement.{statement}
 use Rattle.card.proofs.schema.type_in.Tie as tie
 
 abbrev Inv-loop : tie.InvT-loop
-Inv-loop text o s e i₀ i = (typeAmong (objectType o) (nameOf text s e) (drop i entries) ≡ typeIn (properties (objectType o)) (nameOf text s e)) × (i ≤ count)
+Inv-loop text o s e i₀ i = (typeAmong (objectType o) (nameOf text s e) (drop i lines) ≡ typeIn (properties (objectType o)) (nameOf text s e)) × (i ≤ count)
 
 abbrev μ-loop : tie.MeasureT-loop
 μ-loop text o s e i₀ i = count - i

@@ -1,3 +1,4 @@
+-- `card::sheet::card_on_paper` meets its contract. Assumes nothing.
 use Rattle.contact.specs.Verdict.{refusedCard}
 use borrow.Author.Needs.{needs}
 use Rattle.card.proofs.sheet.card_on_paper.Statement.{statement}

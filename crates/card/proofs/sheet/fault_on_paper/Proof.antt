@@ -1,3 +1,4 @@
+-- `card::sheet::fault_on_paper` meets its contract. Assumes nothing.
 use Rattle.contact.specs.Verdict.{refusedFault}
 use borrow.Author.Needs.{needs}
 use Rattle.card.proofs.sheet.fault_on_paper.Statement.{statement}

@@ -1,3 +1,4 @@
+-- `card::sheet::inner_on_paper` meets its contract. Assumes nothing.
 use mathlib.Core.Path.{refl}
 use borrow.Author.Needs.{needs}
 use Rattle.card.proofs.sheet.inner_on_paper.Statement.{statement}

@@ -1,3 +1,4 @@
+-- `card::sheet::local_on_paper` meets its contract. Assumes nothing.
 use Rattle.contact.specs.Localize.{refusedLocal}
 use borrow.Author.Needs.{needs}
 use Rattle.card.proofs.sheet.local_on_paper.Statement.{statement}

@@ -1,3 +1,4 @@
+-- `card::sheet::localized_on_paper` meets its contract. Assumes nothing.
 use Rattle.contact.specs.Localize.{paperOfLocalized}
 use borrow.Author.Needs.{needs}
 use Rattle.card.proofs.sheet.localized_on_paper.Statement.{statement}

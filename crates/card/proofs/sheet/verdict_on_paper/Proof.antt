@@ -1,3 +1,4 @@
+-- `card::sheet::verdict_on_paper` meets its contract. Assumes nothing.
 use Rattle.contact.specs.Verdict.{paperOfVerdict}
 use borrow.Author.Needs.{needs}
 use Rattle.card.proofs.sheet.verdict_on_paper.Statement.{statement}

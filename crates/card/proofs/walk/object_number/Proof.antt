@@ -1,3 +1,4 @@
+-- `card::walk::object_number` meets its contract. Assumes nothing.
 use Rattle.card.specs.Walk.{objectNumber}
 use Rattle.laws.proofs.Picks.{granted, denied}
 use borrow.Author.Needs.{needs}

@@ -8,7 +8,7 @@ use Rattle.contact.specs.Patch.{changeOf}
 use Rattle.json.specs.Cursors.{rest}
 use Rattle.card.specs.Patched.{membersIn}
 use Rattle.card.proofs.Walks.{value-row}
-use Rattle.card.proofs.PatchLaws.{adds-null, adds-down, adds-none, adds-it}
+use Rattle.card.proofs.PatchLaws.{adds-null, adds-down, adds-last}
 use borrow.Author.Needs.{needs}
 use Rattle.card.proofs.writing.is_added.Statement.{statement}
 use Rattle.card.proofs.writing.is_added.Tie as tie
@@ -45,24 +45,13 @@ has-member-requires c κs = search needs
 returns-3 : tie.Need-returns-3
 returns-3 c =
     λ t g h v w.
-    let a = c .before .before .before .before .before .before .before .before .before .before .before .args in
-    let kind = c .before .before .before .before .before .before .kind in
-    let if1 = c .before .before .before .before .before .if1 in
-    let next-part = c .before .before .before .before .next-part in
-    adds-none (membersIn (a .root) (now (a .text)) g) (pointerOf (rest (now (a .key)) (a .c))) (docOf t h)
-    (rw (c .before .before .enum-told .given .1) at (next-part .ensures))
-    (λ e. if1 .left (kind .ensures ∙ value-row w .kind ∙ sym (doc-kind t h (w .some)) ∙ e)) (c .before .has-member .ensures g v) (c .if2 .taken)
-
-returns-4 : tie.Need-returns-4
-returns-4 c =
-    λ t g h v w.
-    let a = c .before .before .before .before .before .before .before .before .before .before .before .args in
-    let kind = c .before .before .before .before .before .before .kind in
-    let if1 = c .before .before .before .before .before .if1 in
-    let next-part = c .before .before .before .before .next-part in
-    adds-it (membersIn (a .root) (now (a .text)) g) (pointerOf (rest (now (a .key)) (a .c))) (docOf t h)
-    (rw (c .before .before .enum-told .given .1) at (next-part .ensures))
-    (λ e. if1 .left (kind .ensures ∙ value-row w .kind ∙ sym (doc-kind t h (w .some)) ∙ e)) (c .before .has-member .ensures g v) (c .if2 .left)
+    let a = c .before .before .before .before .before .before .before .before .before .before .args in
+    let kind = c .before .before .before .before .before .kind in
+    let if1 = c .before .before .before .before .if1 in
+    let next-part = c .before .before .before .next-part in
+    adds-last (membersIn (a .root) (now (a .text)) g) (pointerOf (rest (now (a .key)) (a .c))) (docOf t h)
+    (rw (c .before .enum-told .given .1) at (next-part .ensures))
+    (λ e. if1 .left (kind .ensures ∙ value-row w .kind ∙ sym (doc-kind t h (w .some)) ∙ e)) (c .has-member .ensures g v)
 
 pub is-added-spec : {M : Type 1} → statement M
 is-added-spec =
@@ -75,5 +64,4 @@ is-added-spec =
     enum-told-2
     returns-2
     has-member-requires
-    returns-3
-    returns-4)
+    returns-3)
