@@ -1,31 +1,10 @@
--- `card::output::short_of` meets its contract. Assumes nothing.
+-- `card::output::short_of` meets its contract: an arm of a byte makes `shortOf` compute; the last is none of them. Assumes nothing.
 use borrow.Author.Tests.{ne-eqb}
 use Rattle.card.proofs.output.short_of.Statement.{statement}
 use Rattle.card.proofs.output.short_of.Tie as tie
 
-returns : tie.Need-returns
-returns c = rw (c .match .keys1)
-
-returns-2 : tie.Need-returns-2
-returns-2 c = rw (c .match .keys2)
-
-returns-3 : tie.Need-returns-3
-returns-3 c = rw (c .match .keys3)
-
-returns-4 : tie.Need-returns-4
-returns-4 c = rw (c .match .keys4)
-
-returns-5 : tie.Need-returns-5
-returns-5 c = rw (c .match .keys5)
-
-returns-6 : tie.Need-returns-6
-returns-6 c = rw (c .match .keys6)
-
-returns-7 : tie.Need-returns-7
-returns-7 c = rw (c .match .keys7)
-
-returns-8 : tie.Need-returns-8
-returns-8 c =
+otherwise : tie.Need-returns-8
+otherwise c =
     let r = c .match .rest in
     rw (
       ne-eqb _ 34 (r .0 .0 .0 .0 .0 .0 .1),
@@ -40,4 +19,5 @@ returns-8 c =
 pub short-of-spec : {M : Type 1} → statement M
 short-of-spec =
     tie.close
-    (tie.spec returns returns-2 returns-3 returns-4 returns-5 returns-6 returns-7 returns-8)
+    (tie.spec (λ c. rw (c .match .keys1)) (λ c. rw (c .match .keys2)) (λ c. rw (c .match .keys3)) (λ c. rw (c .match .keys4))
+    (λ c. rw (c .match .keys5)) (λ c. rw (c .match .keys6)) (λ c. rw (c .match .keys7)) otherwise)
