@@ -4,7 +4,7 @@ use mathlib.Core.List.{List}
 use Prim.Native.Nat.{ℕ, _+_, _-_, _<_}
 use native.Mathlib.Omega.{arith}
 use lib.ListN.{length}
-use Rattle.text.specs.Tree.{Bracket, square, curly, kindIn, none, node, size}
+use Rattle.text.specs.Tree.{Bracket, square, curly, bracketKind, none, node, size}
 use Rattle.text.specs.Reader.{Read, closeOf}
 use Rattle.text.proofs.Stores.{rows-close}
 use Rattle.json.specs.Rows.{Word}
@@ -12,7 +12,7 @@ use Rattle.json.specs.Parts.{Took, Closable, Closes}
 use Rattle.json.specs.declared.values.Part.{Part}
 use Rattle.json.specs.declared.values.Part.the-variants.{Next, Stop}
 
-pub kind-fits : (b : Bracket) → Word (kindIn b)
+pub kind-fits : (b : Bracket) → Word (bracketKind b)
 kind-fits square = omega arith
 kind-fits curly = omega arith
 
@@ -24,7 +24,7 @@ closable R t limit at n old mid (Next to after) h w g = (omega arith, (omega (ar
 
 -- what closing makes of what was read inside
 pub closed : (b : Bracket) (R : Read) (ns ne at n : ℕ) (t : List ℕ) (limit : ℕ) (old mid new : List ℕ) (inner r : Part)
-    → Took R t limit (at + 1) (n + 1) old mid inner → Closes (kindIn b) ns ne at n inner mid new r → Took (closeOf b ns ne at R) t limit at n old new
+    → Took R t limit (at + 1) (n + 1) old mid inner → Closes (bracketKind b) ns ne at n inner mid new r → Took (closeOf b ns ne at R) t limit at n old new
     r
 unfolding closeOf size
 closed b R ns ne at n t limit old mid new (Stop x) r g e = rw e (rw g)

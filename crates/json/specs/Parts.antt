@@ -31,7 +31,7 @@ pub record Asks (t table : List ℕ) (limit at n : ℕ) : Type 0 where
   pub few : n ≤ limit
 
 -- a name's places are inside the text
-pub record Spot (t : List ℕ) (ns ne : ℕ) : Type 0 where
+pub record NamePlaces (t : List ℕ) (ns ne : ℕ) : Type 0 where
   pub starts : ns ≤ length t
   pub ends : ne ≤ length t
 
@@ -109,6 +109,6 @@ Member t done at (Value ne from) = (limit : ℕ) (value : Reader) (n : ℕ) → 
 Member t done at (Broken r) = (limit : ℕ) (value : Reader) (n : ℕ) → memberOf (upTo limit) t value done at n ≡ bad r
 
 -- The answer on a member's name at a place, where the object's earlier members are the rows from `first` up to `end`.
-pub record Named (t table : List ℕ) (first end at : ℕ) (r : Key) : Type 0 where
+pub record KeyRead (t table : List ℕ) (first end at : ℕ) (r : Key) : Type 0 where
   pub inside : KeyIn t at r
   pub is : (done : Forest) → StandsTo table first end done → Member t done at r

@@ -16,7 +16,7 @@ ghost use Rattle.text.specs.Standing.{StandsTo};
 ghost use Rattle.text.specs.Strings.{nameOf};
 ghost use Rattle.text.specs.Reader as reader;
 ghost use Rattle.json.specs.Rows.{Word};
-ghost use Rattle.json.specs.Parts.{Colon, Named};
+ghost use Rattle.json.specs.Parts.{Colon, KeyRead};
 
 // A member's name: where it ends and where the value is; or the refusal.
 pub enum Key {
@@ -59,7 +59,7 @@ fn colon(text: &[u8], end: usize) -> Key
 pub(crate) fn read_key(text: &[u8], table: &[u32], first: usize, end: usize, at: usize) -> Key
     requires { ⌜ Word end ⌝ }
     requires { ⌜ at ≤ length (now text) ⌝ }
-    ensures { λ r. ⌜ Named (now (text .entry)) (now (table .entry)) first end at r ⌝ }
+    ensures { λ r. ⌜ KeyRead (now (text .entry)) (now (table .entry)) first end at r ⌝ }
 {
     if peek(text, at) != 34 {
         return Key::Broken(Refusal::Grammar(at));

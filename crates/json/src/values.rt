@@ -20,7 +20,7 @@ ghost use Rattle.text.specs.Tree.{Forest};
 ghost use Rattle.text.specs.Standing.{StandsTo};
 ghost use Rattle.text.specs.Reader.{scalarAt, arrayAt, objectAt, memberOf, valueAt};
 ghost use Rattle.json.specs.Rows.{Row};
-ghost use Rattle.json.specs.Parts.{upTo, Asks, Spot, Took, Closable, Closes, bracketOf, containerAt, itemsAt, itemOf};
+ghost use Rattle.json.specs.Parts.{upTo, Asks, NamePlaces, Took, Closable, Closes, bracketOf, containerAt, itemsAt, itemOf};
 
 // What reading a part of a text gives: the place after it and the number of values so far, or the refusal.
 pub enum Part {
@@ -53,7 +53,7 @@ fn read_scalar(
     count: usize,
 ) -> Part
     requires { ⌜ Asks (now text) (now table) limit at count ⌝ }
-    requires { ⌜ Spot (now text) ns ne ⌝ }
+    requires { ⌜ NamePlaces (now text) ns ne ⌝ }
     requires { ⌜ kind < 8 ⌝ }
     ensures { λ r. ⌜ Took (scalarAt (upTo limit) (now (text .entry)) kind ns ne at count) (now (text .entry)) limit at count (now (table .entry)) (now (table .exit)) r ⌝ }
 {
@@ -126,7 +126,7 @@ pub(crate) fn read_value(
     count: usize,
 ) -> Part
     requires { ⌜ Asks (now text) (now table) limit at count ⌝ }
-    requires { ⌜ Spot (now text) ns ne ⌝ }
+    requires { ⌜ NamePlaces (now text) ns ne ⌝ }
     ensures { λ r. ⌜ Took (valueAt (upTo limit) (now (text .entry)) depth ns ne at count) (now (text .entry)) limit at count (now (table .entry)) (now (table .exit)) r ⌝ }
 {
     let kind = kind_at(text, at);
@@ -154,7 +154,7 @@ fn read_array(
     count: usize,
 ) -> Part
     requires { ⌜ Asks (now text) (now table) limit (at + 1) count ⌝ }
-    requires { ⌜ Spot (now text) ns ne ⌝ }
+    requires { ⌜ NamePlaces (now text) ns ne ⌝ }
     ensures { λ r. ⌜ Took (arrayAt (upTo limit) (now (text .entry)) depth ns ne at count) (now (text .entry)) limit at count (now (table .entry)) (now (table .exit)) r ⌝ }
 {
     read_container(
@@ -182,7 +182,7 @@ fn read_object(
     count: usize,
 ) -> Part
     requires { ⌜ Asks (now text) (now table) limit (at + 1) count ⌝ }
-    requires { ⌜ Spot (now text) ns ne ⌝ }
+    requires { ⌜ NamePlaces (now text) ns ne ⌝ }
     ensures { λ r. ⌜ Took (objectAt (upTo limit) (now (text .entry)) depth ns ne at count) (now (text .entry)) limit at count (now (table .entry)) (now (table .exit)) r ⌝ }
 {
     read_container(
@@ -211,7 +211,7 @@ fn read_container(
     count: usize,
 ) -> Part
     requires { ⌜ Asks (now text) (now table) limit (at + 1) count ⌝ }
-    requires { ⌜ Spot (now text) ns ne ⌝ }
+    requires { ⌜ NamePlaces (now text) ns ne ⌝ }
     ensures { λ r. ⌜ Took (containerAt of (upTo limit) (now (text .entry)) depth ns ne at count) (now (text .entry)) limit at count (now (table .entry)) (now (table .exit)) r ⌝ }
 {
     if depth == 0 {

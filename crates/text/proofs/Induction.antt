@@ -15,7 +15,7 @@ use Rattle.text.specs.Limits.{Limits}
 use Rattle.text.specs.Text.{byteAt}
 use Rattle.text.specs.Strings.{stringEnd, nameOf}
 use Rattle.text.specs.Tokens.{skip, isDigit, kindBy, tokenAt}
-use Rattle.text.specs.Tree.{Bracket, square, curly, kindIn, closing, Forest, none, leaf, node, size, join}
+use Rattle.text.specs.Tree.{Bracket, square, curly, bracketKind, closing, Forest, none, leaf, node, size, join}
 use Rattle.text.specs.Firsts.{ScalarKind}
 use Rattle.text.specs.Reader.{Read, good, bad, Reader, ItemReader, scalarWith, scalarAt, closeOf, container, deep, valueWith, afterItem, itemsFrom, insideOf, named, colonAt, memberWith, memberOf, valueAt}
 use Rattle.text.specs.Whole.{endOf, readOf}
@@ -56,10 +56,10 @@ pub record Rules (L : Limits) (t : List ℕ) (Value : (depth ns ne at : ℕ) →
   pub token : (depth ns ne at kind to : ℕ) → ScalarKind kind → kindBy (byteAt t at) ≡ kind → tokenAt t kind at ≡ End to
       → Value depth ns ne at (leaf kind ns ne at to none) to
   -- a container around its items
-  pub box : (b : Bracket) (depth ns ne edge at : ℕ) (f : Forest) → kindBy (byteAt t edge) ≡ kindIn b → Items b depth edge at f → byteAt t at ≡ closing b
+  pub box : (b : Bracket) (depth ns ne edge at : ℕ) (f : Forest) → kindBy (byteAt t edge) ≡ bracketKind b → Items b depth edge at f → byteAt t at ≡ closing b
       → Value (suc depth) ns ne edge (node b ns ne edge (at + 1) f none) (at + 1)
   -- no items yet
-  pub start : (b : Bracket) (depth edge : ℕ) → kindBy (byteAt t edge) ≡ kindIn b → Items b depth edge (skip t (edge + 1)) none
+  pub start : (b : Bracket) (depth edge : ℕ) → kindBy (byteAt t edge) ≡ bracketKind b → Items b depth edge (skip t (edge + 1)) none
   pub comma : (b : Bracket) (depth edge at : ℕ) (f : Forest) → Items b depth edge at f → byteAt t at ≡ 44 → Items b depth edge (skip t (at + 1)) f
   -- one element more
   pub element : (depth edge at to : ℕ) (done f : Forest) → Items square depth edge at done → Value depth 0 0 at f to
@@ -101,7 +101,7 @@ module _ (L : Limits) (t : List ℕ) (Value : (depth ns ne at : ℕ) → Forest 
         (λ f to q. from turns to (n + size f) (join done f) q)
         (step done at n p)
 
-    within : (n : ℕ) → kindBy (byteAt t edge) ≡ kindIn b → Accepts (Closed b depth edge) (insideOf t item (closing b) (edge + 1) n)
+    within : (n : ℕ) → kindBy (byteAt t edge) ≡ bracketKind b → Accepts (Closed b depth edge) (insideOf t item (closing b) (edge + 1) n)
     unfolding insideOf
     within n k =
         let x = skip t (edge + 1) in
@@ -110,13 +110,13 @@ module _ (L : Limits) (t : List ℕ) (Value : (depth ns ne at : ℕ) → Forest 
         (λ e. accepted (x, p, eqb-true (byteAt t x) (closing b) e, refl))
         (λ e. from (suc (length t)) x n none p)
 
-    closed : (ns ne : ℕ) → kindBy (byteAt t edge) ≡ kindIn b → {r : Read} → Accepts (Closed b depth edge) r
+    closed : (ns ne : ℕ) → kindBy (byteAt t edge) ≡ bracketKind b → {r : Read} → Accepts (Closed b depth edge) r
         → Accepts (Value (suc depth) ns ne edge) (closeOf b ns ne edge r)
     unfolding closeOf
     closed ns ne k refused = refused
     closed ns ne k (accepted {f} {to} (x, p, e, q)) = rw q (accepted (R .box b depth ns ne edge x f k p e))
 
-    boxed : (ns ne n : ℕ) → kindBy (byteAt t edge) ≡ kindIn b → Accepts (Value (suc depth) ns ne edge) (container L b (insideOf t item (closing b)) ns ne edge n)
+    boxed : (ns ne n : ℕ) → kindBy (byteAt t edge) ≡ bracketKind b → Accepts (Value (suc depth) ns ne edge) (container L b (insideOf t item (closing b)) ns ne edge n)
     unfolding container
     boxed ns ne n k = accepts-cond (leb (L .values) n) (λ e. refused) (λ e. closed ns ne k (within (n + 1) k))
 

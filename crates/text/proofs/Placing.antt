@@ -14,7 +14,7 @@ use Rattle.text.specs.Limits.{Limits}
 use Rattle.text.specs.Text.{byteAt}
 use Rattle.text.specs.Strings.{stringEnd}
 use Rattle.text.specs.Tokens.{skip, kindBy, tokenAt}
-use Rattle.text.specs.Tree.{Bracket, square, curly, kindIn, closing, Forest, none, leaf, node, join}
+use Rattle.text.specs.Tree.{Bracket, square, curly, bracketKind, closing, Forest, none, leaf, node, join}
 use Rattle.text.specs.Firsts.{HasFirst, kindAt, nameStart, nameEnd, startAt, endAt, insideAt, restAt, ScalarKind, Kinds}
 use Rattle.text.specs.Placed.{Quoted, Unnamed, NameIn, Numeral, TokenIn, null, falsity, truth, number, string, Spot, Placed, nothing, token, box}
 use Rattle.text.specs.Reader.{good, valueAt}
@@ -115,7 +115,7 @@ closing-byte : (t : List ℕ) (b : Bracket) (i : ℕ) → byteAt t i ≡ closing
 closing-byte t square i e = inside t i (omega arith)
 closing-byte t curly i e = inside t i (omega arith)
 
-bracket-kind : (b : Bracket) → 0 < kindIn b
+bracket-kind : (b : Bracket) → 0 < bracketKind b
 bracket-kind square = omega arith
 bracket-kind curly = omega arith
 
@@ -133,7 +133,7 @@ module _ (L : Limits) (t : List ℕ) where
             token spot (token-in t kind at to s k e) (nothing here);
       }
 
-  box-seated : (b : Bracket) (ns ne edge at : ℕ) (f : Forest) → kindBy (byteAt t edge) ≡ kindIn b → Row t b edge at f → byteAt t at ≡ closing b
+  box-seated : (b : Bracket) (ns ne edge at : ℕ) (f : Forest) → kindBy (byteAt t edge) ≡ bracketKind b → Row t b edge at f → byteAt t at ≡ closing b
       → Seated t ns ne edge (node b ns ne edge (at + 1) f none) (at + 1)
   box-seated b ns ne edge at f k r e =
       let l = closing-byte t b at e in
@@ -145,13 +145,13 @@ module _ (L : Limits) (t : List ℕ) where
         some = omega (arith, r .after);
         inside = omega arith;
         placed = λ c from name le.
-            let spot : Spot t c from (kindIn b) ns ne edge (at + 1) = record { name = name; start = le; some = omega (arith, r .after); inside = omega arith; begins = k } in
+            let spot : Spot t c from (bracketKind b) ns ne edge (at + 1) = record { name = name; start = le; some = omega (arith, r .after); inside = omega arith; begins = k } in
             box spot last within (nothing here);
       }
 
-  row-start : (b : Bracket) (edge : ℕ) → kindBy (byteAt t edge) ≡ kindIn b → Row t b edge (skip t (edge + 1)) none
+  row-start : (b : Bracket) (edge : ℕ) → kindBy (byteAt t edge) ≡ bracketKind b → Row t b edge (skip t (edge + 1)) none
   row-start b edge k =
-      let l = kind-inside t edge (kindIn b) (bracket-kind b) k in
+      let l = kind-inside t edge (bracketKind b) (bracket-kind b) k in
       let span = skip-span t (edge + 1) (omega arith) in
       record { after = omega (arith, span .later); within = span .inside; placed = nothing (span .later) }
 

@@ -16,7 +16,7 @@ use lib.ListN.{length, getD, drop, replicate, length-append, length-drop, List·
 use lib.Seq.{drop-drop, drop-at, getD-drop, getD-append-add}
 use Rattle.laws.specs.Lists.{filled}
 use Rattle.text.specs.Limits.{rowWords}
-use Rattle.text.specs.Tree.{Bracket, square, curly, kindIn, Forest, none, leaf, node, size, rowsOf, startsOf}
+use Rattle.text.specs.Tree.{Bracket, square, curly, bracketKind, Forest, none, leaf, node, size, rowsOf, startsOf}
 use Rattle.text.specs.Standing.{Stands, StandsTo}
 use Rattle.text.specs.Firsts.{HasFirst, kindAt, nameStart, nameEnd, startAt, endAt, insideAt, belowAt, restAt, Kinds}
 use Rattle.text.specs.Reader.{good}
@@ -153,13 +153,13 @@ none-at (node b ns ne from to inside rest) h le = absurd (omega (arith, h .ends)
 
 -- ---- a table says which values stand in it ----
 
-bracket-unique : (a b : Bracket) → kindIn a ≡ kindIn b → a ≡ b
+bracket-unique : (a b : Bracket) → bracketKind a ≡ bracketKind b → a ≡ b
 bracket-unique square square e = refl
 bracket-unique square curly e = absurd (omega arith)
 bracket-unique curly square e = absurd (omega arith)
 bracket-unique curly curly e = refl
 
-bracket-kind : (b : Bracket) → 6 ≤ kindIn b
+bracket-kind : (b : Bracket) → 6 ≤ bracketKind b
 bracket-kind square = omega arith
 bracket-kind curly = omega arith
 

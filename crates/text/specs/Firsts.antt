@@ -1,7 +1,7 @@
 -- The first of some values that stand one beside the other: its words, what is inside it and what follows it, so that laws need no cases.
 -- Where there are no values, all is 0 or nothing. Assumes nothing: these are definitions.
 use Prim.Native.Nat.{ℕ, _≤_, _<_}
-use Rattle.text.specs.Tree.{kindIn, Forest, none, leaf, node, size}
+use Rattle.text.specs.Tree.{bracketKind, Forest, none, leaf, node, size}
 
 -- there is a first value
 abbrev pub HasFirst : Forest → Type 0
@@ -13,7 +13,7 @@ HasFirst (node b ns ne from to inside rest) = Prim.Unit {0}
 abbrev pub kindAt : Forest → ℕ
 kindAt none = 0
 kindAt (leaf kind ns ne from to rest) = kind
-kindAt (node b ns ne from to inside rest) = kindIn b
+kindAt (node b ns ne from to inside rest) = bracketKind b
 
 -- where its name starts, after the quote
 abbrev pub nameStart : Forest → ℕ

@@ -11,7 +11,7 @@ use Rattle.laws.specs.Lists.{partOf}
 use Rattle.text.specs.Text.{byteAt, bytes}
 use Rattle.text.specs.Spelling.{Spells}
 use Rattle.text.specs.Tokens.{isDigit, kindBy}
-use Rattle.text.specs.Tree.{Bracket, square, curly, kindIn, closing, Forest, none, leaf, node}
+use Rattle.text.specs.Tree.{Bracket, square, curly, bracketKind, closing, Forest, none, leaf, node}
 
 -- ---- strings and names
 
@@ -77,5 +77,5 @@ pub data Placed (t : List ℕ) : Bracket → Forest → (from to : ℕ) → Type
   token : {b : Bracket} {kind ns ne at end from to : ℕ} {rest : Forest} → Spot t b from kind ns ne at end → TokenIn t kind at end
       → Placed t b rest end to → Placed t b (leaf kind ns ne at end rest) from to
   -- what is inside a container stands after its bracket and before its closing byte
-  box : {b c : Bracket} {ns ne at end from to : ℕ} {inside rest : Forest} → Spot t b from (kindIn c) ns ne at end → byteAt t (end - 1) ≡ closing c
+  box : {b c : Bracket} {ns ne at end from to : ℕ} {inside rest : Forest} → Spot t b from (bracketKind c) ns ne at end → byteAt t (end - 1) ≡ closing c
       → Placed t c inside (at + 1) (end - 1) → Placed t b rest end to → Placed t b (node c ns ne at end inside rest) from to

@@ -5,7 +5,7 @@ use mathlib.Core.Path.{_≡_}
 use mathlib.Core.List.{List}
 use mathlib.Core.Bool.{Bool, true, false}
 use Rattle.text.specs.Strings.{nameOf}
-use Rattle.text.specs.Tree.{Bracket, kindIn, Forest, none, leaf, node, size, join}
+use Rattle.text.specs.Tree.{Bracket, bracketKind, Forest, none, leaf, node, size, join}
 
 -- a value without what is inside it: may it hold others (is it an array or an object)? and the first five words of its row
 pub record Head : Type 0 where
@@ -22,7 +22,7 @@ leafHead kind ns ne from to = record { holds = false; kind = kind; ns = ns; ne =
 
 -- of an array or an object
 abbrev pub nodeHead : (b : Bracket) (ns ne from to : ℕ) → Head
-nodeHead b ns ne from to = record { holds = true; kind = kindIn b; ns = ns; ne = ne; from = from; to = to }
+nodeHead b ns ne from to = record { holds = true; kind = bracketKind b; ns = ns; ne = ne; from = from; to = to }
 
 -- where a value stands
 pub record Seat : Type 0 where

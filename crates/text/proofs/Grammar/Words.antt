@@ -17,7 +17,7 @@ use borrow.Author.Tests.{eqb-true, eqb-false, ne-eqb}
 use Rattle.laws.proofs.Branches.{if-true, if-equal}
 use Rattle.text.specs.Text.{byteAt, bytes}
 use Rattle.text.specs.Tokens.{isSpace, skip, isDigit, wordAt, numberAt, kindBy, tokenAt}
-use Rattle.text.specs.Tree.{Bracket, square, curly, kindIn, closing}
+use Rattle.text.specs.Tree.{Bracket, square, curly, bracketKind, closing}
 use Rattle.text.specs.Abnf.{Byte, Between, Exactly, exactly, seq, Opt, this, that, Star}
 use Rattle.text.specs.Grammar.{Blank, Ws, Number, JsonString, quoted, Simple, nothing, falsity, truth, numeral, text, simpleKind, IsSimple, opening}
 use Rattle.text.specs.declared.Token.{Token}
@@ -141,7 +141,7 @@ simple-exact t text = ends-exact Behind (λ z o. tt) (string-exact t)
 pub data Lead (b : ℕ) : (kind : ℕ) → Type 0 where
   no-value : Lead b 0
   a-simple : (k : Simple) (w : List ℕ) → b < 256 → IsSimple k (b ∷ w) → Lead b (simpleKind k)
-  a-bracket : (x : Bracket) → b ≡ opening x → Lead b (kindIn x)
+  a-bracket : (x : Bracket) → b ≡ opening x → Lead b (bracketKind x)
 
 word-lead : (k : Simple) (v : List ℕ) (b x : ℕ) → x < 256 → IsSimple k (x ∷ v) → b ≡ x → Lead b (simpleKind k)
 word-lead k v b x h d e = a-simple k v (omega arith) (rw e d)

@@ -10,7 +10,7 @@ use Prim.Native.Nat.{ℕ, suc, _+_, _-_, _*_, _≤_, _<_}
 use native.Mathlib.Omega.{arith}
 use Rattle.text.specs.Limits.{Limits}
 use Rattle.text.specs.Strings.{nameOf}
-use Rattle.text.specs.Tree.{Bracket, square, curly, kindIn, Forest, none, leaf, node, size, join}
+use Rattle.text.specs.Tree.{Bracket, square, curly, bracketKind, Forest, none, leaf, node, size, join}
 use Rattle.text.specs.Reader.{named}
 use Rattle.text.specs.Grammar.{depthOf}
 use Rattle.text.specs.Seats.{Head, Seat, under, behind, Sits}
@@ -23,7 +23,7 @@ use Rattle.text.proofs.Grammar.Trees.{size-join, depth-join, Either-of,
 abbrev pub rank : (number place : ℕ) → ℕ
 rank n p = 8 * p + n
 
-pub no-string : (b : Bracket) → kindIn b ≡ 5 → ⊥
+pub no-string : (b : Bracket) → bracketKind b ≡ 5 → ⊥
 no-string square e = omega arith
 no-string curly e = omega arith
 

@@ -4,7 +4,7 @@ use native.Mathlib.Omega.{arith}
 use lib.ListN.{length}
 use denote.Ref.{now}
 use borrow.Author.Needs.{needs}
-use Rattle.json.proofs.Handed.{handed}
+use Rattle.card.proofs.Cursors.{byte-left}
 use Rattle.json.specs.Cursors.{rest}
 use Rattle.contact.specs.Pointer.{pointerOf}
 use Rattle.card.proofs.PartLaws.{tailOf, tail-on, ends, goes}
@@ -43,7 +43,7 @@ loop-less c =
     let a = c .before .before .before .before .before .before .before .args in
     let loop = c .before .before .before .before .before .loop in
     let next-byte = c .before .before .before .before .next-byte in
-    omega (arith, ap length (handed (now (a .key)) (loop .c) (next-byte .ensures .0) (c .before .before .b .given .1)))
+    omega (arith, ap length (byte-left (now (a .key)) (loop .c) (next-byte .ensures .0) (c .before .before .b .given .1)))
 
 loop-again : tie.Need-loop-again Inv-loop μ-loop
 loop-again c =

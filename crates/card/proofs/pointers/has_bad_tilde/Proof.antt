@@ -5,7 +5,7 @@ use native.Mathlib.Omega.{arith}
 use lib.ListN.{length}
 use denote.Ref.{now}
 use borrow.Author.Needs.{needs}
-use Rattle.json.proofs.Handed.{handed}
+use Rattle.card.proofs.Cursors.{byte-left}
 use Rattle.json.specs.Cursors.{rest}
 use Rattle.text.specs.Strings.{conts, decode}
 use Rattle.contact.specs.Pointer.{badTilde}
@@ -53,7 +53,7 @@ loop-less c =
     let loop = c .before .before .before .before .before .before .before .loop in
     let next-byte = c .before .before .before .before .before .before .next-byte in
     let b = c .before .before .before .before .b in
-    omega (arith, ap length (handed (now (a .key)) (loop .c) (next-byte .ensures .0) (b .given .1)))
+    omega (arith, ap length (byte-left (now (a .key)) (loop .c) (next-byte .ensures .0) (b .given .1)))
 
 loop-again : tie.Need-loop-again Inv-loop μ-loop
 loop-again c =
@@ -67,7 +67,7 @@ loop-less-2 c =
     let a = c .before .before .before .before .before .before .before .before .args in
     let loop = c .before .before .before .before .before .loop in
     let next-byte = c .before .before .before .before .next-byte in
-    omega (arith, ap length (handed (now (a .key)) (loop .c) (next-byte .ensures .0) (c .before .before .b .given .1)))
+    omega (arith, ap length (byte-left (now (a .key)) (loop .c) (next-byte .ensures .0) (c .before .before .b .given .1)))
 
 loop-again-2 : tie.Need-loop-again-2 Inv-loop μ-loop
 loop-again-2 c =

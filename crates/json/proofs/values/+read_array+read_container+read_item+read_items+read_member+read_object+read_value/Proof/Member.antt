@@ -3,7 +3,7 @@ use borrow.Author.Needs.{needs}
 use native.Mathlib.Omega.{arith}
 use Prim.Native.Nat.{ℕ, _+_}
 use Rattle.text.specs.Reader.{valueAt}
-use Rattle.json.specs.Parts.{upTo, Named}
+use Rattle.json.specs.Parts.{upTo, KeyRead}
 use Rattle.json.specs.declared.members.Key.the-variants.{Value, Broken}
 use Rattle.json.proofs.Closing.{took-from}
 use Rattle.json.proofs.values.read_member.Reads as member
@@ -20,12 +20,12 @@ module _ (t : ℕ) where
   -- where the name is closed, what `read_key` ensures says where
   closed : (c : lts.After-k (calls t) (at of-member t) member.Post)
       → let a = c .before .before .before .before .before .before .args in
-      Named (a .text .now) (a .table .now) (a .first) (a .count) (a .at) (Value (c .k .given .0 .0) (c .k .given .0 .1 .0))
+      KeyRead (a .text .now) (a .table .now) (a .first) (a .count) (a .at) (Value (c .k .given .0 .0) (c .k .given .0 .1 .0))
   closed c = rw (c .k .given .1) at (c .before .before .read-key .ensures)
 
   broken : (c : lts.After-k2 (calls t) (at of-member t) member.Post)
       → let a = c .before .before .before .before .before .before .args in
-      Named (a .text .now) (a .table .now) (a .first) (a .count) (a .at) (Broken (c .k2 .given .0 .0))
+      KeyRead (a .text .now) (a .table .now) (a .first) (a .count) (a .at) (Broken (c .k2 .given .0 .0))
   broken c = rw (c .k2 .given .1) at (c .before .before .read-key .ensures)
 
   pub read-key-requires : lts.Need-read-key-requires (calls t) (at of-member t) member.Post
