@@ -1,8 +1,17 @@
--- The three words of an answer, as C has them. Assumes nothing: these are definitions.
+-- What a C function leaves, by the definition of the services that the demands speak of. Assumes nothing: these are definitions.
 use Prim.Native.Nat.{ℕ}
+use mathlib.Core.Path.{_≡_}
 use mathlib.Core.List.{List, [], _∷_}
+use Rattle.text.specs.Limits.{base}
 use Rattle.text.specs.declared.Paper.{Paper}
+use Rattle.contact.specs.Services.{Call, served}
 
--- 0 or the refusal's number; the row count or the second number; the bytes written
+-- the three words of an answer: 0 or the refusal's number; the row count or the second number; the bytes written
 abbrev pub words : Paper → List ℕ
 words p = p .number ∷ p .second ∷ p .written ∷ []
+
+-- the lent answer, table and output after a call; reading and judging are lent no output
+pub record Serves (c : Call) (answer table output : List ℕ) : Type 0 where
+  pub answered : answer ≡ words (served base c .answer)
+  pub rows : table ≡ served base c .table
+  pub bytes : output ≡ served base c .output

@@ -7,12 +7,10 @@ use json::read::read;
 use json::sheet::on_paper;
 use text::Paper;
 ghost use mathlib.Core.Path.{_≡_};
+ghost use mathlib.Core.List.{[]};
 ghost use lib.ListN.{length};
-ghost use Rattle.text.specs.Limits.{base};
-ghost use Rattle.text.specs.Whole.{wholeOf, sheetOf, tableOf};
-ghost use Rattle.contact.specs.Verdict.{judgedOf, sheetOfJudged, tableOfJudged};
-ghost use Rattle.contact.specs.Localize.{localizedOf, sheetOfOutcome, tableOfOutcome, outputOfOutcome};
-ghost use Rattle.bezinkol.specs.Answer.{words};
+ghost use Rattle.contact.specs.Services as services;
+ghost use Rattle.bezinkol.specs.Answer.{words, Serves};
 
 // The three numbers of an answer, in their order.
 fn put_answer(p: Paper, answer: &mut [u64; 3])
@@ -24,8 +22,7 @@ fn put_answer(p: Paper, answer: &mut [u64; 3])
 // Reads a text into rows.
 #[no_mangle]
 pub extern "C" fn bezinkol_read(text: &[u8], table: &mut [u32], answer: &mut [u64; 3])
-    ensures { λ _. ⌜ now (answer .exit) ≡ words (sheetOf (wholeOf base (length (now (table .entry))) (now (text .entry)))) ⌝ }
-    ensures { λ _. ⌜ now (table .exit) ≡ tableOf (length (now (table .entry))) (wholeOf base (length (now (table .entry))) (now (text .entry))) ⌝ }
+    ensures { λ _. ⌜ Serves (services.read (now (text .entry)) (length (now (table .entry)))) (now (answer .exit)) (now (table .exit)) [] ⌝ }
 {
     let r = read(text, table);
     put_answer(on_paper(r), answer);
@@ -34,8 +31,7 @@ pub extern "C" fn bezinkol_read(text: &[u8], table: &mut [u32], answer: &mut [u6
 // Judges a text as a card.
 #[no_mangle]
 pub extern "C" fn bezinkol_judge(text: &[u8], table: &mut [u32], answer: &mut [u64; 3])
-    ensures { λ _. ⌜ now (answer .exit) ≡ words (sheetOfJudged (judgedOf base (length (now (table .entry))) (now (text .entry)))) ⌝ }
-    ensures { λ _. ⌜ now (table .exit) ≡ tableOfJudged (length (now (table .entry))) (judgedOf base (length (now (table .entry))) (now (text .entry))) ⌝ }
+    ensures { λ _. ⌜ Serves (services.judge (now (text .entry)) (length (now (table .entry)))) (now (answer .exit)) (now (table .exit)) [] ⌝ }
 {
     let v = judge(text, table);
     put_answer(verdict_on_paper(v), answer);
@@ -50,9 +46,7 @@ pub extern "C" fn bezinkol_localize(
     table: &mut [u32],
     answer: &mut [u64; 3],
 )
-    ensures { λ _. ⌜ now (answer .exit) ≡ words (sheetOfOutcome (localizedOf base (length (now (table .entry))) (length (now (out .entry))) (now (text .entry)) (now (language .entry)))) ⌝ }
-    ensures { λ _. ⌜ now (table .exit) ≡ tableOfOutcome (length (now (table .entry))) (localizedOf base (length (now (table .entry))) (length (now (out .entry))) (now (text .entry)) (now (language .entry))) ⌝ }
-    ensures { λ _. ⌜ now (out .exit) ≡ outputOfOutcome (length (now (out .entry))) (localizedOf base (length (now (table .entry))) (length (now (out .entry))) (now (text .entry)) (now (language .entry))) ⌝ }
+    ensures { λ _. ⌜ Serves (services.localize (now (text .entry)) (now (language .entry)) (length (now (table .entry))) (length (now (out .entry)))) (now (answer .exit)) (now (table .exit)) (now (out .exit)) ⌝ }
 {
     let a = localize(text, language, out, table);
     put_answer(localized_on_paper(a), answer);

@@ -1,6 +1,8 @@
-use mathlib.Core.Path.{ap, _∙_}
-use Rattle.bezinkol.specs.Answer.{words}
+-- `bezinkol_read` leaves what the service leaves. Assumes nothing.
+use mathlib.Core.Path.{refl, ap, _∙_}
 use borrow.Author.Needs.{needs}
+use Rattle.contact.specs.Services.{served}
+use Rattle.bezinkol.specs.Answer.{words}
 use Rattle.bezinkol.proofs.bezinkol_read.Statement.{statement}
 use Rattle.bezinkol.proofs.bezinkol_read.Tie as tie
 
@@ -17,8 +19,14 @@ same-length : tie.Need-same-length
 same-length c = search needs
 
 returns : tie.Need-returns
-returns c = (c .put-answer .ensures ∙ ap words (c .before .before .on-paper .ensures ∙ c .before .before .before .before .before .read .ensures .0), c .before .before .before .before .before .read .ensures .1)
+unfolding served
+returns c =
+    let left = c .before .before .before .before .before .read .ensures in
+    record {
+      answered = c .put-answer .ensures ∙ ap words (c .before .before .on-paper .ensures ∙ left .0);
+      rows = left .1;
+      bytes = refl;
+    }
 
 pub bezinkol-read-spec : {M : Type 1} → statement M
-bezinkol-read-spec =
-    tie.close (tie.spec read-requires on-paper-requires put-answer-requires same-length returns)
+bezinkol-read-spec = tie.close (tie.spec read-requires on-paper-requires put-answer-requires same-length returns)
