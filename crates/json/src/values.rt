@@ -73,7 +73,7 @@ fn read_scalar(
 
 // The kind in a container's row.
 fn kind_in(of: Container) -> usize
-    ensures { λ r. ⌜ r ≡ tree.kindIn (bracketOf of) ⌝ }
+    ensures { λ r. ⌜ r ≡ tree.bracketKind (bracketOf of) ⌝ }
 {
     match of {
         Container::Array => ARRAY,
