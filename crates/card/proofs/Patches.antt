@@ -26,7 +26,10 @@ use Rattle.card.specs.Pointers.{strip}
 use Rattle.card.specs.Entries.{stripped}
 use Rattle.card.specs.Runs.{Ascending}
 use Rattle.card.specs.Written.{Wrote}
-use Rattle.card.specs.Patched.{Said, based, basedAll, isOut, keptBy, stays, pointerIn, isLast, endsFirst, idle, piece, since, Passed}
+use Rattle.card.specs.Patched.{Said, based, basedAll, isOut, keptBy, stays, pointerIn, isLast, isEnd, endsFirst, idle, piece, since, Passed}
+use Rattle.card.specs.Parts.{Goes}
+use Rattle.card.specs.declared.parts.Onward.{Onward}
+use Rattle.card.specs.declared.parts.Onward.the-variants.{Last, Part}
 use Rattle.card.specs.declared.writing.Spot.{Spot}
 use Rattle.card.proofs.Bytes.{left-on, left-as, left-last}
 use Rattle.card.proofs.Walks.{Walk, walk-here, walk-on, walk-end}
@@ -36,11 +39,9 @@ use Rattle.card.proofs.Additions.{memberOf, First, none-said}
 
 -- ---- the first entry of a run ----
 
-pub is-last : {p q : Pointer} → p ≡ q → p ≡ last (firstPart p) → isLast q ≡ true
-is-last {p} e f = rw (← e, f)
-
-pub is-down : {p q r : Pointer} → p ≡ q → p ≡ down (firstPart p) r → isLast q ≡ false
-is-down {p} e f = rw (← e, f)
+pub goes-last : {p q : Pointer} (key : List ℕ) (o : Onward) → p ≡ q → Goes key p o → isLast q ≡ isEnd o
+goes-last {p} key Last e f = rw (← e, f)
+goes-last {p} key (Part c) e f = rw (← e, f)
 
 pub ends-by : (t : List ℕ) {table rows : List ℕ} {lo hi parts : ℕ} {ms : Members} {r : Bool} (f : First t table rows lo hi parts ms)
     → isLast (pointerIn t parts (f .tree)) ≡ r → r ≡ endsFirst (stripped parts ms)

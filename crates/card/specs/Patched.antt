@@ -23,6 +23,8 @@ use Rattle.card.specs.Runs.{Ascending}
 use Rattle.card.specs.Written.{Wrote}
 use Rattle.card.specs.Rows.{KnownAt}
 use Rattle.card.specs.Copied.{headOf}
+use Rattle.card.specs.declared.parts.Onward.{Onward}
+use Rattle.card.specs.declared.parts.Onward.the-variants.{Last, Part}
 use Rattle.card.specs.declared.writing.Spot.{Spot}
 
 -- ---- a run of entries
@@ -99,6 +101,11 @@ entryOf t parts g = entry (pointerIn t parts g) (changeOf (docOf t g))
 abbrev pub isLast : Pointer → Bool
 isLast (last n) = true
 isLast (down n p) = false
+
+-- the same, of what follows a part
+abbrev pub isEnd : Onward → Bool
+isEnd Last = true
+isEnd (Part c) = false
 
 -- is there a first entry, and does its pointer end so?
 abbrev pub endsFirst : List Entry → Bool

@@ -42,7 +42,7 @@ ghost use Rattle.card.specs.Entries.{stripped};
 ghost use Rattle.card.specs.Written.{Wrote};
 ghost use Rattle.card.specs.Rows.{KnownAt};
 ghost use Rattle.card.specs.Copied.{openOf, closeOf, headOf, labelIn, Copied};
-ghost use Rattle.card.specs.Patched.{InRows, Said, membersIn, isOut, keptBy, adds, pointerIn, entryOf, Ending, idle, Passed, PutMember, PutValue, PutCard};
+ghost use Rattle.card.specs.Patched.{InRows, Said, membersIn, isOut, keptBy, adds, pointerIn, entryOf, Ending, idle, Passed, PutMember, PutValue, PutCard, isEnd};
 
 // Where the next byte goes, and whether the next member is the first of its object.
 struct Spot {
@@ -238,6 +238,16 @@ fn put_additions(
     put_byte(out, to, 125)
 }
 
+// Does nothing follow a part?
+fn is_end(o: Onward) -> bool
+    ensures { λ r. ⌜ r ≡ isEnd o ⌝ }
+{
+    match o {
+        Onward::Last => true,
+        Onward::Part(_) => false,
+    }
+}
+
 // Does the first entry of the run end with the part at hand?
 fn ends_first(
     ptext: &[u8],
@@ -256,10 +266,7 @@ fn ends_first(
     let e = rows[lo] as usize;
     let key = key_at(ptext, ptable, e);
     let c = part_at(key, parts);
-    match next_part(key, c) {
-        Onward::Last => true,
-        Onward::Part(_) => false,
-    }
+    is_end(next_part(key, c))
 }
 
 // The member at a row with the value of the entry at the row e; left out if that is null.

@@ -1,11 +1,11 @@
 -- `card::writing::ends_first` meets its contract. Assumes nothing.
-use mathlib.Core.Path.{_≡_}
+use mathlib.Core.Path.{_≡_, sym, _∙_}
 use Prim.Native.Nat.{ℕ}
 use native.Mathlib.Omega.{arith}
 use denote.Ref.{now}
 use Rattle.card.proofs.PatchLaws.{at-part}
 use Rattle.card.proofs.Additions.{first-said}
-use Rattle.card.proofs.Patches.{is-last, is-down, ends-by, no-end}
+use Rattle.card.proofs.Patches.{goes-last, ends-by, no-end}
 use borrow.Author.Needs.{needs}
 use Rattle.card.proofs.writing.ends_first.Statement.{statement}
 use Rattle.card.proofs.writing.ends_first.Tie as tie
@@ -31,40 +31,23 @@ part-at-requires c κs = search needs
 next-part-requires : tie.Need-next-part-requires
 next-part-requires c κs = search needs
 
-enum-told : tie.Need-enum-told
-enum-told c = search needs
-
-enum-told-2 : tie.Need-enum-told-2
-enum-told-2 c = search needs
+is-end-requires : tie.Need-is-end-requires
+is-end-requires c κs = search needs
 
 returns-2 : tie.Need-returns-2
 returns-2 c =
-    let a = c .before .before .before .before .before .before .before .before .before .before .args in
-    let key-at = c .before .before .before .before .key-at in
-    let part-at = c .before .before .before .part-at in
+    let a = c .before .before .before .before .before .before .before .before .before .args in
+    let key-at = c .before .before .before .key-at in
+    let part-at = c .before .before .part-at in
     record {
-      some = λ e. c .before .before .before .before .before .before .if1 .left;
+      some = λ e. c .before .before .before .before .before .if1 .left;
       is =
           λ ms s.
-          let f = first-said s (c .before .before .before .before .before .before .if1 .left) in
+          let f = first-said s (c .before .before .before .before .before .if1 .left) in
           ends-by (now (a .ptext)) f
-          (is-last (at-part (now (a .ptext)) (a .parts) (now (key-at .result)) (part-at .result) (f .value) (key-at .ensures) (part-at .ensures))
-          (rw (c .enum-told .given .1) at (c .before .before .next-part .ensures)));
-    }
-
-returns-3 : tie.Need-returns-3
-returns-3 c =
-    let a = c .before .before .before .before .before .before .before .before .before .before .args in
-    let key-at = c .before .before .before .before .key-at in
-    let part-at = c .before .before .before .part-at in
-    record {
-      some = λ e. c .before .before .before .before .before .before .if1 .left;
-      is =
-          λ ms s.
-          let f = first-said s (c .before .before .before .before .before .before .if1 .left) in
-          ends-by (now (a .ptext)) f
-          (is-down (at-part (now (a .ptext)) (a .parts) (now (key-at .result)) (part-at .result) (f .value) (key-at .ensures) (part-at .ensures))
-          (rw (c .enum-told2 .given .1) at (c .before .before .next-part .ensures)));
+          (goes-last (now (key-at .result)) (c .before .next-part .result)
+          (at-part (now (a .ptext)) (a .parts) (now (key-at .result)) (part-at .result) (f .value) (key-at .ensures) (part-at .ensures))
+          (c .before .next-part .ensures) ∙ sym (c .is-end .ensures));
     }
 
 pub ends-first-spec : {M : Type 1} → statement M
@@ -78,7 +61,5 @@ ends-first-spec =
     key-at-requires
     part-at-requires
     next-part-requires
-    enum-told
-    enum-told-2
-    returns-2
-    returns-3)
+    is-end-requires
+    returns-2)
