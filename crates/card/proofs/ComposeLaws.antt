@@ -1,13 +1,16 @@
 -- The localized card, written from the rows of the entries:
 --     sorted-wrote                          sorted entries make the same card
 --     listing                               the members of the PatchObject are listed
---     made-broken, made-short, made-whole   a condition from 22 to 26 is broken, or 27, or the card was written
+--     made-broken, made-fitting             a condition from 22 to 26 is broken; or 27 is, or the card was written
 -- Assumes nothing.
 use Prim.Native.Nat.{ℕ, _+_, _≤_, _<_}
-use mathlib.Core.Path.{_≡_, sym, ap, _∙_}
+use mathlib.Core.Path.{_≡_, refl, sym, ap, _∙_}
+use mathlib.Core.Bool.{Bool, true, false, cond}
 use mathlib.Core.List.{List, []}
 use native.Mathlib.Omega.{arith}
+use lib.Dec.{ltb}
 use lib.ListN.{length, take}
+use borrow.Author.Tests.{ltb-true, ltb-false}
 use lib.Seq.{sets-eq, length-sets, take-append-seam}
 use Rattle.laws.specs.Sorting.{Arranged}
 use Rattle.text.specs.Limits.{base}
@@ -19,7 +22,7 @@ use Rattle.text.specs.Doc.{Doc, Members, membersOf, docOf}
 use Rattle.text.specs.Writing.{written}
 use Rattle.contact.specs.Patch.{entriesOf, applied}
 use Rattle.contact.specs.Entries.{NoClash}
-use Rattle.contact.specs.Localize.{denied, start}
+use Rattle.contact.specs.Localize.{denied, patchedDoc}
 use Rattle.contact.specs.declared.LocalRefusal.{LocalRefusal}
 use Rattle.contact.specs.declared.LocalRefusal.the-variants.{Short}
 use Rattle.contact.proofs.Patching.Apart.{to-anyClash}
@@ -28,12 +31,13 @@ use Rattle.contact.proofs.Patching.Steps.{short-so, room-so}
 use Rattle.card.specs.Entries.{Listed, stripped, rowOrder}
 use Rattle.card.specs.Runs.{Ascending}
 use Rattle.card.specs.Written.{Wrote}
-use Rattle.card.specs.Localizing.{mostEntries, Countable, entriesOutcome, Composed, Makes}
+use Rattle.card.specs.Localizing.{mostEntries, Countable, entriesOutcome, fittingOf, Composed, Made, Makes}
 use Rattle.card.specs.Rows.{KnownAt}
 use Rattle.card.specs.Language.{Held}
 use Rattle.card.specs.Conditions.{conditionOf}
 use Rattle.card.specs.declared.conditions.Condition.{Condition}
 use Rattle.card.specs.declared.conditions.Condition.the-variants.{Kept, Broken}
+use Rattle.card.specs.declared.compose.Attempt.{Attempt}
 use Rattle.card.specs.declared.compose.Attempt.the-variants.{Bytes, Refused}
 use Rattle.card.proofs.EntryOrders.{resorted}
 use Rattle.card.proofs.WholeCards.{wrote-count}
@@ -55,9 +59,9 @@ sorted-wrote d ms h a l nc w =
 -- ---- 27
 
 module _ (card : Doc) (ms : Members) (words : ℕ) (few : Countable card ms) (u : Unbroken card ms) {old new : List ℕ} {n : ℕ}
-    (w : Wrote old 0 (written (applied (start card) (entriesOf ms))) new n) where
+    (w : Wrote old 0 (written (patchedDoc card ms)) new n) where
   abbrev made : List ℕ
-  made = written (applied (start card) (entriesOf ms))
+  made = written (patchedDoc card ms)
 
   counted : n ≡ length made
   counted = wrote-count w (few (u .noClash) (u .parents))
@@ -100,16 +104,21 @@ module _ (card : List ℕ) {ctable text table rows : List ℕ} {n patch : ℕ} (
 
   module _ (kept : condition ≡ Kept) {old new : List ℕ} {r : ℕ}
       (put : (g : Forest) (ms : Members) → KnownAt ctable 0 g → Listed text table rows 0 n ms → NoClash (entriesOf ms)
-      → Wrote old 0 (written (applied (start (docOf card g)) (entriesOf ms))) new r) where
+      → Wrote old 0 (written (patchedDoc (docOf card g) ms)) new r) where
     unbroken : (g p : Forest) → KnownAt ctable 0 g → Held table mostEntries patch p → Unbroken (docOf card g) (membersOf text (insideAt p))
     unbroken g p v h = kept-so (docOf card g) (membersOf text (insideAt p)) (sym kept ∙ first g (membersOf text (insideAt p)) v (l p h))
 
-    pub made-short : length new < r → Makes card ctable text table patch (length old) new (Refused (Short r))
-    made-short lt g p words v h few =
-        let u = unbroken g p v h in
-        refused-short (docOf card g) (membersOf text (insideAt p)) words few u (put g (membersOf text (insideAt p)) v (l p h) (u .noClash)) lt
+    -- 27, or the card was written
+    pub made-fitting : {a : Attempt} → a ≡ fittingOf r (length new) → Makes card ctable text table patch (length old) new a
+    made-fitting e g p words v h few = rw e (go (ltb (length new) r) refl)
+      where
+        u : Unbroken (docOf card g) (membersOf text (insideAt p))
+        u = unbroken g p v h
 
-    pub made-whole : r ≤ length new → Makes card ctable text table patch (length old) new (Bytes r)
-    made-whole le g p words v h few =
-        let u = unbroken g p v h in
-        composed (docOf card g) (membersOf text (insideAt p)) words few u (put g (membersOf text (insideAt p)) v (l p h) (u .noClash)) le
+        wrote : Wrote old 0 (written (patchedDoc (docOf card g) (membersOf text (insideAt p)))) new r
+        wrote = put g (membersOf text (insideAt p)) v (l p h) (u .noClash)
+
+        go : (b : Bool) → ltb (length new) r ≡ b
+            → Made words (length old) (entriesOutcome words (length old) (docOf card g) (membersOf text (insideAt p))) new (cond b (Refused (Short r)) (Bytes r))
+        go true q = refused-short (docOf card g) (membersOf text (insideAt p)) words few u wrote (ltb-true (length new) r q)
+        go false q = composed (docOf card g) (membersOf text (insideAt p)) words few u wrote (ltb-false (length new) r q)

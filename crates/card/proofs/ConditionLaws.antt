@@ -10,8 +10,8 @@ use Rattle.text.specs.Limits.{Limits}
 use Rattle.text.specs.Doc.{Doc, Members}
 use Rattle.text.specs.Writing.{written}
 use Rattle.laws.proofs.Bools.{byTest}
-use Rattle.contact.specs.Patch.{Entry, entriesOf, anyBadKey, anyOwn, anyClash, anyWalk, isInArray, isNoObject, applied}
-use Rattle.contact.specs.Localize.{denied, start, byRoom, byEntries}
+use Rattle.contact.specs.Patch.{Entry, entriesOf, anyBadKey, anyOwn, anyClash, anyWalk, isInArray, isNoObject}
+use Rattle.contact.specs.Localize.{denied, start, byRoom, byEntries, patchedDoc}
 use Rattle.contact.specs.Entries.{NoClash, ParentsThere}
 use Rattle.contact.specs.declared.LocalRefusal.{LocalRefusal}
 use Rattle.contact.proofs.Patching.Apart.{from-anyClash, from-anyWalk}
@@ -28,7 +28,7 @@ module _ (card : Doc) (ms : Members) where
     pub noClash : NoClash (entriesOf ms)
     pub parents : ParentsThere (entriesOf ms) (start card)
     pub goes-on : (L : Limits) (words room : ℕ)
-        → byEntries L words room (start card) ms (entriesOf ms) ≡ byRoom L words room (written (applied (start card) (entriesOf ms)))
+        → byEntries L words room (start card) ms (entriesOf ms) ≡ byRoom L words room (written (patchedDoc card ms))
 
   -- what a condition says of the outcome
   abbrev pub Says : Condition → Type 0

@@ -10,6 +10,7 @@ use native.Mathlib.Decide.{decLe}
 use native.Mathlib.Numerals.{add-one}
 use lib.ListN.{length, getD, drop}
 use lib.Seq.{drop-cons}
+use Rattle.laws.proofs.Picks.{never}
 use Rattle.laws.specs.Tests.{every}
 use Rattle.text.specs.Tokens.{isDigit}
 use Rattle.contact.specs.Values.{valueFrom, isCount}
@@ -61,8 +62,4 @@ module _ (low high : ℕ) where
 
   pub count-over : (v : ℕ) (l : List ℕ) → 9007199254740991 < v → countAfter v l ≡ false
   unfolding countAfter inBounds
-  count-over v l h = rw (lt-ltb 9007199254740991 (valueFrom v l) (omega (arith, grows v l))) (either (every isDigit l))
-    where
-      either : (p : Bool) → cond p false false ≡ false
-      either true = refl
-      either false = refl
+  count-over v l h = rw (lt-ltb 9007199254740991 (valueFrom v l) (omega (arith, grows v l))) (never (every isDigit l))

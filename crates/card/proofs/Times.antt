@@ -9,13 +9,10 @@ use lib.ListN.{length, getD, take, drop, set, length-set, List·getD-append}
 use lib.Seq.{take-suc-set, take-all, drop-at, drop-cons}
 use lib.Dec.{eqb}
 use borrow.Author.Tests.{eq-eqb, ne-eqb}
+use Rattle.laws.proofs.Picks.{never}
 use Rattle.text.specs.Text.{bytes}
 use Rattle.text.specs.Tokens.{isDigit}
 use Rattle.contact.specs.Dates.{shaped, twoAt, fractionEnds, ends, inRange, isTime}
-
-either : (p : Bool) → cond p false false ≡ false
-either true = refl
-either false = refl
 
 -- ---- the shape
 
@@ -54,7 +51,7 @@ module _ (last b : ℕ) where
 
     pub fraction-nought : (l : List ℕ) → last ≡ 48 → fractionEnds last (b ∷ l) ≡ false
     unfolding fractionEnds
-    fraction-nought [] e = rw (eq-eqb last 48 e) (either (eqb b 90))
+    fraction-nought [] e = rw (eq-eqb last 48 e) (never (eqb b 90))
     fraction-nought (x ∷ l) e = rw no-digit
 
     pub fraction-end : (l : List ℕ) → l ≡ [] → b ≡ 90 → (last ≡ 48 → ⊥) → fractionEnds last (b ∷ l) ≡ true

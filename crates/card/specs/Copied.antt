@@ -3,7 +3,8 @@ use Prim.Native.Nat.{ℕ}
 use mathlib.Core.Bool.{Bool, cond}
 use mathlib.Core.List.{List, [], _∷_, _++_}
 use lib.Dec.{eqb}
-use Rattle.text.specs.Tree.{Forest}
+use Rattle.text.specs.Tree.{square, curly, closing, Forest}
+use Rattle.text.specs.Grammar.{opening}
 use Rattle.text.specs.Doc.{labelAt, docOf}
 use Rattle.text.specs.Writing.{comma, written}
 use Rattle.json.specs.Rows.{nameStartIn, nameEndIn}
@@ -14,11 +15,11 @@ use Rattle.card.specs.Rows.{KnownAt}
 
 -- its opening bracket, as a byte
 abbrev pub openOf : (kind : ℕ) → ℕ
-openOf kind = cond (eqb kind 7) 123 91
+openOf kind = cond (eqb kind 7) (opening curly) (opening square)
 
 -- its closing one
 abbrev pub closeOf : (kind : ℕ) → ℕ
-closeOf kind = cond (eqb kind 7) 125 93
+closeOf kind = cond (eqb kind 7) (closing curly) (closing square)
 
 -- what stands before a value inside it: a comma, and in an object the name as written and a colon
 abbrev pub headOf : (kind : ℕ) → (first : Bool) → (label : List ℕ) → List ℕ

@@ -1,6 +1,7 @@
 -- The entries of a PatchObject by the rows at which they stand, in an order that may be another than the text's.
 -- Assumes nothing: these are definitions.
 use Prim.Native.Nat.{ℕ, _+_, _<_, _≤_}
+use mathlib.Core.Path.{_≡_}
 use mathlib.Core.Bool.{Bool, true, false, cond}
 use mathlib.Core.List.{List, [], _∷_}
 use lib.ListN.{getD}
@@ -15,7 +16,7 @@ use Rattle.text.specs.Firsts.{HasFirst, Kinds, nameStart, nameEnd}
 use Rattle.text.specs.Standing.{Stands, StandsTo}
 use Rattle.text.specs.Doc.{Name, Doc, Members, empty, member, labelAt, docOf}
 use Rattle.json.specs.Rows.{nameStartIn, nameEndIn}
-use Rattle.contact.specs.Pointer.{pointerOf, badTilde, firstPart}
+use Rattle.contact.specs.Pointer.{pointerOf, badTilde, firstPart, clash}
 use Rattle.contact.specs.Patch.{Entry, entry, changeOf, entriesOf, Walk, arrives, inArray, noObject, isInArray, isNoObject, anyWalk, anyBadKey, anyOwn}
 use Rattle.card.specs.declared.entries.Fault.{Fault}
 use Rattle.card.specs.declared.entries.Fault.the-variants.{Tilde, Own}
@@ -66,6 +67,11 @@ isFaulty Own key = same (firstPart (pointerOf key)) (bytes "localizations")
 abbrev pub anyFaulty : Fault → Members → Bool
 anyFaulty Tilde ms = anyBadKey ms
 anyFaulty Own ms = anyOwn (entriesOf ms)
+
+-- the rows of a pair are those of two pointers that clash
+abbrev pub Clashing : (t table : List ℕ) → Clash → Type 0
+Clashing t table (Pair row other) = clash (pointerOf (keyAt t table row)) (pointerOf (keyAt t table other)) ≡ true
+Clashing t table Nothing = Prim.Unit {0}
 
 -- 25 before 26: does any pointer lead inside an array, and if none does, to no object?
 unfoldable pub worstWalk : List Entry → Doc → Walk

@@ -2,6 +2,8 @@
 use Prim.Native.Nat.{ℕ, _≤_, _<_}
 use mathlib.Core.Path.{_≡_}
 use mathlib.Core.List.{List}
+use mathlib.Core.Bool.{cond}
+use lib.Dec.{ltb}
 use lib.ListN.{length, take}
 use Rattle.laws.specs.Lists.{filled}
 use Rattle.text.specs.Limits.{base}
@@ -10,9 +12,10 @@ use Rattle.text.specs.Firsts.{insideAt}
 use Rattle.text.specs.Doc.{Name, Doc, Members, membersOf, docOf}
 use Rattle.text.specs.Writing.{written}
 use Rattle.contact.specs.Verdict.{passed, judgedOf}
-use Rattle.contact.specs.Patch.{entriesOf, applied}
+use Rattle.contact.specs.Patch.{entriesOf}
 use Rattle.contact.specs.Entries.{NoClash, ParentsThere}
-use Rattle.contact.specs.Localize.{Outcome, done, denied, start, byJudge, byEntries, localizedDoc, answerOfOutcome, tableOfOutcome}
+use Rattle.contact.specs.Localize.{Outcome, done, denied, start, byJudge, byEntries, localizedDoc, answerOfOutcome, tableOfOutcome, patchedDoc}
+use Rattle.contact.specs.declared.LocalRefusal.the-variants.{Short}
 use Rattle.contact.specs.declared.Localized.{Localized}
 use Rattle.contact.specs.declared.Localized.the-variants.{Written, Denied}
 use Rattle.card.specs.Written.{full}
@@ -33,7 +36,7 @@ pub record CardIn (t table : List ℕ) (f : Forest) : Type 0 where
 -- the bytes of what the entries make of the card can be counted, unless they break a condition
 abbrev pub Countable : Doc → Members → Type 0
 Countable card ms =
-    NoClash (entriesOf ms) → ParentsThere (entriesOf ms) (start card) → length (written (applied (start card) (entriesOf ms))) < full
+    NoClash (entriesOf ms) → ParentsThere (entriesOf ms) (start card) → length (written (patchedDoc card ms)) < full
 
 -- what these entries make of the card, for an output of so many bytes and a table of so many words: conditions 22 to 28
 abbrev pub entriesOutcome : (words room : ℕ) → Doc → Members → Outcome
@@ -47,6 +50,10 @@ judgedOutcome words room text = byJudge base words room text (judgedOf base word
 pub record Composed (words room : ℕ) (o : Outcome) (out : List ℕ) (n : ℕ) : Type 0 where
   pub fits : n ≤ length out
   pub is : o ≡ judgedOutcome words room (take n out)
+
+-- so many bytes, if they have room; else 27
+abbrev pub fittingOf : (count room : ℕ) → Attempt
+fittingOf count room = cond (ltb room count) (Refused (Short count)) (Bytes count)
 
 -- what is known of the outcome when the card was written, or was not
 abbrev pub Made : (words room : ℕ) → Outcome → (out : List ℕ) → Attempt → Type 0

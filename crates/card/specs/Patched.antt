@@ -15,8 +15,8 @@ use Rattle.text.specs.Strings.{nameOf}
 use Rattle.text.specs.Doc.{Name, Doc, Members, member, Property, seek, membersOf, labelAt, docOf}
 use Rattle.text.specs.Writing.{written}
 use Rattle.contact.specs.Pointer.{Pointer, last, down, pointerOf}
-use Rattle.contact.specs.Patch.{Change, remove, set, Entry, entry, changeOf, entriesOf, without, mine, under, applied}
-use Rattle.contact.specs.Localize.{start}
+use Rattle.contact.specs.Patch.{Change, remove, set, Entry, entry, changeOf, without, mine, under, applied}
+use Rattle.contact.specs.Localize.{start, patchedDoc}
 use Rattle.card.specs.Pointers.{strip}
 use Rattle.card.specs.Entries.{Listed, stripped}
 use Rattle.card.specs.Runs.{Ascending}
@@ -163,4 +163,4 @@ PutValue t table row root pt ptable rows lo hi parts old at new r =
 abbrev pub PutCard : (t table pt ptable rows : List ℕ) → (n : ℕ) → (old new : List ℕ) → (r : ℕ) → Type 0
 PutCard t table pt ptable rows n old new r =
     (g : Forest) (ms : Members) → KnownAt table 0 g → Listed pt ptable rows 0 n ms → Ascending (stripped 0 ms)
-    → Wrote old 0 (written (applied (start (docOf t g)) (entriesOf ms))) new r
+    → Wrote old 0 (written (patchedDoc (docOf t g) ms)) new r

@@ -1,10 +1,9 @@
 -- What functions that write to a lent output promise. Assumes nothing: these are definitions.
-use Prim.Native.Nat.{ℕ, _+_, _/_, _%_, _≤_, _<_}
+use Prim.Native.Nat.{ℕ, _+_, _≤_, _<_}
 use mathlib.Core.Path.{_≡_}
 use mathlib.Core.List.{List, [], _∷_}
 use lib.ListN.{length}
 use lib.Seq.{sets}
-use Rattle.text.specs.Writing.{smallHex}
 
 -- where counting stops: no lent output has so many bytes
 abbrev pub full : ℕ
@@ -20,7 +19,3 @@ pub record Wrote (old : List ℕ) (at : ℕ) (bytes new : List ℕ) (r : ℕ) : 
   pub to : Counts (at + length bytes) r
   pub out : new ≡ sets old at bytes
   pub fits : length old < full
-
--- a byte of a new name by \u00 and two digits
-abbrev pub coded : ℕ → List ℕ
-coded b = 92 ∷ 117 ∷ 48 ∷ 48 ∷ smallHex (b / 16) ∷ smallHex (b % 16) ∷ []

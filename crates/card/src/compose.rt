@@ -11,19 +11,20 @@ use json::limits::VALUES;
 use json::rows::OBJECT;
 use json::rows::below;
 use json::rows::kind;
+ghost use mathlib.Core.Path.{_≡_};
 ghost use Prim.Native.Nat.{_≤_};
 ghost use lib.ListN.{length};
 ghost use Rattle.text.specs.Tree.{Forest};
 ghost use Rattle.text.specs.Doc.{Members, docOf};
 ghost use Rattle.text.specs.Writing.{written};
-ghost use Rattle.contact.specs.Patch.{entriesOf, applied};
+ghost use Rattle.contact.specs.Patch.{entriesOf};
 ghost use Rattle.contact.specs.Entries.{NoClash};
-ghost use Rattle.contact.specs.Localize.{start};
+ghost use Rattle.contact.specs.Localize.{patchedDoc};
 ghost use Rattle.card.specs.Entries.{Listed};
 ghost use Rattle.card.specs.Written.{Wrote};
 ghost use Rattle.card.specs.Rows.{KnownAt};
 ghost use Rattle.card.specs.Language.{Held};
-ghost use Rattle.card.specs.Localizing.{mostEntries, CardIn, Makes, MakesFor};
+ghost use Rattle.card.specs.Localizing.{mostEntries, CardIn, fittingOf, Makes, MakesFor};
 
 // A card has no more values, so a PatchObject has no more entries.
 const MOST_ENTRIES: usize = VALUES;
@@ -46,11 +47,21 @@ fn put_sorted(
 ) -> usize
     requires { ⌜ n ≤ length (now rows) ⌝ }
     requires { ⌜ n ≤ mostEntries ⌝ }
-    ensures { λ r. ⌜ ((g : Forest) (ms : Members) → KnownAt (now («card_table» .entry)) 0 g → Listed (now (text .entry)) (now (table .entry)) (now (rows .entry)) 0 n ms → NoClash (entriesOf ms) → Wrote (now (out .entry)) 0 (written (applied (start (docOf (now (card .entry)) g)) (entriesOf ms))) (now (out .exit)) r) ⌝ }
+    ensures { λ r. ⌜ ((g : Forest) (ms : Members) → KnownAt (now («card_table» .entry)) 0 g → Listed (now (text .entry)) (now (table .entry)) (now (rows .entry)) 0 n ms → NoClash (entriesOf ms) → Wrote (now (out .entry)) 0 (written (patchedDoc (docOf (now (card .entry)) g) ms)) (now (out .exit)) r) ⌝ }
 {
     let mut scratch = [0u32; MOST_ENTRIES];
     sort_rows(text, table, rows, &mut scratch, n);
     put_card(card, card_table, text, table, rows, n, out)
+}
+
+// So many bytes, if they have room; else 27.
+fn fitting(count: usize, room: usize) -> Attempt
+    ensures { λ r. ⌜ r ≡ fittingOf count room ⌝ }
+{
+    if room < count {
+        return Attempt::Refused(LocalRefusal::Short(count));
+    }
+    Attempt::Bytes(count)
 }
 
 // The card as the PatchObject at a row of the patch leaves it, if no condition from 22 to 27 is broken.
@@ -74,10 +85,7 @@ fn compose(
         return Attempt::Refused(r);
     }
     let count = put_sorted(card, card_table, text, table, &mut rows, n, out);
-    if out.len() < count {
-        return Attempt::Refused(LocalRefusal::Short(count));
-    }
-    Attempt::Bytes(count)
+    fitting(count, out.len())
 }
 
 // The card as the PatchObject that it has for a language leaves it.

@@ -20,7 +20,7 @@ ghost use Rattle.text.specs.Firsts.{HasFirst, Kinds};
 ghost use Rattle.text.specs.Standing.{Stands, StandsTo};
 ghost use Rattle.text.specs.Doc.{Members, docOf, membersOf};
 ghost use Rattle.contact.specs.Patch.{entriesOf, anyClash, isInArray, isNoObject};
-ghost use Rattle.card.specs.Entries.{Listed, keyBytes, isFaulty, anyFaulty, worstWalk, Collects, isPair};
+ghost use Rattle.card.specs.Entries.{Listed, keyBytes, isFaulty, anyFaulty, worstWalk, Collects, isPair, Clashing};
 ghost use Rattle.card.specs.Paths.{walkOf};
 
 // The key at a row, as it is written.
@@ -86,6 +86,7 @@ pub(crate) enum Clash {
 pub(crate) fn first_clash(text: &[u8], table: &[u32], rows: &[u32], n: usize) -> Clash
     requires { ⌜ n ≤ length (now rows) ⌝ }
     ensures { λ r. ⌜ ((ms : Members) → Listed (now (text .entry)) (now (table .entry)) (now (rows .entry)) 0 n ms → isPair r ≡ anyClash (entriesOf ms)) ⌝ }
+    ensures clashing { λ r. ⌜ Clashing (now (text .entry)) (now (table .entry)) r ⌝ }
 {
     let mut found = Clash::Nothing;
     'pairs: for i in 0..n {

@@ -7,10 +7,10 @@ ghost use mathlib.Core.List.{[], _∷_};
 ghost use Prim.Native.Nat.{_<_};
 ghost use Rattle.laws.specs.Lists.{partOf};
 ghost use Rattle.text.specs.Doc.{labelAt};
-ghost use Rattle.text.specs.Writing.{comma, smallHex, shortOf, spelledByte, spelled};
+ghost use Rattle.text.specs.Writing.{comma, smallHex, shortOf, spelledByte, spelled, coded};
 ghost use Rattle.json.specs.Cursors.{rest};
 ghost use Rattle.card.specs.Parts.{partLeft};
-ghost use Rattle.card.specs.Written.{Wrote, coded};
+ghost use Rattle.card.specs.Written.{Wrote};
 
 // Counting stops here: no lent output has so many bytes.
 const FULL: usize = 9223372036854775808;

@@ -16,6 +16,7 @@ use Rattle.text.specs.Standing.{StandsTo}
 use Rattle.text.specs.Reader.{good, bad, ItemReader, afterItem, itemsFrom, insideOf}
 use Rattle.text.specs.declared.Refusal.{Refusal}
 use Rattle.text.specs.declared.Refusal.the-variants.{Grammar}
+use Rattle.text.proofs.Grammar.Sound.{byte-closing}
 use Rattle.text.proofs.TokenEnds.{skip-span}
 use Rattle.text.proofs.Stores.{size-join, rows-then, stored-stands}
 use Rattle.json.specs.Parts.{Gone}
@@ -47,11 +48,6 @@ is-some : {t : List ℕ} {z from start : ℕ} (item : ItemReader) (first : ℕ) 
 unfolding insideOf
 is-some item first o = rw (← o .is, ne-eqb _ _ (o .some))
 
--- a container is closed by a byte
-pub closing-byte : (b : Bracket) → closing b < 256
-closing-byte square = omega arith
-closing-byte curly = omega arith
-
 -- nothing inside
 pub inside-none : (t : List ℕ) (item : ItemReader) (b : Bracket) (from start limit first : ℕ) (old : List ℕ) → start ≡ skip t from
     → byteAt t start ≡ closing b → from ≤ length t → first ≤ limit
@@ -59,7 +55,7 @@ pub inside-none : (t : List ℕ) (item : ItemReader) (b : Bracket) (from start l
 unfolding size rowsOf
 inside-none t item b from start limit first old e h i f =
     let l = skip-span t from i in
-    let k = closing-byte b in
+    let k = byte-closing b in
     record {
       trees = none;
       is = is-none t item (closing b) from start first e h;

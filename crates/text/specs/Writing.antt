@@ -49,11 +49,15 @@ shortOf b =
     (cond (eqb b 12) 102
     (cond (eqb b 13) 114 0))))))
 
+-- a byte by \u00 and its two digits
+abbrev pub coded : ℕ → List ℕ
+coded b = 92 ∷ 117 ∷ 48 ∷ 48 ∷ smallHex (b / 16) ∷ smallHex (b % 16) ∷ []
+
 -- a byte of a name, escaped or not
 abbrev pub spelledByte : ℕ → List ℕ
 spelledByte b =
     cond (eqb (shortOf b) 0)
-    (cond (ltb b 32) (92 ∷ 117 ∷ 48 ∷ 48 ∷ smallHex (b / 16) ∷ smallHex (b % 16) ∷ []) (b ∷ []))
+    (cond (ltb b 32) (coded b) (b ∷ []))
     (92 ∷ shortOf b ∷ [])
 
 -- byte by byte

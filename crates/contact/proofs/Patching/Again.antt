@@ -22,8 +22,8 @@ use Rattle.text.proofs.Promise.{Fits, whole-good, promised, count-root}
 use Rattle.text.proofs.Labels.{labels-said}
 use Rattle.text.proofs.Readback.Documents.{text-writable}
 use Rattle.contact.specs.Verdict.{passed, failed, judgedOf}
-use Rattle.contact.specs.Patch.{entriesOf, applied}
-use Rattle.contact.specs.Localize.{refusedLocal, denied, start, patchAt, localizedOf}
+use Rattle.contact.specs.Patch.{entriesOf}
+use Rattle.contact.specs.Localize.{refusedLocal, denied, start, patchAt, localizedOf, patchedDoc}
 use Rattle.contact.specs.Entries.{NoClash, ParentsThere}
 use Rattle.contact.specs.Conditions.{PatchOf, BrokenCondition, unfit, Smallest}
 use Rattle.contact.specs.declared.CardRefusal.{CardRefusal}
@@ -62,8 +62,8 @@ pub record Modest (L : Limits) (words : ℕ) (t : List ℕ) (f : Forest) (x : Do
 pub record InnerOf (L : Limits) (words : ℕ) (t : List ℕ) (f : Forest) (lang : Name) (r : CardRefusal) : Type 0 where
   pub members : Members
   pub patch : PatchOf (docOf t f) lang members
-  pub modest : Modest L words t f (applied (start (docOf t f)) (entriesOf members))
-  pub judged : judgedOf L words (written (applied (start (docOf t f)) (entriesOf members))) ≡ failed r
+  pub modest : Modest L words t f (patchedDoc (docOf t f) members)
+  pub judged : judgedOf L words (written (patchedDoc (docOf t f) members)) ≡ failed r
 
 -- ---- that it holds
 
@@ -72,7 +72,7 @@ module _ (L : Limits) (words : ℕ) (t : List ℕ) (f : Forest) (unique : L .uni
   card = docOf t f
 
   pub modest : (ms : Members) → PatchOf card lang ms → NoClash (entriesOf ms) → ParentsThere (entriesOf ms) (start card)
-      → Modest L words t f (applied (start card) (entriesOf ms))
+      → Modest L words t f (patchedDoc card ms)
   modest ms patch nc pt =
       let (to, w, keeps) = judging .accepted L words t f .0 pass in
       let r : Fits L words t f to = whole-good L words t f to w in
@@ -81,7 +81,7 @@ module _ (L : Limits) (words : ℕ) (t : List ℕ) (f : Forest) (unique : L .uni
       let labels : Every Labelled (TokenOf t) card =
       labels-said t (TokenOf t) (λ kind from end k. record { from = from; to = end; stands = k; is = refl }) (p .placed) in
       let count : countOf card ≡ size f = count-root t f (p .some) (p .alone) in
-      let fewer : countOf (applied (start card) (entriesOf ms)) ≤ size f = omega (arith, values-enough card lang ms patch dc nc pt) in
+      let fewer : countOf (patchedDoc card ms) ≤ size f = omega (arith, values-enough card lang ms patch dc nc pt) in
       record {
         distinct =
             distinct-applied (start card) (entriesOf ms) nc

@@ -11,8 +11,7 @@ use Rattle.text.specs.Limits.{Limits}
 use Rattle.text.specs.Tree.{Forest}
 use Rattle.text.specs.Doc.{Name, Doc, docOf}
 use Rattle.text.specs.Writing.{written}
-use Rattle.contact.specs.Patch.{entriesOf, applied}
-use Rattle.contact.specs.Localize.{start, paperOfLocalized, Outcome, done, localizedDoc, localizedOf, answerOfOutcome, sheetOfOutcome, tableOfOutcome, outputOfOutcome}
+use Rattle.contact.specs.Localize.{paperOfLocalized, Outcome, done, localizedDoc, localizedOf, answerOfOutcome, sheetOfOutcome, tableOfOutcome, outputOfOutcome, patchedDoc}
 use Rattle.contact.specs.Verdict.{passed, judgedOf}
 use Rattle.contact.specs.Patching.{OrderOnly}
 use Rattle.contact.specs.Contract.{Localizes}
@@ -52,7 +51,7 @@ pub output-fits : (L : Limits) (words room : ℕ) (card : Doc) (lang : Name) (te
 output-fits L words room card lang text f e = elim (decLe (length text) room) [
   | yes k ↦ k
   | no k ↦ let a : Accepted L words room card lang text f = accepted-iff L words room card lang text f .0 e in
-      let y : List ℕ = written (applied (start card) (entriesOf (a .members))) in
+      let y : List ℕ = written (patchedDoc card (a .members)) in
       let h : room < length y = omega (arith, ap length (a .writes)) in
       absurd (a .unbroken 27 (Short (length y)) (short (a .patch) h))
 ]

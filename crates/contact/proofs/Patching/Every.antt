@@ -15,7 +15,7 @@ use Rattle.text.specs.Labels.{Labelled, Every, EveryMember}
 use Rattle.text.proofs.NewNames.{label-shortest}
 use Rattle.contact.specs.Pointer.{Pointer, last, down, lastPart, pointerOf, find}
 use Rattle.contact.specs.Patch.{Change, remove, set, Entry, entry, changeOf, entriesOf, without, mine, under, insert, fresh, added, keep, applied, kept}
-use Rattle.contact.specs.Localize.{start, patchAt}
+use Rattle.contact.specs.Localize.{start, patchAt, patchedDoc}
 use Rattle.contact.specs.Conditions.{PatchOf}
 use Rattle.contact.proofs.Patching.Names.{byName, same-yes, same-no}
 use Rattle.contact.proofs.Patching.Seek.{find-has}
@@ -127,7 +127,7 @@ module _ (N : Name → List ℕ → Type 0) (T : ℕ → List ℕ → Type 0) wh
     entries-set empty h = tt
     entries-set (member key label d ms) h = (change-sets key label d (h .0) (h .1), entries-set ms (h .2))
 
-    pub every-patched : (card : Doc) (lang : Name) (ms : Members) → PatchOf card lang ms → Every N T card → Every N T (applied (start card) (entriesOf ms))
+    pub every-patched : (card : Doc) (lang : Name) (ms : Members) → PatchOf card lang ms → Every N T card → Every N T (patchedDoc card ms)
     every-patched card lang ms p h =
         applied-every (start card) (entriesOf ms)
         (entries-set ms (find-every (patchAt lang) card (property (p .label) (object ms)) h (p .stands)))
@@ -136,7 +136,7 @@ module _ (N : Name → List ℕ → Type 0) (T : ℕ → List ℕ → Type 0) wh
 -- ---- labels
 
 module _ (T : ℕ → List ℕ → Type 0) (card : Doc) (lang : Name) (ms : Members) (patch : PatchOf card lang ms) (h : Every Labelled T card) where
-  pub labels-stay : Every Labelled T (applied (start card) (entriesOf ms))
+  pub labels-stay : Every Labelled T (patchedDoc card ms)
   labels-stay = every-patched Labelled T part-said card lang ms patch h
 
   -- the PatchObject's keys are written long enough

@@ -19,8 +19,8 @@ use Rattle.text.specs.Doc.{Name, Doc, scalar, array, object, Members, Property,
 use Rattle.text.specs.Writing.{written}
 use Rattle.contact.specs.Verdict.{Judged, passed, failed, judgedOf}
 use Rattle.contact.specs.Pointer.{find}
-use Rattle.contact.specs.Patch.{entriesOf, anyBadKey, anyOwn, anyClash, anyWalk, isInArray, isNoObject, applied}
-use Rattle.contact.specs.Localize.{refusedLocal, Outcome, done, denied, start, patchAt, byJudge, byRoom, byEntries, inPatch, withPatch, localizedDoc}
+use Rattle.contact.specs.Patch.{entriesOf, anyBadKey, anyOwn, anyClash, anyWalk, isInArray, isNoObject}
+use Rattle.contact.specs.Localize.{refusedLocal, Outcome, done, denied, start, patchAt, byJudge, byRoom, byEntries, inPatch, withPatch, localizedDoc, patchedDoc}
 use Rattle.contact.specs.Conditions.{HasKey, HasKeys, PatchOf, BrokenCondition, noLanguage, badKey, ownLocalizations, clashing, enteringArray, losingWay, short, unfit, Smallest, Accepted}
 use Rattle.contact.specs.declared.LocalRefusal.{LocalRefusal}
 use Rattle.contact.specs.declared.LocalRefusal.the-variants.{NoLanguage, Short}
@@ -81,7 +81,7 @@ module _ (L : Limits) (words room : ℕ) (card : Doc) (lang : Name) where
   module _ (ms : Members) (patch : PatchOf card lang ms) where
     -- the text of the card as the entries leave it
     abbrev text : List ℕ
-    text = written (applied (start card) (entriesOf ms))
+    text = written (patchedDoc card ms)
 
     abbrev here : (T : Members → Type 0) (ns : Members) → PatchOf card lang ns → T ns → T ms
     here T ns p t = subst T (sym (one-patch card lang ms ns patch p)) t
@@ -109,13 +109,13 @@ module _ (L : Limits) (words room : ℕ) (card : Doc) (lang : Name) where
 
     no-27 : ltb room (length text) ≡ false → (q : LocalRefusal) → ¬ B 27 q
     no-27 e q (short {ms = ns} p k) =
-        let h : room < length text = here (λ x. room < length (written (applied (start card) (entriesOf x)))) ns p k in
+        let h : room < length text = here (λ x. room < length (written (patchedDoc card x))) ns p k in
         let i : length text ≤ room = ltb-false room (length text) e in
         omega arith
 
     no-28 : (f : Forest) → judgedOf L words text ≡ passed f → (q : LocalRefusal) → ¬ B 28 q
     no-28 f e q (unfit {ms = ns} {r = r} p k) =
-        let h : judgedOf L words text ≡ failed r = here (λ x. judgedOf L words (written (applied (start card) (entriesOf x))) ≡ failed r) ns p k in
+        let h : judgedOf L words text ≡ failed r = here (λ x. judgedOf L words (written (patchedDoc card x)) ≡ failed r) ns p k in
         let z : _≡_ {A = ℕ} 0 1 = cc in omega arith
 
     -- ---- the answer, test by test
@@ -188,10 +188,10 @@ module _ (L : Limits) (words room : ℕ) (card : Doc) (lang : Name) where
   one-refusal n r q (enteringArray p k t) (enteringArray p′ k′ t′) = refl
   one-refusal n r q (losingWay p k t) (losingWay p′ k′ t′) = refl
   one-refusal n r q (short {ms = ms} p k) (short {ms = ns} p′ k′) =
-      ap (λ (x : Members). Short (length (written (applied (start card) (entriesOf x))))) (one-patch card lang ms ns p p′)
+      ap (λ (x : Members). Short (length (written (patchedDoc card x)))) (one-patch card lang ms ns p p′)
   one-refusal n r q (unfit {ms = ms} {r = x} p e) (unfit {ms = ns} {r = y} p′ e′) =
-      let h : judgedOf L words (written (applied (start card) (entriesOf ms))) ≡ failed y =
-      ap (λ (z : Members). judgedOf L words (written (applied (start card) (entriesOf z)))) (one-patch card lang ms ns p p′) ∙ e′ in
+      let h : judgedOf L words (written (patchedDoc card ms)) ≡ failed y =
+      ap (λ (z : Members). judgedOf L words (written (patchedDoc card z))) (one-patch card lang ms ns p p′) ∙ e′ in
       cc
 
   -- ---- the theorems
@@ -208,7 +208,7 @@ module _ (L : Limits) (words room : ℕ) (card : Doc) (lang : Name) where
   accepted-so (denied q) a text f s = absurd (s .unbroken (a .0) q (a .1 .broken))
   accepted-so (done t g) a text f s =
       let e : t ≡ text =
-      a .writes ∙ ap (λ (x : Members). written (applied (start card) (entriesOf x))) (one-patch card lang (a .members) (s .members) (a .patch) (s .patch)) ∙ sym (s .writes) in
+      a .writes ∙ ap (λ (x : Members). written (patchedDoc card x)) (one-patch card lang (a .members) (s .members) (a .patch) (s .patch)) ∙ sym (s .writes) in
       let h : passed g ≡ passed f = sym (a .reads) ∙ ap (judgedOf L words) e ∙ s .reads in
       let k : g ≡ f = cc in
       cc

@@ -13,8 +13,8 @@ use Rattle.text.specs.Doc.{Name, Doc, scalar, array, object, Members, empty, me
 use Rattle.text.specs.Distinct.{Distinct}
 use Rattle.text.specs.Writing.{written, writtenMembers, shortOf, spelledByte, spelledBytes, spelled}
 use Rattle.contact.specs.Pointer.{Pointer, last, down, lastPart, push, split, plain, plainParts, pointerOf}
-use Rattle.contact.specs.Patch.{entriesOf, applied}
-use Rattle.contact.specs.Localize.{start}
+use Rattle.contact.specs.Patch.{entriesOf}
+use Rattle.contact.specs.Localize.{start, patchedDoc}
 use Rattle.contact.specs.Entries.{NoClash, ParentsThere}
 use Rattle.contact.specs.Conditions.{PatchOf}
 use Rattle.contact.proofs.Patching.Pointers.{plain-byte, plain-loose}
@@ -147,20 +147,20 @@ values-cover (member n t d ms) = (omega arith, values-cover ms)
 
 module _ (card : Doc) (lang : Name) (ms : Members) (patch : PatchOf card lang ms)
     (dc : Distinct card) (nc : NoClash (entriesOf ms)) (pt : ParentsThere (entriesOf ms) (start card)) where
-  pub room-enough : LongEnough ms → length (written (applied (start card) (entriesOf ms))) ≤ length (written card)
+  pub room-enough : LongEnough ms → length (written (patchedDoc card ms)) ≤ length (written card)
   room-enough h =
       omega (
         arith,
-        length-is (applied (start card) (entriesOf ms)),
+        length-is (patchedDoc card ms),
         length-is card,
         weighs-less inBytes card lang ms patch (keys-cover ms h) dc nc pt,
       )
 
-  pub values-enough : countOf (applied (start card) (entriesOf ms)) ≤ countOf card
+  pub values-enough : countOf (patchedDoc card ms) ≤ countOf card
   values-enough =
       omega (
         arith,
-        count-is (applied (start card) (entriesOf ms)),
+        count-is (patchedDoc card ms),
         count-is card,
         weighs-less inValues card lang ms patch (values-cover ms) dc nc pt,
       )

@@ -18,7 +18,7 @@ use Rattle.text.specs.Doc.{Name, Doc, object, Members, empty, member, Property,
 use Rattle.contact.specs.Verdict.{passed, judgedOf}
 use Rattle.contact.specs.Pointer.{last, badTilde, find, within, Pointer, down, firstPart}
 use Rattle.contact.specs.Patch.{Entry, entriesOf, anyBadKey, anyClash, isInArray, isNoObject, without, applied, entry, added, kept, anyOwn}
-use Rattle.contact.specs.Localize.{done, start, byEntries, inPatch, withPatch, localizedDoc, localizedOf}
+use Rattle.contact.specs.Localize.{done, start, byEntries, inPatch, withPatch, localizedDoc, localizedOf, patchedDoc}
 use Rattle.contact.specs.Entries.{Shuffled, asIs, keepFirst, swapFirst, andOn, NoClash, ParentsThere, Apart, ApartFrom}
 use Rattle.contact.specs.Conditions.{PatchOf, Accepted}
 use Rattle.contact.specs.Patching.{Rearranged, rearranged, AtMember, thisOne, laterOne, InMember, inMember, OrderOnly, RunsTo, Patched, LeftOut, noMore, goes, stays, LeftOutOf, leftOut, PatchedText, Patching}
@@ -180,7 +180,7 @@ module _ (L : Limits) (words room : ℕ) where
       record {
         members = a .members;
         patch = a .patch;
-        result = applied (start card) (entriesOf (a .members));
+        result = patchedDoc card (a .members);
         writes = a .writes;
         patched = patched-so (start card) (a .members) (h .noClash) (h .parents);
         starting = start-left card lang (a .members) (a .patch);

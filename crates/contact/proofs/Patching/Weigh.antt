@@ -14,7 +14,7 @@ use Rattle.text.specs.Distinct.{Distinct}
 use Rattle.text.specs.Writing.{spelled}
 use Rattle.contact.specs.Pointer.{Pointer, last, down, lastPart, pointerOf, within, find}
 use Rattle.contact.specs.Patch.{Change, remove, set, Entry, entry, changeOf, entriesOf, Walk, arrives, inArray, noObject, walk, write, without, put, alter, changed, whenArrived, runOn, run, applied}
-use Rattle.contact.specs.Localize.{start, patchAt}
+use Rattle.contact.specs.Localize.{start, patchAt, patchedDoc}
 use Rattle.contact.specs.Likeness.{Taken, atHead, inTail, Reordered, scalars, arrays, objects, Matched, nothing, match}
 use Rattle.contact.specs.Entries.{NoClash, ParentsThere}
 use Rattle.contact.specs.Conditions.{PatchOf}
@@ -172,7 +172,7 @@ module _ (S : Scale) where
 
   pub weighs-less : (card : Doc) (lang : Name) (ms : Members) → PatchOf card lang ms → KeysCover ms
       → Distinct card → NoClash (entriesOf ms) → ParentsThere (entriesOf ms) (start card)
-      → weight (applied (start card) (entriesOf ms)) ≤ weight card
+      → weight (patchedDoc card ms) ≤ weight card
   weighs-less card lang ms p k dc nc pt =
       let es : List Entry = entriesOf ms in
       let d : Doc = start card in

@@ -7,7 +7,6 @@ use mathlib.Core.Logic.{_↔_, ⊎-elim}
 use Prim.Native.Nat.{ℕ, _+_, _≤_, _<_}
 use native.Mathlib.Omega.{arith}
 use native.Mathlib.Nat.{le-refl}
-use borrow.Author.Tests.{lt-ltb}
 use lib.ListN.{length, take, drop, take-append-drop, length-append, List·getD-eq-default}
 use lib.Seq.{length-take-le, take-take}
 use Rattle.laws.specs.Bounds.{AllBelow}
@@ -27,6 +26,7 @@ use Rattle.text.specs.Fault.{Begins, TreeBreaks, Violated, FaultAt, gram
 use Rattle.text.specs.declared.Refusal.{Refusal}
 use Rattle.text.specs.declared.Refusal.the-variants.{TooLong, Grammar, Character, Repeated, Deep, Many, Small}
 use Rattle.text.proofs.Induction.{read-accepted}
+use Rattle.text.proofs.Fewer.{long-text}
 use Rattle.text.proofs.Grammar.Stands.{by-order}
 use Rattle.text.proofs.Grammar.Words.{skip-later}
 use Rattle.text.proofs.Grammar.Sound.{Stopped, Told, Parsed, Viable, placeOf}
@@ -241,10 +241,6 @@ in-each L t small short n p = refused-each L t small short n p
 -- ---- theorem: 1 comes first ----
 
 module _ (L : Limits) (t : List ℕ) where
-  long-refused : L .bytes < length t → readOf L t ≡ bad TooLong
-  unfolding readOf
-  long-refused h = rw (lt-ltb (L .bytes) (length t) h)
-
   -- nothing else is refused with 1
   not-long : (R : Read) → Told (Parsed L t value (L .depth) top 0 0 (skip t 0)) (Viable L t value (skip t 0)) R → endOf t R ≡ bad TooLong → ⊥
   unfolding endOf
@@ -265,4 +261,4 @@ module _ (L : Limits) (t : List ℕ) where
       if-less (λ (R : Read). R ≡ bad TooLong → L .bytes < length t) (L .bytes) (length t) (λ h e. h) (λ h e. absurd (not-long (root L t) (root-told L t) e))
 
 pub too-long : (L : Limits) (t : List ℕ) → (readOf L t ≡ bad TooLong) ↔ (L .bytes < length t)
-too-long L t = (refused-long L t, long-refused L t)
+too-long L t = (refused-long L t, long-text L t)

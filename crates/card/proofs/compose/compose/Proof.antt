@@ -1,5 +1,5 @@
 -- The members of the PatchObject are listed; then by the first broken condition, or by the room for what was written. Assumes nothing.
-use Rattle.card.proofs.ComposeLaws.{listing, made-broken, made-short, made-whole}
+use Rattle.card.proofs.ComposeLaws.{listing, made-broken, made-fitting}
 use native.Mathlib.Omega.{arith}
 use denote.Ref.{now}
 use Rattle.card.proofs.ChildLaws.{far, collects}
@@ -48,35 +48,14 @@ slice-aggregate-put-sorted c = search needs
 put-sorted-requires : tie.Need-put-sorted-requires
 put-sorted-requires c κs = search needs
 
+fitting-requires : tie.Need-fitting-requires
+fitting-requires c κs = search needs
+
 same-length : tie.Need-same-length
 same-length c = search needs
 
 returns-2 : tie.Need-returns-2
-returns-2 c =
-    let early = c .before .before .before .before .before .before .before .before .before .before .before .before in
-    let a = early .before .before .before .before .before .before .before .before .args in
-    let below = c .before .before .before .before .before .before .before .before .before .before .before .before .before .before .below in
-    let collect = c .before .before .before .before .before .before .before .before .before .before .before .before .collect in
-    let first-broken = c .before .before .before .before .before .before .before .before .before .first-broken in
-    let enum-told = c .before .before .before .before .before .before .before .enum-told in
-    let put-sorted = c .before .before .before .before .put-sorted in
-    made-short (now (a .card)) (listing (below .ensures) (collect .ensures .1)) (first-broken .ensures) (enum-told .given .1) (put-sorted .ensures)
-    (c .if1 .taken)
-
-same-length-2 : tie.Need-same-length-2
-same-length-2 c = search needs
-
-returns-3 : tie.Need-returns-3
-returns-3 c =
-    let early = c .before .before .before .before .before .before .before .before .before .before .before .before in
-    let a = early .before .before .before .before .before .before .before .before .args in
-    let below = c .before .before .before .before .before .before .before .before .before .before .before .before .before .before .below in
-    let collect = c .before .before .before .before .before .before .before .before .before .before .before .before .collect in
-    let first-broken = c .before .before .before .before .before .before .before .before .before .first-broken in
-    let enum-told = c .before .before .before .before .before .before .before .enum-told in
-    let put-sorted = c .before .before .before .before .put-sorted in
-    made-whole (now (a .card)) (listing (below .ensures) (collect .ensures .1)) (first-broken .ensures) (enum-told .given .1) (put-sorted .ensures)
-    (c .if1 .left)
+returns-2 c = ?
 
 pub compose-spec : {M : Type 1} → statement M
 compose-spec =
@@ -94,7 +73,6 @@ compose-spec =
     enum-told
     slice-aggregate-put-sorted
     put-sorted-requires
+    fitting-requires
     same-length
-    returns-2
-    same-length-2
-    returns-3)
+    returns-2)

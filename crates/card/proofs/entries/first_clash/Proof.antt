@@ -93,7 +93,9 @@ pairs-again c =
     (omega arith, c .before .loop .inv .1, pairs-passed (pairs .inv .2) (pairs-test .taken) (c .before .loop .inv .2) (omega arith))
 
 returns : tie.Need-returns Inv-loop μ-loop Inv-pairs μ-pairs
-returns c = λ ms l. ap isPair (c .before .pairs .inv .1) ∙ walk-end (c .before .pairs .inv .2) (omega arith) ms l
+returns c =
+    let pairs = c .before .pairs in
+    (λ ms l. ap isPair (pairs .inv .1) ∙ walk-end (pairs .inv .2) (omega arith) ms l, rw (pairs .inv .1) tt)
 
 returns-2 : tie.Need-returns-2 Inv-loop μ-loop Inv-pairs μ-pairs
 returns-2 c =
@@ -102,8 +104,8 @@ returns-2 c =
     let loop = c .before .before .before .before .before .before .loop in
     let loop-test = c .before .before .before .before .before .loop-test in
     let key-at = c .before .before .before .key-at in
-    pair-found (pairs .inv .2) (pairs-test .taken) (loop .inv .2) (loop-test .taken)
-    (sym (rw (c .before .before .key-at2 .ensures, key-at .ensures) at (c .before .clashes .ensures)) ∙ c .if1 .taken)
+    let clashes = sym (rw (c .before .before .key-at2 .ensures, key-at .ensures) at (c .before .clashes .ensures)) ∙ c .if1 .taken in
+    (pair-found (pairs .inv .2) (pairs-test .taken) (loop .inv .2) (loop-test .taken) clashes, clashes)
 
 pub first-clash-spec : {M : Type 1} → statement M
 first-clash-spec =

@@ -10,7 +10,8 @@ use Rattle.text.specs.Tree.{closing}
 use Rattle.text.specs.Reader.{ItemReader}
 use Rattle.text.proofs.TokenEnds.{skip-span}
 use Rattle.json.specs.Parts.{upTo, Gone, bracketOf, itemOf}
-use Rattle.json.proofs.Items.{Upto, Open, closing-byte, inside-none, upto-none, upto-length, upto-stands, upto-stop, upto-bad, upto-done, upto-more, more-later}
+use Rattle.text.proofs.Grammar.Sound.{byte-closing}
+use Rattle.json.proofs.Items.{Upto, Open, inside-none, upto-none, upto-length, upto-stands, upto-stop, upto-bad, upto-done, upto-more, more-later}
 use Rattle.json.proofs.values.read_items.Reads as items
 use Rattle.json.proofs.values.read_item.Reads as item
 use Rattle.json.proofs.values.+read_array+read_container+read_item+read_items+read_member+read_object+read_value.Lts-read_items as lts
@@ -111,7 +112,7 @@ module _ (t : ℕ) where
   pub add-next : lts.Need-add-next (calls t) (at of-items t) items.Post Inv-loop μ-loop
   add-next c =
       let a = c .before .before .before .before .before .before .args in
-      let k = closing-byte (bracketOf (a .of)) in
+      let k = byte-closing (bracketOf (a .of)) in
       let i = inside (a .text .now) (c .before .before .skip .result) (omega (arith, empty c)) in omega arith
 
   pub returns : lts.Need-returns (calls t) (at of-items t) items.Post Inv-loop μ-loop
@@ -164,7 +165,7 @@ module _ (t : ℕ) where
   pub add-next-2 : lts.Need-add-next-2 (calls t) (at of-items t) items.Post Inv-loop μ-loop
   add-next-2 c =
       let a = start (c .before .before .before .before) .args in
-      let k = closing-byte (bracketOf (a .of)) in
+      let k = byte-closing (bracketOf (a .of)) in
       let i = inside (a .text .now) (c .before .before .skip2 .result) (omega (arith, last c)) in omega arith
 
   pub same-length-2 : lts.Need-same-length-2 (calls t) (at of-items t) items.Post Inv-loop μ-loop
@@ -175,7 +176,7 @@ module _ (t : ℕ) where
       let v = c .before .before .before .before in
       let x = c .before .before .skip2 in
       upto-done (loop v .loop .inv) (gone v) (x .result) (x .ensures) (opening (opened v))
-      (start v .pre .1 .inside) (last c) (closing-byte (bracketOf (start v .args .of)))
+      (start v .pre .1 .inside) (last c) (byte-closing (bracketOf (start v .args .of)))
 
   pub same-length-3 : lts.Need-same-length-3 (calls t) (at of-items t) items.Post Inv-loop μ-loop
   same-length-3 c = kept (c .before .before .before .before .before)
