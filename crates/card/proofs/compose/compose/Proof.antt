@@ -55,7 +55,15 @@ same-length : tie.Need-same-length
 same-length c = search needs
 
 returns-2 : tie.Need-returns-2
-returns-2 c = ?
+returns-2 c =
+    let early = c .before .before .before .before .before .before .before .before .before .before .before .before in
+    let a = early .before .before .before .before .before .before .before .before .args in
+    let below = early .before .before .below in
+    let first-broken = c .before .before .before .before .before .before .before .before .before .first-broken in
+    let enum-told = c .before .before .before .before .before .before .before .enum-told in
+    let put-sorted = c .before .before .before .before .put-sorted in
+    made-fitting (now (a .card)) (listing (below .ensures) (early .collect .ensures .1)) (first-broken .ensures) (enum-told .given .1) (put-sorted .ensures)
+    (c .fitting .ensures)
 
 pub compose-spec : {M : Type 1} → statement M
 compose-spec =

@@ -39,7 +39,7 @@ returns-3 c =
     rw (
       sym (any-faulty .ensures ms l) ∙ if1 .left,
       sym (any-faulty2 .ensures ms l) ∙ if2 .left,
-      sym (c .before .before .first-clash .ensures ms l) ∙ sym (c .before .is-pair .ensures) ∙ c .if3 .taken,
+      sym (c .before .before .first-clash .ensures .0 ms l) ∙ sym (c .before .is-pair .ensures) ∙ c .if3 .taken,
     )
 
 worst-path-requires : tie.Need-worst-path-requires
@@ -63,7 +63,7 @@ returns-4 c =
     rw (
       sym (any-faulty .ensures ms l) ∙ if1 .left,
       sym (any-faulty2 .ensures ms l) ∙ if2 .left,
-      sym (first-clash .ensures ms l) ∙ sym (is-pair .ensures) ∙ c .before .before .if3 .left,
+      sym (first-clash .ensures .0 ms l) ∙ sym (is-pair .ensures) ∙ c .before .before .if3 .left,
     )
     (c .by-path .ensures ∙ ap byWalk (c .before .worst-path .ensures g ms (v .some) (v .stands) (v .kinds) l))
 
