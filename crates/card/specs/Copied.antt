@@ -3,8 +3,8 @@ use Prim.Native.Nat.{ℕ}
 use mathlib.Core.Bool.{Bool, cond}
 use mathlib.Core.List.{List, [], _∷_, _++_}
 use lib.Dec.{eqb}
-use Rattle.text.specs.Tree.{square, curly, closing, Forest}
-use Rattle.text.specs.Grammar.{opening}
+use Rattle.text.specs.Tree.{square, curly, Forest}
+use Rattle.text.specs.Grammar.{opening, closing}
 use Rattle.text.specs.Doc.{labelAt, docOf}
 use Rattle.text.specs.Writing.{comma, written}
 use Rattle.json.specs.Rows.{nameStartIn, nameEndIn}

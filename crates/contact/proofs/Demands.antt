@@ -35,7 +35,7 @@ use Rattle.contact.proofs.Patching.Readback.{readback}
 use Rattle.contact.proofs.Demands.Sheet.{OnLine, on-line, text-line, card-line, local-line}
 use Rattle.contact.proofs.Demands.Reading.{card-passed, read-passes, read-rows, read-describes, read-long, read-fault, read-short, judge-unread, judge-passes, judge-rows, judge-offends, judge-offender}
 use Rattle.contact.proofs.Demands.AnyOrder.{order-card, order-number}
-use Rattle.contact.proofs.Demands.Localizing.{of-doc, card-written, localize-own, localize-patched, localize-accepted, localize-refused, localize-room, localize-inner}
+use Rattle.contact.proofs.Demands.Localizing.{of-doc, card-written, localize-own, localize-patched, localize-accepted, localize-would, localize-refused, localize-room, localize-inner}
 
 -- ---- demand 1
 
@@ -86,7 +86,7 @@ module _ (L : Limits) (unique : L .unique ≡ true) (six : L .words ≡ rowWords
 
   -- ---- all three
 
-  pub demands : Demands L
+  pub demands : Demands L (served L)
   unfolding served
   demands = record {
     every-call = record {
@@ -96,16 +96,16 @@ module _ (L : Limits) (unique : L .unique ≡ true) (six : L .words ≡ rowWords
       one-localizing = λ words room t lang a b x y o q p r. one-outcome p r;
     };
     reading-and-judging = record {
-      accepts = λ t small words. read-passes L words t small;
+      accepts = λ t words. read-passes L words t;
       rows = λ t words. read-rows L words t;
       describe = λ t words. read-describes L words t;
       too-long = λ t words. read-long L words t;
-      first-fault = λ t small within words. read-fault L words t small within;
-      rows-short = λ t small words. read-short L words t small;
+      first-fault = λ t within words. read-fault L words t within;
+      rows-short = λ t words. read-short L words t;
       unread = λ t words. judge-unread L words t;
-      passes = λ t small words. judge-passes L words t small;
+      passes = λ t words. judge-passes L words t;
       card-rows = λ t words. judge-rows L words t;
-      offends = λ t small words. judge-offends L words t small;
+      offends = λ t words. judge-offends L words t;
       offender = λ t words. judge-offender L words t;
     };
     localizing = record {
@@ -118,6 +118,7 @@ module _ (L : Limits) (unique : L .unique ≡ true) (six : L .words ≡ rowWords
           let d = order-card L words t u lang f g c r o in one-order t u f g (card-passed L words t f c) (card-passed L words u g d) o;
       patched = λ t lang words room f c. localize-patched L unique words room t lang f (card-passed L words t f c);
       accepted = λ t lang words room f c. localize-accepted L unique words room t lang f (card-passed L words t f c);
+      would-be = λ t lang words room f c. localize-would L unique words room t lang f (card-passed L words t f c);
       refused = λ t lang words room f c. localize-refused L unique words room t lang f (card-passed L words t f c);
       room-enough = λ t lang words room. localize-room L unique words room t lang;
       inner = λ t lang words room. localize-inner L unique words room t lang;
@@ -125,5 +126,5 @@ module _ (L : Limits) (unique : L .unique ≡ true) (six : L .words ≡ rowWords
   }
 
 -- with the limits of 01
-pub base-demands : Demands base
+pub base-demands : Demands base (served base)
 base-demands = demands base refl refl

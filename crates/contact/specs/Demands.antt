@@ -1,8 +1,9 @@
--- The three demands, sentence by sentence, of what the services answer and leave (specs/Services.antt): `Demands`. proofs/Demands.antt proves them for
--- all limits that refuse repeated names and have six words to a row, and for those of 01.
+-- The three demands, sentence by sentence, of what services answer and leave: `Demands`. `serve` says what each call leaves. proofs/Demands.antt proves
+-- them of `served` (specs/Services.antt) for all limits that refuse repeated names and have six words to a row, and for those of 01.
 --
 -- A service is called with whatever bytes, words and lengths there are, and that its code ends is part of its proof. No public function has a
--- `requires`, so nothing is tested beforehand: the contracts give the answer, the table and the output of `served` for every call.
+-- `requires`, so nothing is tested beforehand: the contracts give the answer, the table and the output of `served` for every call, and so the
+-- demands hold of any services that keep the contracts (crate bezinkol, specs/Called.antt).
 -- Assumes nothing: these are definitions.
 use Prim.Native.Nat.{ℕ, _*_, _≤_, _<_}
 use mathlib.Core.Path.{_≡_}
@@ -11,39 +12,35 @@ use mathlib.Core.List.{List, []}
 use mathlib.Core.Option.{some}
 use lib.ListN.{length, getD, replicate}
 use Rattle.laws.specs.Lists.{filled}
-use Rattle.laws.specs.Bounds.{AllBelow}
 use Rattle.laws.specs.Sorting.{Perm}
 use Rattle.text.specs.Limits.{Limits, rowWords}
 use Rattle.text.specs.Tree.{Forest, size, rowsOf, startsOf}
 use Rattle.text.specs.Sheet.{numbers, paper}
 use Rattle.text.specs.Whole.{wholeOf, sheetOf, tableOf}
-use Rattle.text.specs.Doc.{Name, Doc, docOf}
+use Rattle.text.specs.Text.{bytes}
+use Rattle.text.specs.Doc.{Name, Doc, Members, docOf}
 use Rattle.text.specs.Distinct.{Distinct}
 use Rattle.text.specs.Meaning.{Accepts}
 use Rattle.text.specs.Fault.{FirstFault}
 use Rattle.text.specs.Promised.{Filled}
 use Rattle.text.specs.declared.Reading.{Reading}
 use Rattle.contact.specs.Patch.{Entry, entriesOf, run}
-use Rattle.contact.specs.Localize.{refusedLocal, start}
+use Rattle.contact.specs.Localize.{refusedLocal, start, patchedDoc}
 use Rattle.contact.specs.Breaches.{Keeps, FirstBreach}
 use Rattle.contact.specs.Judging.{Judges}
-use Rattle.contact.specs.Conditions.{BrokenCondition, Smallest}
+use Rattle.contact.specs.Conditions.{PatchOf, BrokenCondition, Smallest}
 use Rattle.contact.specs.Likeness.{Reordered}
-use Rattle.contact.specs.Patching.{OrderOnly, PatchedText}
+use Rattle.contact.specs.Patching.{OrderOnly, Patched, LeftOutOf, PatchedText}
 use Rattle.contact.specs.Contract.{Localizes}
-use Rattle.contact.specs.Readback.{PatchedRows}
-use Rattle.contact.specs.Services.{Call, read, judge, localize, wordsOf, roomOf, Left, leaves, served}
+use Rattle.contact.specs.Readback.{WrittenCard, PatchedRows}
+use Rattle.contact.specs.Services.{Call, read, judge, localize, wordsOf, roomOf, Left, leaves}
 use Rattle.contact.specs.declared.Verdict.{Verdict}
 use Rattle.contact.specs.declared.LocalRefusal.{LocalRefusal}
 use Rattle.contact.specs.declared.Localized.{Localized}
 
--- a list of bytes, as every lent text is
-abbrev pub Bytes : List ℕ → Type 0
-Bytes t = AllBelow 256 t
-
 -- the call is accepted: its first number is 0
-abbrev pub Passes : Limits → Call → Type 0
-Passes L c = served L c .answer .number ≡ 0
+abbrev pub Passes : (Call → Left) → Call → Type 0
+Passes serve c = serve c .answer .number ≡ 0
 
 -- ---- demand 1: every call ends, and leaves nothing else
 
@@ -71,9 +68,9 @@ pub record Reads (L : Limits) (words : ℕ) (t : List ℕ) (answer : Reading) (t
   pub left : table ≡ tableOf words (wholeOf L words t)
 
 -- demand 1, of every call
-pub record EveryCall (L : Limits) : Type 0 where
+pub record EveryCall (L : Limits) (serve : Call → Left) : Type 0 where
   -- whatever is lent, a call ends with acceptance or one numbered refusal; after a refusal all is zero, after acceptance all that is unused
-  pub ends : (c : Call) → Ends c (served L c)
+  pub ends : (c : Call) → Ends c (serve c)
   -- for every input, answer, table and output are determined: two outcomes that a contract allows are equal
   pub one-reading : (words : ℕ) (t : List ℕ) (a b : Reading) (x y : List ℕ) → Reads L words t a x → Reads L words t b y → (a ≡ b) × (x ≡ y)
   pub one-judging : (t lent : List ℕ) (a b : Verdict) (x y : List ℕ) → Judges L t lent a x → Judges L t lent b y → (a ≡ b) × (x ≡ y)
@@ -108,46 +105,48 @@ pub record Offends (L : Limits) (words : ℕ) (t : List ℕ) (n p : ℕ) : Type 
   pub place : p ≡ getD (startsOf tree) row 0
 
 -- demand 2, of reading and judging a text
-pub record ReadingAndJudging (L : Limits) : Type 0 where
+pub record ReadingAndJudging (L : Limits) (serve : Call → Left) : Type 0 where
   -- reading accepts exactly the JSON texts that keep I-JSON's rules, within the limits and given rows enough
-  pub accepts : (t : List ℕ) → Bytes t → (words : ℕ) → Passes L (read t words) ↔ ((f : Forest) × Readable L words t f)
+  pub accepts : (t : List ℕ) (words : ℕ) → Passes serve (read t words) ↔ ((f : Forest) × Readable L words t f)
   -- it leaves the rows of that text's tree, one for each value
   pub rows : (t : List ℕ) (words : ℕ) (f : Forest) → Readable L words t f
-      → served L (read t words) ≡ leaves (numbers 0 (size f) 0) (filled words (rowsOf f)) []
+      → serve (read t words) ≡ leaves (numbers 0 (size f) 0) (filled words (rowsOf f)) []
   -- and these describe the text: the tree stands in the table and lies in the text
-  pub describe : (t : List ℕ) (words : ℕ) (f : Forest) → Readable L words t f → Filled L t (served L (read t words) .table) (size f) f
+  pub describe : (t : List ℕ) (words : ℕ) (f : Forest) → Readable L words t f → Filled L t (serve (read t words) .table) (size f) f
   -- any other text is refused: by 1 if it is too long
-  pub too-long : (t : List ℕ) (words second : ℕ) → (served L (read t words) .answer ≡ numbers 1 second 0) ↔ ((L .bytes < length t) × (second ≡ 0))
+  pub too-long : (t : List ℕ) (words second : ℕ) → (serve (read t words) .answer ≡ numbers 1 second 0) ↔ ((L .bytes < length t) × (second ≡ 0))
   -- else by 2 to 6 if it has such a fault, by the one of smallest place and then of smallest number
-  pub first-fault : (t : List ℕ) → Bytes t → length t ≤ L .bytes → (words n p : ℕ) → Within 2 6 n
-      → (served L (read t words) .answer ≡ numbers n p 0) ↔ FirstFault L t n p
+  pub first-fault : (t : List ℕ) → length t ≤ L .bytes → (words n p : ℕ) → Within 2 6 n
+      → (serve (read t words) .answer ≡ numbers n p 0) ↔ FirstFault L t n p
   -- else by 7, with the rows needed
-  pub rows-short : (t : List ℕ) → Bytes t → (words n : ℕ) → (served L (read t words) .answer ≡ numbers 7 n 0) ↔ RowsShort L words t n
+  pub rows-short : (t : List ℕ) (words n : ℕ) → (serve (read t words) .answer ≡ numbers 7 n 0) ↔ RowsShort L words t n
   -- judging refuses as reading does what reading refuses
-  pub unread : (t : List ℕ) (words : ℕ) → ¬ Passes L (read t words) → served L (judge t words) ≡ served L (read t words)
+  pub unread : (t : List ℕ) (words : ℕ) → ¬ Passes serve (read t words) → serve (judge t words) ≡ serve (read t words)
   -- a card passes exactly when it keeps the listed rules, and its rows are left
-  pub passes : (t : List ℕ) → Bytes t → (words : ℕ) → Passes L (judge t words) ↔ ((f : Forest) × CardText L words t f)
-  pub card-rows : (t : List ℕ) (words : ℕ) (f : Forest) → CardText L words t f → served L (judge t words) ≡ served L (read t words)
+  pub passes : (t : List ℕ) (words : ℕ) → Passes serve (judge t words) ↔ ((f : Forest) × CardText L words t f)
+  pub card-rows : (t : List ℕ) (words : ℕ) (f : Forest) → CardText L words t f → serve (judge t words) ≡ serve (read t words)
   -- otherwise the first offending place and its rule come back, of any text that is read
-  pub offends : (t : List ℕ) → Bytes t → (words n p : ℕ) → Passes L (read t words) → 0 < n
-      → (served L (judge t words) .answer ≡ numbers n p 0) ↔ Offends L words t n p
+  pub offends : (t : List ℕ) (words n p : ℕ) → Passes serve (read t words) → 0 < n
+      → (serve (judge t words) .answer ≡ numbers n p 0) ↔ Offends L words t n p
   -- and the row of that place is one of the text's
   pub offender : (t : List ℕ) (words n p : ℕ) (o : Offends L words t n p) → o .row < size (o .tree)
 
 -- ---- demand 3: localizing
 
 -- what an accepted localization of the card text t, of which f is the tree, has left
-pub record Localization (L : Limits) (words room : ℕ) (t : List ℕ) (f : Forest) (lang : Name) : Type 0 where
+pub record Localization (L : Limits) (serve : Call → Left) (words room : ℕ) (t : List ℕ) (f : Forest) (lang : Name) : Type 0 where
   pub text : List ℕ
   pub tree : Forest
   -- the row count and the length are those of the written card
-  pub left : served L (localize t lang words room) ≡ leaves (numbers 0 (size tree) (length text)) (filled words (rowsOf tree)) (filled room text)
+  pub left : serve (localize t lang words room) ≡ leaves (numbers 0 (size tree) (length text)) (filled words (rowsOf tree)) (filled room text)
   -- Set or removed one at a time, in any order, from the card without its localizations, each entry finds its parent, and the end is the written card,
   -- member order not counted. Each entry has its way; a property that no pointer names, enters or covers keeps its value; what is kept stays at its
   -- place, and what is added follows in ascending order of name (`Patched`, specs/Patching.antt).
   pub patched : PatchedText (docOf t f) lang text
   -- the written text is read back as the patched card; it is no longer than t and has no more values
   pub back : PatchedRows L t f lang text tree
+  -- all that is said of a patched card is true of what the written text says
+  pub patched-card : Patched (start (docOf t f)) (back .members) (docOf text tree)
   -- and is a card itself: the whole result was judged
   pub card : CardText L words text tree
   -- names are distinct in a card that is read: so the end of the steps, in any order, differs from the written card in the order of members only
@@ -157,43 +156,56 @@ pub record Localization (L : Limits) (words room : ℕ) (t : List ℕ) (f : Fore
   -- no white space outside strings: no text that is read, under any limits, and says the same card is shorter
   pub compact : (M : Limits) (u : List ℕ) (g : Forest) → Accepts M u g → docOf u g ≡ docOf text tree → length text ≤ length u
 
+-- The card that the conditions speak of, whatever the answer is: what all entries of a PatchObject with the members ms say of the card text t, of which
+-- f is the tree, if none of 22 to 26 is broken. So 27 and 28 are about the patched card and no other.
+pub record WouldBe (L : Limits) (words : ℕ) (t : List ℕ) (f : Forest) (ms : Members) : Type 0 where
+  -- the starting point is the card but for its localizations
+  pub starting : LeftOutOf (bytes "localizations") (docOf t f) (start (docOf t f))
+  -- the card is patched, as the set-or-remove definition says
+  pub patched : Patched (start (docOf t f)) ms (patchedDoc (docOf t f) ms)
+  -- and its text says it: it is read back so, or refused for its depth alone
+  pub writes : WrittenCard L words t f (patchedDoc (docOf t f) ms)
+
 -- demand 3, of localizing a text
-pub record Localizing (L : Limits) : Type 0 where
+pub record Localizing (L : Limits) (serve : Call → Left) : Type 0 where
   -- the card's own refusal comes first
-  pub own : (t : List ℕ) (lang : Name) (words room : ℕ) → ¬ Passes L (judge t words)
-      → served L (localize t lang words room) .answer ≡ served L (judge t words) .answer
+  pub own : (t : List ℕ) (lang : Name) (words room : ℕ) → ¬ Passes serve (judge t words)
+      → serve (localize t lang words room) .answer ≡ serve (judge t words) .answer
   -- The entries of the PatchObject in any order, white space aside. Of two texts that are read and differ so, both pass or both are refused by one
   -- number;
   pub order-judged : (t u : List ℕ) (lang : Name) (words : ℕ) (f g : Forest) → Readable L words t f → Readable L words u g
-      → OrderOnly lang (docOf t f) (docOf u g) → served L (judge t words) .answer .number ≡ served L (judge u words) .answer .number
+      → OrderOnly lang (docOf t f) (docOf u g) → serve (judge t words) .answer .number ≡ serve (judge u words) .answer .number
   -- and where one passes, both have the same answer, table and output, refusals too
   pub any-order : (t u : List ℕ) (lang : Name) (words room : ℕ) (f g : Forest) → CardText L words t f → Readable L words u g
-      → OrderOnly lang (docOf t f) (docOf u g) → served L (localize t lang words room) ≡ served L (localize u lang words room)
+      → OrderOnly lang (docOf t f) (docOf u g) → serve (localize t lang words room) ≡ serve (localize u lang words room)
   -- the same of what the contract allows: also the answer itself, with 28's inner place
   pub any-order-allowed : (t u : List ℕ) (lang : Name) (words room : ℕ) (f g : Forest) → CardText L words t f → Readable L words u g
       → OrderOnly lang (docOf t f) (docOf u g) → (a b : Localized) (x y o q : List ℕ)
       → Localizes L words room t lang a x o → Localizes L words room u lang b y q → (a ≡ b) × (x ≡ y) × (o ≡ q)
   -- all patches or none: what is accepted is patched by all entries, as the set-or-remove definition says, and is judged as a whole
-  pub patched : (t : List ℕ) (lang : Name) (words room : ℕ) (f : Forest) → CardText L words t f → Passes L (localize t lang words room)
-      → Localization L words room t f lang
+  pub patched : (t : List ℕ) (lang : Name) (words room : ℕ) (f : Forest) → CardText L words t f → Passes serve (localize t lang words room)
+      → Localization L serve words room t f lang
   -- it is accepted exactly when none of the conditions 21 to 28 is broken
   pub accepted : (t : List ℕ) (lang : Name) (words room : ℕ) (f : Forest) → CardText L words t f
-      → Passes L (localize t lang words room) ↔ ((n : ℕ) (r : LocalRefusal) → ¬ BrokenCondition L words room (docOf t f) lang n r)
+      → Passes serve (localize t lang words room) ↔ ((n : ℕ) (r : LocalRefusal) → ¬ BrokenCondition L words room (docOf t f) lang n r)
+  -- what 27 and 28 speak of
+  pub would-be : (t : List ℕ) (lang : Name) (words room : ℕ) (f : Forest) → CardText L words t f → (ms : Members) → PatchOf (docOf t f) lang ms
+      → ((n : ℕ) (r : LocalRefusal) → n < 27 → ¬ BrokenCondition L words room (docOf t f) lang n r) → WouldBe L words t f ms
   -- and else refused by the broken condition of smallest number
   pub refused : (t : List ℕ) (lang : Name) (words room : ℕ) (f : Forest) → CardText L words t f → (n second : ℕ) → 0 < n
-      → (served L (localize t lang words room) .answer ≡ numbers n second 0)
+      → (serve (localize t lang words room) .answer ≡ numbers n second 0)
       ↔ ((r : LocalRefusal) × (refusedLocal r ≡ numbers n second 0) × Smallest L words room (docOf t f) lang n r)
   -- an output as long as the card's text always has room
-  pub room-enough : (t : List ℕ) (lang : Name) (words room needed : ℕ) → served L (localize t lang words room) .answer ≡ numbers 27 needed 0
+  pub room-enough : (t : List ℕ) (lang : Name) (words room needed : ℕ) → serve (localize t lang words room) .answer ≡ numbers 27 needed 0
       → (room < needed) × (needed ≤ length t)
   -- the refusal inside 28 can be 5 or 11 to 14
-  pub inner : (t : List ℕ) (lang : Name) (words room number : ℕ) → served L (localize t lang words room) .answer ≡ numbers 28 number 0
+  pub inner : (t : List ℕ) (lang : Name) (words room number : ℕ) → serve (localize t lang words room) .answer ≡ numbers 28 number 0
       → (number ≡ 5) ⊎ Within 11 14 number
 
 -- ---- all three
 
--- the three demands, under the limits L
-pub record Demands (L : Limits) : Type 0 where
-  pub every-call : EveryCall L
-  pub reading-and-judging : ReadingAndJudging L
-  pub localizing : Localizing L
+-- the three demands, under the limits L, of services that leave what `serve` says
+pub record Demands (L : Limits) (serve : Call → Left) : Type 0 where
+  pub every-call : EveryCall L serve
+  pub reading-and-judging : ReadingAndJudging L serve
+  pub localizing : Localizing L serve

@@ -9,7 +9,7 @@ use Rattle.laws.specs.Sorting.{Perm}
 use Rattle.text.specs.Limits.{Limits}
 use Rattle.text.specs.Text.{bytes}
 use Rattle.text.specs.Tree.{Forest}
-use Rattle.text.specs.Doc.{Name, Doc, object, Members, empty, member, property, docOf}
+use Rattle.text.specs.Doc.{Name, Doc, object, Members, empty, member, property, docOf, kindOf}
 use Rattle.text.specs.Distinct.{Distinct, DistinctMembers}
 use Rattle.text.specs.Writing.{written}
 use Rattle.contact.specs.Verdict.{passed, failed, judgedOf}
@@ -18,7 +18,7 @@ use Rattle.contact.specs.PointerText.{PointerText}
 use Rattle.contact.specs.Patch.{Change, Entry, entriesOf, run}
 use Rattle.contact.specs.Localize.{refusedLocal, done, denied, start, localizedDoc, localizedOf}
 use Rattle.contact.specs.Likeness.{SameDoc, Reordered}
-use Rattle.contact.specs.Entries.{HasEntry, valued, Clear, Shuffled, Laid, NotOver, LaidAt}
+use Rattle.contact.specs.Entries.{HasEntry, labelOf, valued, Clear, Shuffled, Laid, NotOver, LaidAt}
 use Rattle.contact.specs.Conditions.{LooseTilde, PatchOf, Smallest, Accepted}
 use Rattle.contact.specs.declared.CardRefusal.{CardRefusal}
 use Rattle.contact.specs.declared.LocalRefusal.{LocalRefusal}
@@ -51,6 +51,11 @@ pub record RunsTo (es : List Entry) (d e : Doc) : Type 0 where
   pub reached : run es d ≡ some end
   pub alike : SameDoc end e
 
+-- one of the members has this name and this value
+pub data HasValue (key : Name) (v : Doc) : Members → Type 0 where
+  first : {label : List ℕ} {ms : Members} → HasValue key v (member key label v ms)
+  later : {n : Name} {label : List ℕ} {d : Doc} {ms : Members} → HasValue key v ms → HasValue key v (member n label d ms)
+
 -- x is what the entries of a PatchObject with the members ms say of the card d without its localizations
 pub record Patched (d : Doc) (ms : Members) (x : Doc) : Type 0 where
   -- set or removed one at a time, in any order; where names are distinct, the end and x differ in the order of members only
@@ -60,6 +65,10 @@ pub record Patched (d : Doc) (ms : Members) (x : Doc) : Type 0 where
   pub distinct : Distinct d → DistinctMembers ms → Distinct x
   -- each entry has its way: what its pointer finds is the value that it sets, under the name as it was written, or nothing
   pub effects : (p : Pointer) (c : Change) → HasEntry p c (entriesOf ms) → find p x ≡ valued (lastPart p) c (find p d)
+  -- the same, said of the PatchObject itself: a key writes a pointer; its value is found there, under the name as it was written; null leaves nothing there
+  pub sets : (key : Name) (v : Doc) (p : Pointer) → HasValue key v ms → PointerText key p → ¬ (kindOf v ≡ 1)
+      → find p x ≡ some (property (labelOf (lastPart p) (find p d)) v)
+  pub removes : (key : Name) (v : Doc) (p : Pointer) → HasValue key v ms → PointerText key p → kindOf v ≡ 1 → find p x ≡ none
   -- a property that no pointer names, enters or covers: its name as written and its value
   pub keeps : (p : Pointer) → Clear p (entriesOf ms) → find p x ≡ find p d
   -- members keep their places, and added ones follow in ascending order of name: in the card itself, and in each object that is not replaced as a whole

@@ -4,17 +4,16 @@
 --     whole-rows, whole-all, whole-again, whole-other      from a reading with as many values as the table has rows to the answer
 --     paper-rows, paper-refused            the answer on paper
 -- Assumes nothing.
-use Prim.Native.Nat.{ℕ, _≤_}
+use Prim.Native.Nat.{ℕ, _≤_, _<_}
 use mathlib.Core.Path.{_≡_, refl, _∙_}
 use mathlib.Core.List.{List}
 use mathlib.Core.Bool.{true, false}
 use native.Mathlib.Nat.{sub-zero}
 use native.Mathlib.Omega.{arith}
 use lib.ListN.{length, replicate}
-use borrow.Author.Tests.{le-ltb, eq-eqb, ne-eqb}
+use borrow.Author.Tests.{lt-ltb, le-ltb}
 use Rattle.laws.proofs.Sets.{sets-cleared}
 use Rattle.text.specs.Limits.{base}
-use Rattle.text.specs.Text.{byteAt}
 use Rattle.text.specs.Tokens.{skip}
 use Rattle.text.specs.Tree.{Forest, rowsOf}
 use Rattle.text.specs.Reader.{Read, good, bad, valueAt}
@@ -41,13 +40,13 @@ module _ (limit : ℕ) (t : List ℕ) (h : length t ≤ base .bytes) where
   text-stop r e = short ∙ rw e
 
   module _ (f : Forest) (to end : ℕ) (e : valueAt (upTo limit) t (base .depth) 0 0 (skip t 0) 0 ≡ good f to) (s : end ≡ skip t to) where
-    pub text-more : (byteAt t end ≡ 256 → ⊥) → readOf (upTo limit) t ≡ bad (Grammar end)
+    pub text-more : end < length t → readOf (upTo limit) t ≡ bad (Grammar end)
     unfolding endOf
-    text-more k = short ∙ rw (e, ← s, ne-eqb _ _ k)
+    text-more k = short ∙ rw (e, ← s, lt-ltb _ _ k)
 
-    pub text-good : byteAt t end ≡ 256 → readOf (upTo limit) t ≡ good f end
+    pub text-good : length t ≤ end → readOf (upTo limit) t ≡ good f end
     unfolding endOf
-    text-good k = short ∙ rw (e, ← s, eq-eqb _ _ k)
+    text-good k = short ∙ rw (e, ← s, le-ltb _ _ k)
 
 -- ---- a second reading ----
 

@@ -6,7 +6,8 @@ use lib.ListN.{length}
 use lib.Seq.{sets}
 use Rattle.text.specs.Limits.{Limits, rowWords, base}
 use Rattle.text.specs.Fewer.{withValues}
-use Rattle.text.specs.Tree.{Bracket, square, curly, closing, Forest, size, rowsOf}
+use Rattle.text.specs.Tree.{Bracket, square, curly, Forest, size, rowsOf}
+use Rattle.text.specs.Grammar.{closing}
 use Rattle.text.specs.Standing.{StandsTo}
 use Rattle.text.specs.Reader.{Read, good, bad, Reader, ItemReader, colonAt, memberOf, insideOf, valueAt, arrayAt, objectAt}
 use Rattle.json.specs.Rows.{Word}

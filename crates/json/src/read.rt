@@ -1,5 +1,4 @@
 // Reading a whole text into a lent table.
-use crate::bytes::peek;
 use crate::limits::BYTES;
 use crate::limits::DEPTH;
 use crate::limits::ROW_WORDS;
@@ -109,7 +108,7 @@ fn read_whole(text: &[u8], table: &mut [u32], limit: usize) -> Reading
         Part::Stop(r) => Reading::Refused(r),
         Part::Next(to, count) => {
             let end = skip(text, to);
-            if peek(text, end) != 256 {
+            if end < text.len() {
                 return Reading::Refused(Refusal::Grammar(end));
             }
             Reading::Rows(count)

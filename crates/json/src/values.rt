@@ -15,6 +15,7 @@ ghost use Prim.Native.Nat.{_+_, _<_};
 ghost use lib.ListN.{length};
 ghost use Rattle.text.specs.Text.{byteAt};
 ghost use Rattle.text.specs.Tokens as tokens;
+ghost use Rattle.text.specs.Grammar as grammar;
 ghost use Rattle.text.specs.Tree as tree;
 ghost use Rattle.text.specs.Tree.{Forest};
 ghost use Rattle.text.specs.Standing.{StandsTo};
@@ -83,7 +84,7 @@ fn kind_in(of: Container) -> usize
 
 // The byte that closes a container.
 fn closing(of: Container) -> u16
-    ensures { λ r. ⌜ r ≡ tree.closing (bracketOf of) ⌝ }
+    ensures { λ r. ⌜ r ≡ grammar.closing (bracketOf of) ⌝ }
 {
     match of {
         Container::Array => 93,

@@ -13,14 +13,15 @@ use mathlib.Core.Bool.{Bool, true, false, cond}
 use native.Mathlib.Decide.{decLe}
 use native.Mathlib.Omega.{arith}
 use lib.ListN.{length}
-use lib.Dec.{leb, eqb}
+use lib.Dec.{ltb, leb, eqb}
 use borrow.Author.Tests.{lt-ltb, le-ltb, le-leb, lt-leb}
 use Rattle.text.specs.Limits.{Limits, rowWords, base}
 use Rattle.text.specs.Fewer.{withValues}
 use Rattle.text.specs.Text.{byteAt}
 use Rattle.text.specs.Strings.{stringEnd, nameOf}
 use Rattle.text.specs.Tokens.{skip, kindBy, tokenAt}
-use Rattle.text.specs.Tree.{Bracket, square, curly, closing, Forest, none, leaf, node, size, join}
+use Rattle.text.specs.Tree.{Bracket, square, curly, Forest, none, leaf, node, size, join}
+use Rattle.text.specs.Grammar.{closing}
 use Rattle.text.specs.Reader.{Read, good, bad, Reader, ItemReader, scalarWith, scalarAt, closeOf, container, deep, valueWith, afterItem, itemsFrom, insideOf, named, colonAt, memberWith, memberOf, valueAt}
 use Rattle.text.specs.Whole.{endOf, readOf, fitOf, wholeOf}
 use Rattle.text.specs.declared.Token.{Token}
@@ -279,12 +280,12 @@ module _ (L : Limits) (t : List ℕ) (depth ns ne at n : ℕ) where
 
 end-over : (t : List ℕ) {v n : ℕ} {b : Read} → Over v n b → Over v n (endOf t b)
 unfolding endOf
-end-over t (more f {to} h) = over-cond (eqb (byteAt t (skip t to)) 256) (more f h) (refuses tt)
+end-over t (more f {to} h) = over-cond (ltb (skip t to) (length t)) (refuses tt) (more f h)
 end-over t (refuses i) = refuses i
 
 end-fewer : (t : List ℕ) {v n : ℕ} {a b : Read} → Fewer v n a b → Fewer v n (endOf t a) (endOf t b)
 unfolding endOf
-end-fewer t (both f {to} h) = fewer-cond (eqb (byteAt t (skip t to)) 256) (both f h) (neither tt)
+end-fewer t (both f {to} h) = fewer-cond (ltb (skip t to) (length t)) (neither tt) (both f h)
 end-fewer t (neither i) = neither i
 end-fewer t (cut o) = cut (end-over t o)
 

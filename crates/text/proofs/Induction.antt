@@ -15,7 +15,8 @@ use Rattle.text.specs.Limits.{Limits}
 use Rattle.text.specs.Text.{byteAt}
 use Rattle.text.specs.Strings.{stringEnd, nameOf}
 use Rattle.text.specs.Tokens.{skip, isDigit, kindBy, tokenAt}
-use Rattle.text.specs.Tree.{Bracket, square, curly, bracketKind, closing, Forest, none, leaf, node, size, join}
+use Rattle.text.specs.Tree.{Bracket, square, curly, bracketKind, Forest, none, leaf, node, size, join}
+use Rattle.text.specs.Grammar.{closing}
 use Rattle.text.specs.Firsts.{ScalarKind}
 use Rattle.text.specs.Reader.{Read, good, bad, Reader, ItemReader, scalarWith, scalarAt, closeOf, container, deep, valueWith, afterItem, itemsFrom, insideOf, named, colonAt, memberWith, memberOf, valueAt}
 use Rattle.text.specs.Whole.{endOf, readOf}
@@ -209,23 +210,23 @@ pub record Accepted (L : Limits) (t : List ℕ) (f : Forest) (to : ℕ) : Type 0
   pub end : ℕ
   pub value : valueAt L t (L .depth) 0 0 (skip t 0) 0 ≡ good f end
   pub space : skip t end ≡ to
-  pub ended : byteAt t to ≡ 256
+  pub ended : length t ≤ to
   pub short : length t ≤ L .bytes
 
 pub read-accepted : (L : Limits) (t : List ℕ) (f : Forest) (to : ℕ) → readOf L t ≡ good f to → Accepted L t f to
 unfolding readOf endOf
 read-accepted L t f to e = whole (ltb (L .bytes) (length t)) refl (valueAt L t (L .depth) 0 0 (skip t 0) 0) refl e
   where
-    tail : (g : Forest) (end : ℕ) → valueAt L t (L .depth) 0 0 (skip t 0) 0 ≡ good g end → length t ≤ L .bytes → (c : Bool) → eqb (byteAt t (skip t end)) 256 ≡ c
-        → cond c (good g (skip t end)) (bad (Grammar (skip t end))) ≡ good f to → Accepted L t f to
-    tail g end v s true h q =
+    tail : (g : Forest) (end : ℕ) → valueAt L t (L .depth) 0 0 (skip t 0) 0 ≡ good g end → length t ≤ L .bytes → (c : Bool) → ltb (skip t end) (length t) ≡ c
+        → cond c (bad (Grammar (skip t end))) (good g (skip t end)) ≡ good f to → Accepted L t f to
+    tail g end v s false h q =
         let same : g ≡ f = cc in
         let place : skip t end ≡ to = cc in
-        record { end = end; value = v ∙ rw same; space = place; ended = rw (← place) (eqb-true (byteAt t (skip t end)) 256 h); short = s }
-    tail g end v s false h q = let z : _≡_ {A = ℕ} 0 1 = cc in absurd (omega arith)
+        record { end = end; value = v ∙ rw same; space = place; ended = rw (← place) (ltb-false (skip t end) (length t) h); short = s }
+    tail g end v s true h q = let z : _≡_ {A = ℕ} 0 1 = cc in absurd (omega arith)
 
     whole : (c : Bool) → ltb (L .bytes) (length t) ≡ c → (r : Read) → valueAt L t (L .depth) 0 0 (skip t 0) 0 ≡ r
         → cond c (bad TooLong) (endOf t r) ≡ good f to → Accepted L t f to
     whole true h r v q = let z : _≡_ {A = ℕ} 0 1 = cc in absurd (omega arith)
     whole false h (bad r) v q = let z : _≡_ {A = ℕ} 0 1 = cc in absurd (omega arith)
-    whole false h (good g end) v q = tail g end v (ltb-false (L .bytes) (length t) h) (eqb (byteAt t (skip t end)) 256) refl q
+    whole false h (good g end) v q = tail g end v (ltb-false (L .bytes) (length t) h) (ltb (skip t end) (length t)) refl q

@@ -14,7 +14,8 @@ use Rattle.text.specs.Limits.{Limits}
 use Rattle.text.specs.Text.{byteAt}
 use Rattle.text.specs.Strings.{stringEnd}
 use Rattle.text.specs.Tokens.{skip, kindBy, tokenAt}
-use Rattle.text.specs.Tree.{Bracket, square, curly, bracketKind, closing, Forest, none, leaf, node, join}
+use Rattle.text.specs.Tree.{Bracket, square, curly, bracketKind, Forest, none, leaf, node, join}
+use Rattle.text.specs.Grammar.{closing}
 use Rattle.text.specs.Firsts.{HasFirst, kindAt, nameStart, nameEnd, startAt, endAt, insideAt, restAt, ScalarKind, Kinds}
 use Rattle.text.specs.Placed.{Quoted, Unnamed, NameIn, Numeral, TokenIn, null, falsity, truth, number, string, Spot, Placed, nothing, token, box}
 use Rattle.text.specs.Reader.{good, valueAt}

@@ -12,7 +12,7 @@ use lib.ListN.{length}
 use Rattle.text.specs.Text.{bytes}
 use Rattle.text.specs.Spelling.{FourDigits, Short}
 use Rattle.text.specs.Abnf.{Byte, Between, Just, Exactly, Seq, Or, Opt, Star}
-use Rattle.text.specs.Tree.{Bracket, square, curly, closing, Forest, none, leaf, node, join}
+use Rattle.text.specs.Tree.{Bracket, square, curly, Forest, none, leaf, node, join}
 
 -- ---- section 2: white space
 
@@ -109,6 +109,11 @@ IsSimple text = JsonString
 abbrev pub opening : Bracket → ℕ
 opening square = 0x5B
 opening curly = 0x7B
+
+-- end-array and end-object
+abbrev pub closing : Bracket → ℕ
+closing square = 0x5D
+closing curly = 0x7D
 
 -- an item of an array is a value, one of an object is a member; items have commas between them
 pub data Part : Type 0 where

@@ -11,7 +11,8 @@ use Rattle.laws.specs.Lists.{partOf}
 use Rattle.text.specs.Text.{byteAt, bytes}
 use Rattle.text.specs.Spelling.{Spells}
 use Rattle.text.specs.Tokens.{isDigit, kindBy}
-use Rattle.text.specs.Tree.{Bracket, square, curly, bracketKind, closing, Forest, none, leaf, node}
+use Rattle.text.specs.Tree.{Bracket, square, curly, bracketKind, Forest, none, leaf, node}
+use Rattle.text.specs.Grammar.{closing}
 
 -- ---- strings and names
 

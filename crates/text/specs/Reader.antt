@@ -12,7 +12,7 @@ use Rattle.laws.specs.Order.{same}
 use Rattle.text.specs.Text.{byteAt}
 use Rattle.text.specs.Strings.{stringEnd, nameOf}
 use Rattle.text.specs.Tokens.{skip, kindBy, tokenAt}
-use Rattle.text.specs.Tree.{Bracket, square, curly, closing, Forest, none, leaf, node, size, join}
+use Rattle.text.specs.Tree.{Bracket, square, curly, Forest, none, leaf, node, size, join}
 use Rattle.text.specs.declared.Token.{Token}
 use Rattle.text.specs.declared.Token.the-variants.{End, No2, No3}
 use Rattle.text.specs.declared.Refusal.{Refusal}
@@ -127,11 +127,11 @@ memberOf L t value done at n =
 
 -- what stands inside an array, from after its bracket on, given the reader of its elements, which have no names
 abbrev pub insideArray : List ℕ → (value : Reader) → (at n : ℕ) → Read
-insideArray t value = insideOf t (λ done. value 0 0) (closing square)
+insideArray t value = insideOf t (λ done. value 0 0) 93
 
 -- what stands inside an object, from after its brace on, given the reader of its members' values
 abbrev pub insideObject : Limits → List ℕ → (value : Reader) → (at n : ℕ) → Read
-insideObject L t value = insideOf t (memberOf L t value) (closing curly)
+insideObject L t value = insideOf t (memberOf L t value) 125
 
 -- the value at a place; inside a container that it opens, one container fewer may be opened
 unfoldable pub valueAt : Limits → List ℕ → (depth : ℕ) → Reader

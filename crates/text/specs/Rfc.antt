@@ -7,8 +7,8 @@
 -- Assumes nothing: these are definitions.
 use Prim.Native.Nat.{ℕ}
 use mathlib.Core.List.{List, [], _∷_, _++_}
-use Rattle.text.specs.Tree.{Bracket, square, curly, closing}
-use Rattle.text.specs.Grammar.{Ws, JsonString, Simple, IsSimple, opening, Part, value, item, items}
+use Rattle.text.specs.Tree.{Bracket, square, curly}
+use Rattle.text.specs.Grammar.{Ws, JsonString, Simple, IsSimple, opening, Part, value, item, items, closing}
 
 -- a structural character c with the white space a before it and b after it, and then w
 abbrev pub mark : ℕ → List ℕ → List ℕ → List ℕ → List ℕ

@@ -4,10 +4,9 @@ use Prim.Native.Nat.{ℕ, _*_}
 use mathlib.Core.List.{List, []}
 use mathlib.Core.Bool.{cond}
 use lib.ListN.{length}
-use lib.Dec.{ltb, eqb}
+use lib.Dec.{ltb}
 use Rattle.text.specs.Limits.{Limits}
 use Rattle.laws.specs.Lists.{filled}
-use Rattle.text.specs.Text.{byteAt}
 use Rattle.text.specs.Tokens.{skip}
 use Rattle.text.specs.Tree.{size, rowsOf}
 use Rattle.text.specs.Reader.{Read, good, bad, valueAt}
@@ -18,7 +17,7 @@ use Rattle.text.specs.declared.Refusal.the-variants.{TooLong, Grammar, S
 -- a value with nothing but white space after it (8259: JSON-text = ws value ws)
 unfoldable pub endOf : List ℕ → Read → Read
 endOf t (bad r) = bad r
-endOf t (good f to) = let x = skip t to in cond (eqb (byteAt t x) 256) (good f x) (bad (Grammar x))
+endOf t (good f to) = let x = skip t to in cond (ltb x (length t)) (bad (Grammar x)) (good f x)
 
 -- the tree of a text, or the refusal of 1 to 6; 1 comes first
 unfoldable pub readOf : Limits → List ℕ → Read

@@ -23,18 +23,18 @@ use Rattle.text.proofs.Grammar.Accepted.{accepts}
 use Rattle.contact.specs.Verdict.{Judged, passed, failed, judgedOf, sheetOfJudged, paperOfVerdict}
 use Rattle.contact.specs.Patch.{Entry, entriesOf, run}
 use Rattle.contact.specs.Localize.{refusedLocal, Outcome, done, denied, start, patchAt, patchedDoc, localizedDoc, localizedOf, sheetOfOutcome, tableOfOutcome, outputOfOutcome, answerOfOutcome, paperOfLocalized}
-use Rattle.contact.specs.Conditions.{BrokenCondition, Smallest}
+use Rattle.contact.specs.Conditions.{PatchOf, BrokenCondition, Smallest}
 use Rattle.contact.specs.Likeness.{Reordered}
 use Rattle.contact.specs.Patching.{Patched}
 use Rattle.contact.specs.Readback.{PatchedRows}
 use Rattle.contact.specs.Services.{judge, localize, served}
-use Rattle.contact.specs.Demands.{Passes, Within, CardText, Localization}
+use Rattle.contact.specs.Demands.{Passes, Within, CardText, WouldBe, Localization}
 use Rattle.contact.specs.declared.LocalRefusal.{LocalRefusal}
 use Rattle.contact.proofs.Judging.{judging}
 use Rattle.contact.proofs.Patching.Public.{passed-so, failed-so}
 use Rattle.contact.proofs.Patching.Distinct.{distinct-start, find-distinct}
 use Rattle.contact.proofs.Patching.Fine.{Fine, fine}
-use Rattle.contact.proofs.Patching.Together.{patched-so, patching}
+use Rattle.contact.proofs.Patching.Together.{start-left, patched-so, patching}
 use Rattle.contact.proofs.Patching.Readback.{readback}
 use Rattle.contact.proofs.Demands.Sheet.{line-of, local-line, local-some, Late, early, late-short, late-inner, late, same-number, same-second}
 
@@ -42,7 +42,7 @@ module _ (L : Limits) (unique : L .unique ≡ true) (words room : ℕ) (t : List
   abbrev outcome : Outcome
   outcome = localizedOf L words room t lang
 
-  pub localize-own : ¬ Passes L (judge t words) → served L (localize t lang words room) .answer ≡ served L (judge t words) .answer
+  pub localize-own : ¬ Passes (served L) (judge t words) → served L (localize t lang words room) .answer ≡ served L (judge t words) .answer
   unfolding served sheetOfOutcome paperOfLocalized answerOfOutcome sheetOfJudged paperOfVerdict refusedLocal
   localize-own not = go (judgedOf L words t) refl
     where
@@ -68,9 +68,24 @@ module _ (L : Limits) (unique : L .unique ≡ true) (words room : ℕ) (t : List
         let (to, whole, keeps) = judging .accepted L words t f .0 pass in
         promised L t f to (whole-good L words t f to whole .read) .distinct unique
 
+    pub localize-would : (ms : Members) → PatchOf (docOf t f) lang ms
+        → ((n : ℕ) (r : LocalRefusal) → n < 27 → ¬ BrokenCondition L words room (docOf t f) lang n r) → WouldBe L words t f ms
+    localize-would ms patch u =
+        let h : Fine (docOf t f) ms = fine L words room (docOf t f) lang ms patch u in
+        record {
+          starting = start-left (docOf t f) lang ms patch;
+          patched = patched-so L words room (start (docOf t f)) ms (h .noClash) (h .parents);
+          writes = readback L words room unique .written-card t f lang ms pass patch u;
+        }
+
     module _ (text : List ℕ) (g : Forest) (rows : PatchedRows L t f lang text g) where
       abbrev ms : Members
       ms = rows .members
+
+      patched-card : outcome ≡ done text g → Patched (start (docOf t f)) ms (docOf text g)
+      patched-card e =
+          let u = patching L words room .accepted (docOf t f) lang text g .0 (of-doc (done text g) e) .unbroken in
+          rw (rows .says) (localize-would ms (rows .patch) (λ m q l. u m q) .patched)
 
       steps : outcome ≡ done text g → (fs : List Entry) → Perm (entriesOf ms) fs
           → (end : Doc) × (run fs (start (docOf t f)) ≡ some end) × Reordered end (docOf text g)
@@ -87,7 +102,7 @@ module _ (L : Limits) (unique : L .unique ≡ true) (words room : ℕ) (t : List
           let same = ap (λ (d : Doc). length (written d)) (e ∙ rows .says) in
           omega (arith, text-shorter M u h (length u) (accepts M u h .1 a), same, ap length (rows .writes))
 
-    localization : (text : List ℕ) (g : Forest) → outcome ≡ done text g → Localization L words room t f lang
+    localization : (text : List ℕ) (g : Forest) → outcome ≡ done text g → Localization L (served L) words room t f lang
     unfolding served sheetOfOutcome paperOfLocalized answerOfOutcome tableOfOutcome outputOfOutcome
     localization text g e =
         let (h, k, rows) = readback L words room unique .accepted t lang text g e in
@@ -99,21 +114,22 @@ module _ (L : Limits) (unique : L .unique ≡ true) (words room : ℕ) (t : List
           left = rw e;
           patched = patching L words room .written-so (docOf t f) lang text g (of-doc (done text g) e);
           back = back;
+          patched-card = patched-card text g back e;
           card = card-written text g e (rows .reads);
           one-by-one = steps text g back e;
           distinct = promised L text g (length text) (rows .reads) .distinct unique;
           compact = shortest text g back;
         }
 
-    pub localize-patched : Passes L (localize t lang words room) → Localization L words room t f lang
+    pub localize-patched : Passes (served L) (localize t lang words room) → Localization L (served L) words room t f lang
     unfolding served sheetOfOutcome paperOfLocalized answerOfOutcome
     localize-patched = go outcome refl
       where
-        go : (o : Outcome) → outcome ≡ o → sheetOfOutcome o .number ≡ 0 → Localization L words room t f lang
+        go : (o : Outcome) → outcome ≡ o → sheetOfOutcome o .number ≡ 0 → Localization L (served L) words room t f lang
         go (done text g) e z = localization text g e
         go (denied r) e z = absurd (omega (arith, local-some (refusedLocal r .number) (line-of (local-line r))))
 
-    pub localize-accepted : Passes L (localize t lang words room) ↔ ((n : ℕ) (r : LocalRefusal) → ¬ BrokenCondition L words room (docOf t f) lang n r)
+    pub localize-accepted : Passes (served L) (localize t lang words room) ↔ ((n : ℕ) (r : LocalRefusal) → ¬ BrokenCondition L words room (docOf t f) lang n r)
     unfolding served sheetOfOutcome paperOfLocalized answerOfOutcome
     localize-accepted = (λ z. unbroken outcome refl z, λ u. whole outcome refl u)
       where

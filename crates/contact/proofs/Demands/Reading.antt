@@ -8,7 +8,6 @@ use mathlib.Core.List.{List, []}
 use lib.ListN.{length}
 use borrow.Author.Tests.{lt-ltb, le-ltb}
 use Rattle.laws.specs.Lists.{filled}
-use Rattle.laws.proofs.Bounds.{below-at}
 use Rattle.laws.proofs.Branches.{if-less}
 use Rattle.text.specs.Limits.{Limits}
 use Rattle.text.specs.Tokens.{skip}
@@ -30,12 +29,12 @@ use Rattle.text.proofs.Grammar.Stands.{by-order}
 use Rattle.text.proofs.Grammar.Sound.{Parsed}
 use Rattle.text.proofs.Grammar.Rules.{wrong-number, breaks-wrong}
 use Rattle.text.proofs.Grammar.Wholes.{root-told, read-inside}
-use Rattle.text.proofs.Grammar.Accepted.{accepts}
+use Rattle.text.proofs.Grammar.Accepted.{accepts, accepts-whole}
 use Rattle.text.proofs.Grammar.Refused.{refuses, too-long}
 use Rattle.contact.specs.Verdict.{refusedCard, Judged, passed, failed, judgedRead, judgedOf, sheetOfJudged, tableOfJudged, paperOfVerdict}
 use Rattle.contact.specs.Judging.{Says, unread, passes, breaks-first}
 use Rattle.contact.specs.Services.{read, judge, leaves, served}
-use Rattle.contact.specs.Demands.{Bytes, Passes, Within, Readable, CardText, RowsShort, Offends}
+use Rattle.contact.specs.Demands.{Passes, Within, Readable, CardText, RowsShort, Offends}
 use Rattle.contact.proofs.Judging.{judging}
 use Rattle.contact.proofs.Demands.Sheet.{OnLine, on-line, line-of, text-line, card-line, card-some, same-number, same-second}
 
@@ -48,19 +47,11 @@ module _ (L : Limits) (words : ℕ) (t : List ℕ) where
   unfolding wholeOf fitOf
   whole-bad r e = rw e
 
-  -- a text of bytes that is read is read to its end
-  to-the-end : Bytes t → (f : Forest) (to : ℕ) → readOf L t ≡ good f to → to ≡ length t
-  to-the-end small f to e =
-      let a = read-accepted L t f to e in
-      let p : Parsed L t value (L .depth) top 0 0 (skip t 0) f (a .end) = rw (a .value) at (root-told L t) in
-      let i : skip t (a .end) ≤ length t = read-inside L t p in
-      by-order to (length t) (λ l. absurd (omega (arith, below-at 256 t small to 256 l))) (λ l. omega arith)
+  read-accepts : (f : Forest) (to : ℕ) → readOf L t ≡ good f to → Accepts L t f
+  read-accepts f to e = accepts-whole L t f to e .0
 
-  read-accepts : Bytes t → (f : Forest) (to : ℕ) → readOf L t ≡ good f to → Accepts L t f
-  read-accepts small f to e = accepts L t f .0 (e ∙ ap (good f) (to-the-end small f to e))
-
-  good-readable : Bytes t → (f : Forest) (to : ℕ) → wholeOf L words t ≡ good f to → Readable L words t f
-  good-readable small f to e = let fit = whole-good L words t f to e in record { accepts = read-accepts small f to (fit .read); enough = fit .room }
+  good-readable : (f : Forest) (to : ℕ) → wholeOf L words t ≡ good f to → Readable L words t f
+  good-readable f to e = let fit = whole-good L words t f to e in record { accepts = read-accepts f to (fit .read); enough = fit .room }
 
   fault-number : {n p : ℕ} → FaultAt L t n p → Within 2 6 n
   fault-number (grammar g) = omega arith
@@ -73,30 +64,30 @@ module _ (L : Limits) (words : ℕ) (t : List ℕ) where
     short : (f : Forest) → Accepts L t f → words < L .words * size f → Means (bad (Small (size f)))
     fits : (f : Forest) (to : ℕ) → Readable L words t f → Means (good f to)
 
-  refusal-means : Bytes t → (r : Refusal) → readOf L t ≡ bad r → Means (bad r)
-  refusal-means small r e =
+  refusal-means : (r : Refusal) → readOf L t ≡ bad r → Means (bad r)
+  refusal-means r e =
       by-order (L .bytes) (length t)
       (λ l. let z : bad TooLong ≡ bad r = sym (too-long L t .1 l) ∙ e in subst Means z (long l))
       (λ l. go l (refused r) refl (text-line r))
     where
       go : length t ≤ L .bytes → (q : Paper) → refused r ≡ q → OnLine (Within 1 7) q → Means (bad r)
-      go l q k (on-line n p w) = faulty n p k l (refuses L t small l n p .0 (record { refusal = r; answer = e; sheet = k }))
+      go l q k (on-line n p w) = faulty n p k l (refuses L t l n p .0 (record { refusal = r; answer = e; sheet = k }))
 
-  means : Bytes t → Means (wholeOf L words t)
+  means : Means (wholeOf L words t)
   unfolding wholeOf fitOf
-  means small = go (readOf L t) refl
+  means = go (readOf L t) refl
     where
       go : (R : Read) → readOf L t ≡ R → Means (fitOf L words R)
-      go (bad r) e = refusal-means small r e
+      go (bad r) e = refusal-means r e
       go (good f to) e =
-          let a = read-accepts small f to e in
+          let a = read-accepts f to e in
           if-less Means words (L .words * size f) (λ l. short f a l) (λ l. fits f to (record { accepts = a; enough = l }))
 
   -- ---- reading, of what it leaves
 
-  pub read-passes : Bytes t → Passes L (read t words) ↔ ((f : Forest) × Readable L words t f)
+  pub read-passes : Passes (served L) (read t words) ↔ ((f : Forest) × Readable L words t f)
   unfolding served sheetOf refused
-  read-passes small = (λ e. go (wholeOf L words t) (means small) e, λ (f, r). rw (readable-good f r))
+  read-passes = (λ e. go (wholeOf L words t) means e, λ (f, r). rw (readable-good f r))
     where
       go : (R : Read) → Means R → sheetOf R .number ≡ 0 → (f : Forest) × Readable L words t f
       go R (long l) e = absurd (omega arith)
@@ -131,9 +122,9 @@ module _ (L : Limits) (words : ℕ) (t : List ℕ) where
           absurd (if-less (λ (R : Read). sheetOf R ≡ numbers 1 second 0 → ⊥) words (L .words * size f)
           (λ l k. omega (arith, same-number k)) (λ l k. omega (arith, same-number k)) e)
 
-  pub read-fault : Bytes t → length t ≤ L .bytes → (n p : ℕ) → Within 2 6 n → (served L (read t words) .answer ≡ numbers n p 0) ↔ FirstFault L t n p
+  pub read-fault : length t ≤ L .bytes → (n p : ℕ) → Within 2 6 n → (served L (read t words) .answer ≡ numbers n p 0) ↔ FirstFault L t n p
   unfolding served sheetOf refused
-  read-fault small within n p w = (λ e. go (wholeOf L words t) (means small) e, back)
+  read-fault within n p w = (λ e. go (wholeOf L words t) means e, back)
     where
       go : (R : Read) → Means R → sheetOf R ≡ numbers n p 0 → FirstFault L t n p
       go R (long l) e = absurd (omega arith)
@@ -142,11 +133,11 @@ module _ (L : Limits) (words : ℕ) (t : List ℕ) where
       go R (fits f to r) e = absurd (omega (arith, same-number e))
 
       back : FirstFault L t n p → sheetOf (wholeOf L words t) ≡ numbers n p 0
-      back h = let r = refuses L t small within n p .1 h in rw (whole-bad (r .refusal) (r .answer)) (r .sheet)
+      back h = let r = refuses L t within n p .1 h in rw (whole-bad (r .refusal) (r .answer)) (r .sheet)
 
-  pub read-short : Bytes t → (n : ℕ) → (served L (read t words) .answer ≡ numbers 7 n 0) ↔ RowsShort L words t n
+  pub read-short : (n : ℕ) → (served L (read t words) .answer ≡ numbers 7 n 0) ↔ RowsShort L words t n
   unfolding served sheetOf refused wholeOf fitOf
-  read-short small n = (λ e. go (wholeOf L words t) (means small) e, back)
+  read-short n = (λ e. go (wholeOf L words t) means e, back)
     where
       go : (R : Read) → Means R → sheetOf R ≡ numbers 7 n 0 → RowsShort L words t n
       go R (long l) e = absurd (omega (arith, same-number e))
@@ -160,7 +151,7 @@ module _ (L : Limits) (words : ℕ) (t : List ℕ) where
 
   -- ---- judging
 
-  pub judge-unread : ¬ Passes L (read t words) → served L (judge t words) ≡ served L (read t words)
+  pub judge-unread : ¬ Passes (served L) (read t words) → served L (judge t words) ≡ served L (read t words)
   unfolding served judgedOf judgedRead sheetOf tableOf sheetOfJudged paperOfVerdict tableOfJudged refusedCard
   judge-unread not = go (wholeOf L words t) refl
     where
@@ -171,29 +162,29 @@ module _ (L : Limits) (words : ℕ) (t : List ℕ) where
   pub card-passed : (f : Forest) → CardText L words t f → judgedOf L words t ≡ passed f
   card-passed f c = judging .accepted L words t f .1 (length t, readable-good f (c .readable), c .keeps)
 
-  pub judge-passes : Bytes t → Passes L (judge t words) ↔ ((f : Forest) × CardText L words t f)
+  pub judge-passes : Passes (served L) (judge t words) ↔ ((f : Forest) × CardText L words t f)
   unfolding served sheetOfJudged paperOfVerdict
-  judge-passes small = (λ e. go (judgedOf L words t) refl e, λ (f, c). rw (card-passed f c))
+  judge-passes = (λ e. go (judgedOf L words t) refl e, λ (f, c). rw (card-passed f c))
     where
       go : (j : Judged) → judgedOf L words t ≡ j → sheetOfJudged j .number ≡ 0 → (f : Forest) × CardText L words t f
       go (failed r) k e = absurd (omega (arith, card-some (refusedCard r .number) (line-of (card-line r))))
       go (passed f) k e =
           let (to, whole, keeps) = judging .accepted L words t f .0 k in
-          (f, record { readable = good-readable small f to whole; keeps = keeps })
+          (f, record { readable = good-readable f to whole; keeps = keeps })
 
   pub judge-rows : (f : Forest) → CardText L words t f → served L (judge t words) ≡ served L (read t words)
   unfolding served sheetOf tableOf sheetOfJudged paperOfVerdict tableOfJudged
   judge-rows f c = rw (card-passed f c, readable-good f (c .readable))
 
-  pub judge-offends : Bytes t → (n p : ℕ) → Passes L (read t words) → 0 < n → (served L (judge t words) .answer ≡ numbers n p 0) ↔ Offends L words t n p
+  pub judge-offends : (n p : ℕ) → Passes (served L) (read t words) → 0 < n → (served L (judge t words) .answer ≡ numbers n p 0) ↔ Offends L words t n p
   unfolding served sheetOf
-  judge-offends small n p reads some = (λ e. go (judging .answer L words t _ _ .0 (refl, refl)) e, back)
+  judge-offends n p reads some = (λ e. go (judging .answer L words t _ _ .0 (refl, refl)) e, back)
     where
       go : {q : Paper} {table : List ℕ} → Says L words t q table → q ≡ numbers n p 0 → Offends L words t n p
       go (unread {r = r} k) e = let z : sheetOf (bad r) .number ≡ 0 = rw k at reads in absurd (omega (arith, line-of (text-line r)))
       go (passes k h) e = absurd (omega (arith, same-number e))
       go (breaks-first {f = f} {to = to} {row = row} k h) e =
-          record { tree = f; readable = good-readable small f to k; row = row; first = rw (same-number e) at h; place = sym (same-second e) }
+          record { tree = f; readable = good-readable f to k; row = row; first = rw (same-number e) at h; place = sym (same-second e) }
 
       back : Offends L words t n p → sheetOfJudged (judgedOf L words t) ≡ numbers n p 0
       back o =

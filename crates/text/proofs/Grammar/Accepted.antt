@@ -45,10 +45,6 @@ module _ (L : Limits) (t : List ℕ) where
         few = omega (arith, k .few);
       }
 
-  -- of a text of bytes only the end reads as 256
-  pub at-end : AllBelow 256 t → (i : ℕ) → i ≤ length t → byteAt t i ≡ 256 → i ≡ length t
-  at-end small i l e = by-order i (length t) (λ h. absurd (omega (arith, below-at 256 t small i 256 h))) (λ h. omega arith)
-
   read-accepts : (f : Forest) → readOf L t ≡ good f (length t) → Accepts L t f
   read-accepts f e =
       let a = read-accepted L t f (length t) e in
@@ -81,7 +77,7 @@ module _ (L : Limits) (t : List ℕ) where
 
   pub ended-so : (f : Forest) (end : ℕ) → skip t end ≡ length t → endOf t (good f end) ≡ good f (length t)
   unfolding endOf
-  ended-so f end e = rw (e, eq-eqb (byteAt t (length t)) 256 (List·getD-eq-default t 256 (le-refl (length t))))
+  ended-so f end e = rw (e, le-ltb (length t) (length t) (le-refl (length t)))
 
   accepts-read : (f : Forest) → Accepts L t f → readOf L t ≡ good f (length t)
   unfolding readOf
@@ -97,10 +93,10 @@ pub accepts : (L : Limits) (t : List ℕ) (f : Forest) → (readOf L t ≡ good 
 accepts L t f = (read-accepts L t f, accepts-read L t f)
 
 -- theorem: what is read of a text of bytes is the whole text, and accepted
-pub accepts-whole : (L : Limits) (t : List ℕ) → AllBelow 256 t → (f : Forest) (to : ℕ) → readOf L t ≡ good f to → Accepts L t f × (to ≡ length t)
-accepts-whole L t small f to e =
+pub accepts-whole : (L : Limits) (t : List ℕ) (f : Forest) (to : ℕ) → readOf L t ≡ good f to → Accepts L t f × (to ≡ length t)
+accepts-whole L t f to e =
     let a = read-accepted L t f to e in
     let p : Parsed L t value (L .depth) top 0 0 (skip t 0) f (a .end) = rw (a .value) at (root-told L t) in
     let i : to ≤ length t = rw (a .space) at (read-inside L t p) in
-    let o = at-end L t small to i (a .ended) in
+    let o : to ≡ length t = omega (arith, a .ended) in
     (read-accepts L t f (e ∙ ap (good f) o), o)

@@ -5,8 +5,8 @@ use mathlib.Core.List.{List, [], _∷_, _++_, append-assoc, append-nil}
 use mathlib.Core.Logic.{_↔_}
 use Prim.Native.Nat.{ℕ}
 use Rattle.text.specs.Abnf.{Star}
-use Rattle.text.specs.Tree.{Bracket, closing}
-use Rattle.text.specs.Grammar.{Ws, opening, Part, items, Is, simple, empty, full, element, member, one, comma, JsonText, json-text}
+use Rattle.text.specs.Tree.{Bracket}
+use Rattle.text.specs.Grammar.{Ws, opening, Part, items, Is, simple, empty, full, element, member, one, comma, JsonText, json-text, closing}
 use Rattle.text.specs.Rfc.{mark, Rfc, RfcText}
 use Rattle.text.proofs.Grammar.Quotes.{star-join}
 use Rattle.text.proofs.Grammar.Sound.{glue-end}

@@ -14,9 +14,9 @@ use Rattle.text.specs.Limits.{Limits}
 use Rattle.text.specs.Text.{byteAt}
 use Rattle.text.specs.Strings.{nameOf}
 use Rattle.text.specs.Tokens.{isSpace, skip, kindBy}
-use Rattle.text.specs.Tree.{Bracket, square, curly, closing, Forest, none, leaf, node, size, join}
+use Rattle.text.specs.Tree.{Bracket, square, curly, Forest, none, leaf, node, size, join}
 use Rattle.text.specs.Reader.{Read, good, bad, Reader, scalarWith, scalarAt, container, deep, valueWith, afterItem, itemsFrom, insideOf, named, colonAt, memberWith, valueAt}
-use Rattle.text.specs.Grammar.{Ws, JsonString, Simple, simpleKind, IsSimple, opening, Part, value, item, items, Is, simple, empty, full, element, member, one, comma, treeOf}
+use Rattle.text.specs.Grammar.{Ws, JsonString, Simple, simpleKind, IsSimple, opening, Part, value, item, items, Is, simple, empty, full, element, member, one, comma, treeOf, closing}
 use Rattle.text.specs.Seats.{Seat, under, behind, Sits}
 use Rattle.text.specs.declared.Token.{Token}
 use Rattle.text.specs.declared.Token.the-variants.{End, No2, No3}

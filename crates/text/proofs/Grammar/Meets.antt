@@ -12,10 +12,10 @@ use Rattle.laws.proofs.Branches.{if-true}
 use Rattle.text.specs.Limits.{Limits}
 use Rattle.text.specs.Text.{byteAt}
 use Rattle.text.specs.Tokens.{isSpace, isDigit, wordAt, thenAt, digitsAt, minusEnd, intAt, fracAt, signEnd, expAt, numberAt, kindBy}
-use Rattle.text.specs.Tree.{Bracket, square, curly, closing, Forest, none, node, size, join}
+use Rattle.text.specs.Tree.{Bracket, square, curly, Forest, none, node, size, join}
 use Rattle.text.specs.Reader.{Read, good, bad, closeOf}
 use Rattle.text.specs.Abnf.{Byte, Star}
-use Rattle.text.specs.Grammar.{Blank, Ws, quoted, Simple, nothing, falsity, truth, numeral, text, simpleKind, IsSimple, Part, value, Is, simple, empty, full, element, member, one, comma, treeOf}
+use Rattle.text.specs.Grammar.{Blank, Ws, quoted, Simple, nothing, falsity, truth, numeral, text, simpleKind, IsSimple, Part, value, Is, simple, empty, full, element, member, one, comma, treeOf, closing}
 use Rattle.text.specs.Seats.{Head, leafHead, nodeHead, Seat, under, behind, Sits}
 use Rattle.text.specs.declared.Token.{Token}
 use Rattle.text.specs.declared.Token.the-variants.{End, No2, No3}

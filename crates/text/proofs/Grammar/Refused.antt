@@ -35,7 +35,7 @@ use Rattle.text.proofs.Grammar.Meets.{numberOf, numbered-has, Near, rea
 use Rattle.text.proofs.Grammar.Rules.{wrong-breaks, breaks-wrong, wrong-number}
 use Rattle.text.proofs.Grammar.Calm.{In-time, in-time}
 use Rattle.text.proofs.Grammar.Wholes.{root, root-told, self, other, other-calm, viable-begins, value-inside, read-inside, read-begins, read-text}
-use Rattle.text.proofs.Grammar.Accepted.{kept-accepts, at-end}
+use Rattle.text.proofs.Grammar.Accepted.{kept-accepts}
 
 -- a refusal that is in time
 time-bad : {m x : ℕ} {R : Read} {r : Refusal} → In-time m x R → R ≡ bad r → rank (numberOf r) (placeOf (bad r)) ≤ rank m x
@@ -143,7 +143,7 @@ module _ (L : Limits) (t : List ℕ) where
   value-refused (Small n) e v = absurd v
 
   -- a value, and behind it and its white space something else
-  module _ (f : Forest) (to : ℕ) (e : good f to ≡ root L t) (p : Parsed L t value (L .depth) top 0 0 (skip t 0) f to) (z : byteAt t (skip t to) ≡ 256 → ⊥) where
+  module _ (f : Forest) (to : ℕ) (e : good f to ≡ root L t) (p : Parsed L t value (L .depth) top 0 0 (skip t 0) f to) (z : skip t to < length t) where
     longer : skip t to < length t → Begins t (skip t to + 1) → ⊥
     longer l b =
         let m = other L t (good f to) e (skip t to) (skip-later t to) l (b .rest) (b .is) in
@@ -152,7 +152,7 @@ module _ (L : Limits) (t : List ℕ) where
         (λ a. omega (arith, ap (skip t) x, a .answer)) (m .ends (omega (arith, value-inside L t p)))
 
     over : skip t to ≡ length t → ⊥
-    over h = z (rw h (List·getD-eq-default t 256 (le-refl (length t))))
+    over h = omega arith
 
     unended : FirstFault L t 2 (skip t to)
     unended =
@@ -168,20 +168,20 @@ abbrev Means : Limits → List ℕ → Read → Type 0
 Means L t (good f to) = Accepts L t f × (to ≡ length t)
 Means L t (bad r) = On-sheet L t r
 
-means : (L : Limits) (t : List ℕ) → AllBelow 256 t → length t ≤ L .bytes → Means L t (readOf L t)
+means : (L : Limits) (t : List ℕ) → length t ≤ L .bytes → Means L t (readOf L t)
 unfolding readOf endOf refused
-means L t small short =
+means L t short =
     if-less (Means L t) (L .bytes) (length t) (λ h. absurd (omega arith)) (λ h. go (root L t) refl (root-told L t))
   where
     go : (R : Read) → R ≡ root L t → Told (Parsed L t value (L .depth) top 0 0 (skip t 0)) (Viable L t value (skip t 0)) R → Means L t (endOf t R)
     go (bad r) e v = value-refused L t r e v
     go (good f to) e p =
-        if-equal (Means L t) (byteAt t (skip t to)) 256
+        if-less (Means L t) (skip t to) (length t)
+        (λ z. record { n = 2; p = skip t to; is = refl; first = unended L t f to e p z; each = λ h. absurd (omega arith) })
         (λ z.
-        let o = at-end L t small (skip t to) (read-inside L t p) z in
+        let o : skip t to ≡ length t = omega (arith, read-inside L t p) in
         let d = read-text L t p o in
         (kept-accepts L t short (p .kept) (d .0) (d .1), o))
-        (λ z. record { n = 2; p = skip t to; is = refl; first = unended L t f to e p z; each = λ h. absurd (omega arith) })
 
 -- ---- an accepted text has no fault ----
 
@@ -205,17 +205,17 @@ one-first L t {n} {p} {m} {q} f g =
     let e : p ≡ q = omega arith in
     by-order n m (λ h. absurd (g .no-smaller n (rw e at (f .fault)) h)) (λ h. by-order m n (λ o. absurd (f .no-smaller m (rw (← e) at (g .fault)) o)) (λ o. (omega arith, e)))))
 
-module _ (L : Limits) (t : List ℕ) (small : AllBelow 256 t) (short : length t ≤ L .bytes) (n p : ℕ) where
+module _ (L : Limits) (t : List ℕ) (short : length t ≤ L .bytes) (n p : ℕ) where
   refused-first : Refuses L t n p → FirstFault L t n p
   refused-first r =
-      let s : On-sheet L t (r .refusal) = rw (r .answer) at (means L t small short) in
+      let s : On-sheet L t (r .refusal) = rw (r .answer) at (means L t short) in
       let e : numbers (s .n) (s .p) 0 ≡ numbers n p 0 = sym (s .is) ∙ r .sheet in
       let x : s .n ≡ n = ap (λ (a : Paper). a .number) e in
       let y : s .p ≡ p = ap (λ (a : Paper). a .second) e in
       rw (x, y) at (s .first)
 
   first-refused : FirstFault L t n p → Refuses L t n p
-  first-refused f = go (readOf L t) refl (means L t small short)
+  first-refused f = go (readOf L t) refl (means L t short)
     where
       go : (R : Read) → readOf L t ≡ R → Means L t R → Refuses L t n p
       go (good g to) e m = absurd (no-fault L t g to e (m .0) (f .fault))
@@ -225,18 +225,18 @@ module _ (L : Limits) (t : List ℕ) (small : AllBelow 256 t) (short : length t 
 
   refused-each : Refuses L t n p → 3 ≤ n → InEach L t n p
   refused-each r h =
-      let s : On-sheet L t (r .refusal) = rw (r .answer) at (means L t small short) in
+      let s : On-sheet L t (r .refusal) = rw (r .answer) at (means L t short) in
       let e : numbers (s .n) (s .p) 0 ≡ numbers n p 0 = sym (s .is) ∙ r .sheet in
       let x : s .n ≡ n = ap (λ (a : Paper). a .number) e in
       let y : s .p ≡ p = ap (λ (a : Paper). a .second) e in
       rw (x, y) at (s .each (omega arith))
 
-pub refuses : (L : Limits) (t : List ℕ) → AllBelow 256 t → length t ≤ L .bytes → (n p : ℕ) → Refuses L t n p ↔ FirstFault L t n p
-refuses L t small short n p = (refused-first L t small short n p, first-refused L t small short n p)
+pub refuses : (L : Limits) (t : List ℕ) → length t ≤ L .bytes → (n p : ℕ) → Refuses L t n p ↔ FirstFault L t n p
+refuses L t short n p = (refused-first L t short n p, first-refused L t short n p)
 
 -- where one of 3 to 6 is refused, each text of the grammar that goes on as the text does up to that place breaks the rule there
-pub in-each : (L : Limits) (t : List ℕ) → AllBelow 256 t → length t ≤ L .bytes → (n p : ℕ) → Refuses L t n p → 3 ≤ n → InEach L t n p
-in-each L t small short n p = refused-each L t small short n p
+pub in-each : (L : Limits) (t : List ℕ) → length t ≤ L .bytes → (n p : ℕ) → Refuses L t n p → 3 ≤ n → InEach L t n p
+in-each L t short n p = refused-each L t short n p
 
 -- ---- theorem: 1 comes first ----
 
@@ -252,7 +252,7 @@ module _ (L : Limits) (t : List ℕ) where
   not-long (bad (Many p)) v e = let z : _≡_ {A = ℕ} 0 1 = cc in omega arith
   not-long (bad (Small n)) v e = v
   not-long (good f to) v e =
-      if-equal (λ (R : Read). R ≡ bad TooLong → ⊥) (byteAt t (skip t to)) 256
+      if-less (λ (R : Read). R ≡ bad TooLong → ⊥) (skip t to) (length t)
       (λ k h. let z : _≡_ {A = ℕ} 0 1 = cc in omega arith) (λ k h. let z : _≡_ {A = ℕ} 0 1 = cc in omega arith) e
 
   refused-long : readOf L t ≡ bad TooLong → L .bytes < length t

@@ -12,10 +12,10 @@ use Rattle.laws.proofs.Branches.{if-most, if-equal}
 use Rattle.text.specs.Limits.{Limits}
 use Rattle.text.specs.Text.{byteAt}
 use Rattle.text.specs.Tokens.{skip}
-use Rattle.text.specs.Tree.{Bracket, square, curly, closing, Forest, none, node, join}
+use Rattle.text.specs.Tree.{Bracket, square, curly, Forest, none, node, join}
 use Rattle.text.specs.Reader.{Read, good, bad, ItemReader, closeOf, container, afterItem, itemsFrom, insideOf}
 use Rattle.text.specs.Abnf.{exactly, Star}
-use Rattle.text.specs.Grammar.{Ws, quoted, nothing, opening, Part, value, item, items, Is, simple, empty, full, element, member, one, comma, treeOf}
+use Rattle.text.specs.Grammar.{Ws, quoted, nothing, opening, Part, value, item, items, Is, simple, empty, full, element, member, one, comma, treeOf, closing}
 use Rattle.text.specs.Seats.{Seat, under, behind}
 use Rattle.text.specs.declared.Refusal.{Refusal}
 use Rattle.text.specs.declared.Refusal.the-variants.{TooLong, Grammar, Character, Repeated, Deep, Many, Small}

@@ -10,7 +10,8 @@ use lib.Dec.{leb, eqb}
 use Rattle.text.specs.Limits.{Limits}
 use Rattle.text.specs.Text.{byteAt}
 use Rattle.text.specs.Tokens.{kindBy, tokenAt}
-use Rattle.text.specs.Tree.{Bracket, square, curly, closing, Forest, none}
+use Rattle.text.specs.Tree.{Bracket, square, curly, Forest, none}
+use Rattle.text.specs.Grammar.{closing}
 use Rattle.text.specs.Reader.{Read, good, bad, Reader, scalarWith, scalarAt, closeOf, container, deep, valueWith, itemsFrom, valueAt}
 use Rattle.text.specs.Seats.{Seat}
 use Rattle.text.specs.declared.Token.{Token}

@@ -17,9 +17,9 @@ use borrow.Author.Tests.{eqb-true, eqb-false, ne-eqb}
 use Rattle.laws.proofs.Branches.{if-true, if-equal}
 use Rattle.text.specs.Text.{byteAt, bytes}
 use Rattle.text.specs.Tokens.{isSpace, skip, isDigit, wordAt, numberAt, kindBy, tokenAt}
-use Rattle.text.specs.Tree.{Bracket, square, curly, bracketKind, closing}
+use Rattle.text.specs.Tree.{Bracket, square, curly, bracketKind}
 use Rattle.text.specs.Abnf.{Byte, Between, Exactly, exactly, seq, Opt, this, that, Star}
-use Rattle.text.specs.Grammar.{Blank, Ws, Number, JsonString, quoted, Simple, nothing, falsity, truth, numeral, text, simpleKind, IsSimple, opening}
+use Rattle.text.specs.Grammar.{Blank, Ws, Number, JsonString, quoted, Simple, nothing, falsity, truth, numeral, text, simpleKind, IsSimple, opening, closing}
 use Rattle.text.specs.declared.Token.{Token}
 use Rattle.text.specs.declared.Token.the-variants.{End, No2, No3}
 use Rattle.text.proofs.Grammar.Stands.{Stands, Like, stands-to, stands-inside, one-stands, stands-join, like-none, like-tail, like-stuck}

@@ -3,9 +3,9 @@ use mathlib.Core.Path.{_≡_, refl, sym, ap, ap₂, subst, _∙_}
 use mathlib.Core.List.{List, [], _∷_, _++_, append-assoc, append-nil}
 use mathlib.Core.Bool.{Bool, true, false}
 use Prim.Native.Nat.{ℕ}
-use Rattle.text.specs.Tree.{Bracket, square, curly, closing}
+use Rattle.text.specs.Tree.{Bracket, square, curly}
 use Rattle.text.specs.Abnf.{Star, exactly}
-use Rattle.text.specs.Grammar.{quoted, nothing, falsity, truth, numeral, text, opening, value, item, items, Is, simple, element, one, JsonText, json-text}
+use Rattle.text.specs.Grammar.{quoted, nothing, falsity, truth, numeral, text, opening, value, item, items, Is, simple, element, one, JsonText, json-text, closing}
 use Rattle.text.specs.Doc.{Name, Doc, scalar, array, object, Members, empty, member, boxed}
 use Rattle.text.specs.Writing.{written, writtenEntries, writtenMembers}
 use Rattle.text.specs.Labels.{Labelled, Every}

@@ -8,8 +8,8 @@ use lib.ListN.{length, length-append}
 use lib.Seq.{drop-append-seam}
 use borrow.Author.Tests.{ne-eqb}
 use Rattle.text.specs.Strings.{decode, nameOf}
-use Rattle.text.specs.Tree.{closing, Forest, none, leaf, node, join}
-use Rattle.text.specs.Grammar.{JsonString, quoted, simpleKind, opening, Part, value, Is, simple, empty, full, element, member, one, comma, JsonText, json-text, treeOf, rootOf}
+use Rattle.text.specs.Tree.{Forest, none, leaf, node, join}
+use Rattle.text.specs.Grammar.{JsonString, quoted, simpleKind, opening, Part, value, Is, simple, empty, full, element, member, one, comma, JsonText, json-text, treeOf, rootOf, closing}
 use Rattle.text.specs.Doc.{Name, Doc, scalar, array, Members, boxed, labelAt, membersOf, docOf}
 use Rattle.text.proofs.Labels.{no-label}
 use Rattle.text.proofs.Readback.Runs.{At, at-left, at-right, at-behind, part-at}

@@ -6,8 +6,8 @@ use Prim.Native.Nat.{ℕ, _+_, _≤_, max}
 use native.Mathlib.Omega.{arith}
 use lib.ListN.{length, length-append}
 use Rattle.text.specs.Strings.{decode}
-use Rattle.text.specs.Tree.{Bracket, square, curly, closing}
-use Rattle.text.specs.Grammar.{Part, value, item, items, Is, simple, empty, full, element, member, one, comma}
+use Rattle.text.specs.Tree.{Bracket, square, curly}
+use Rattle.text.specs.Grammar.{Part, value, item, items, Is, simple, empty, full, element, member, one, comma, closing}
 use Rattle.text.specs.Doc.{Name, Members, boxed}
 use Rattle.text.specs.Writing.{written}
 use Rattle.text.proofs.Readback.Says.{insideOf, says, docBy, says-value}

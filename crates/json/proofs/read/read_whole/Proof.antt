@@ -1,8 +1,6 @@
 -- `json::read::read_whole` meets its contract: one law of a text for each return. Assumes nothing.
-use mathlib.Core.Path.{_≡_, _∙_}
 use native.Mathlib.Omega.{arith}
 use borrow.Author.Needs.{needs}
-use Rattle.text.specs.Text.{byteAt}
 use Rattle.text.specs.Tokens.{skip}
 use Rattle.text.specs.Reader.{valueAt}
 use Rattle.text.proofs.TokenEnds.{skip-span}
@@ -36,21 +34,18 @@ enum-known-v-2 c = search needs
 skip-requires-2 : tie.Need-skip-requires-2
 skip-requires-2 c κs = search needs
 
-peek-requires : tie.Need-peek-requires
-peek-requires c κs = search needs
-
 same-length : tie.Need-same-length
 same-length c = search needs
 
 returns : tie.Need-returns
 returns c =
-    let v = c .before .before .before .before in
-    let a = c .before .before .before .before .before .before .before .before .before .before .before .before .before .args in
+    let v = c .before .before .before in
+    let a = c .before .before .before .before .before .before .before .before .before .before .before .before .args in
     let g = gone v in
     text-more (a .limit) (a .text .now)
-    (c .before .before .before .before .before .before .before .before .before .before .before .before .before .pre .0) (g .trees)
-    (v .v2 .given .0 .0) (c .before .before .skip2 .result) (g .is) (c .before .before .skip2 .ensures)
-    (λ q. c .if1 .taken (c .before .peek .ensures .0 ∙ q))
+    (c .before .before .before .before .before .before .before .before .before .before .before .before .pre .0) (g .trees)
+    (v .v2 .given .0 .0) (c .before .skip2 .result) (g .is) (c .before .skip2 .ensures)
+    (c .if1 .taken)
 
 same-length-2 : tie.Need-same-length-2
 same-length-2 c = search needs
@@ -68,17 +63,16 @@ same-length-3 c = search needs
 
 returns-3 : tie.Need-returns-3
 returns-3 c =
-    let v = c .before .before .before .before in
-    let a = c .before .before .before .before .before .before .before .before .before .before .before .before .before .args in
+    let v = c .before .before .before in
+    let a = c .before .before .before .before .before .before .before .before .before .before .before .before .args in
     let g = gone v in
-    let h : byteAt (a .text .now) (c .before .before .skip2 .result) ≡ 256 = omega arith in
     record {
       trees = g .trees;
-      to = c .before .before .skip2 .result;
+      to = c .before .skip2 .result;
       is =
           text-good (a .limit) (a .text .now)
-          (c .before .before .before .before .before .before .before .before .before .before .before .before .before .pre .0) (g .trees)
-          (v .v2 .given .0 .0) (c .before .before .skip2 .result) (g .is) (c .before .before .skip2 .ensures) h;
+          (c .before .before .before .before .before .before .before .before .before .before .before .before .pre .0) (g .trees)
+          (v .v2 .given .0 .0) (c .before .skip2 .result) (g .is) (c .before .skip2 .ensures) (c .if1 .left);
       count = omega (arith, g .count);
       table = g .table;
     }
@@ -92,7 +86,6 @@ read-whole-spec =
     enum-known-v
     enum-known-v-2
     skip-requires-2
-    peek-requires
     same-length
     returns
     same-length-2

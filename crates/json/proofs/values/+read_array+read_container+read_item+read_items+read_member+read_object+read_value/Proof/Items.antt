@@ -6,7 +6,7 @@ use mathlib.Core.Path.{_≡_, sym, _∙_}
 use lib.ListN.{length}
 use Rattle.laws.proofs.Places.{inside}
 use Rattle.text.specs.Text.{byteAt}
-use Rattle.text.specs.Tree.{closing}
+use Rattle.text.specs.Grammar.{closing}
 use Rattle.text.specs.Reader.{ItemReader}
 use Rattle.text.proofs.TokenEnds.{skip-span}
 use Rattle.json.specs.Parts.{upTo, Gone, bracketOf, itemOf}
