@@ -22,6 +22,7 @@ pub mod Public
 pub mod Steps
 pub mod Fine
 pub mod Together
+pub mod Rearranged
 pub mod SameBreach
 pub mod Weigh
 pub mod Parts

@@ -1,22 +1,21 @@
 -- A card with the entries of a PatchObject in another order has the same first breach: `order-breach`. The entries aren't judged, and they take up
 -- as many rows.
 -- Assumes nothing.
-use Prim.Native.Nat.{ℕ, suc, _+_}
+use Prim.Native.Nat.{ℕ, _+_}
 use mathlib.Core.Path.{_≡_, refl, sym, ap, ap₂, _∙_}
 use mathlib.Core.Bool.{Bool, true, not, cond, _&&_, true≢false}
 use mathlib.Core.Logic.{_≢_}
 use mathlib.Core.List.{List, [], _∷_}
-use native.Mathlib.Omega.{arith}
 use Rattle.laws.specs.Order.{same, orderOf}
 use Rattle.laws.proofs.Bools.{byTest}
 use Rattle.text.specs.Text.{bytes}
-use Rattle.text.specs.Doc.{Name, Doc, scalar, array, object, Members, empty, member, countOf, countAll, seek, isThere}
+use Rattle.text.specs.Doc.{Name, Doc, scalar, array, object, Members, empty, member, countOf, seek, isThere}
 use Rattle.contact.specs.Schema.{Ty, any, objectOf, mapOf, free, anyObject, card, Known, properties, typeIn}
 use Rattle.contact.specs.Rules.{present, breaksCard}
 use Rattle.contact.specs.Judge.{lacking, rowNumber, memberType, keyFits, Breach, nothing, onRow, orElse, breachOf, breachAmong, cardBreach}
-use Rattle.contact.specs.Entries.{Shuffled, asIs, keepFirst, swapFirst, andOn}
 use Rattle.contact.specs.Patching.{Rearranged, rearranged, AtMember, thisOne, laterOne, InMember, inMember, OrderOnly}
 use Rattle.contact.proofs.Patching.Names.{same-yes, same-no}
+use Rattle.contact.proofs.Patching.Rearranged.{rearranged-count, in-count}
 
 -- ---- below a PatchObject nothing is asked
 
@@ -41,27 +40,9 @@ patch-clean : (row : ℕ) (ms : Members) → breachOf anyObject true row (object
 unfolding breachOf rowNumber
 patch-clean row ms = entries-clean [] (row + 1) ms
 
--- ---- as many rows
-
-shuffled-count : {ms ns : Members} → Shuffled ms ns → countAll ms ≡ countAll ns
-unfolding countAll
-shuffled-count asIs = refl
-shuffled-count (keepFirst {d = d} σ) = ap (λ (k : ℕ). countOf d + k) (shuffled-count σ)
-shuffled-count (swapFirst {d = d} {e = e} {ms = ms}) = omega arith
-shuffled-count (andOn σ τ) = shuffled-count σ ∙ shuffled-count τ
-
 -- ---- a difference in one member, of as many rows and of the same breach
 
 module _ {n : Name} {R : Doc → Doc → Type 0} (counts : (d e : Doc) → R d e → countOf d ≡ countOf e) where
-  at-count : {ms ns : Members} → AtMember n R ms ns → countAll ms ≡ countAll ns
-  unfolding countAll
-  at-count (thisOne {d = d} {e = e} {ms = ms} r) = ap (λ (k : ℕ). k + countAll ms) (counts d e r)
-  at-count (laterOne {d = d} h x) = ap (λ (k : ℕ). countOf d + k) (at-count x)
-
-  in-count : (d e : Doc) → InMember n R d e → countOf d ≡ countOf e
-  unfolding countOf
-  in-count d e (inMember x) = ap suc (at-count x)
-
   at-among : (ty : Ty) → ((earlier : List Name) (row : ℕ) (d e : Doc) → R d e
       → breachOf (memberType ty n) (keyFits ty earlier n) row d ≡ breachOf (memberType ty n) (keyFits ty earlier n) row e)
       → (earlier : List Name) (row : ℕ) {ms ns : Members} → AtMember n R ms ns → breachAmong ty earlier row ms ≡ breachAmong ty earlier row ns
@@ -88,10 +69,6 @@ module _ {n : Name} {R : Doc → Doc → Type 0} where
   at-lacking (k ∷ ks) x = ap₂ (λ (a b : Bool). cond (k .mandatory && not a) true b) (at-there x (k .spelling)) (at-lacking ks x)
 
 -- ---- cards
-
-rearranged-count : (d e : Doc) → Rearranged d e → countOf d ≡ countOf e
-unfolding countOf
-rearranged-count d e (rearranged σ) = ap suc (shuffled-count σ)
 
 lang-breach : {lang : Name} (row : ℕ) (d e : Doc) → InMember lang Rearranged d e
     → breachOf (mapOf free anyObject) true row d ≡ breachOf (mapOf free anyObject) true row e
