@@ -2,9 +2,11 @@
 --     tells-doc       a text that is read says its document
 --     one-telling     a text with its tree says one document
 --     tells-iff       so it says just that one
+--     told-accepted   a text of the grammar that says a document within the limits is accepted
 -- Assumes nothing.
 use mathlib.Core.Path.{_≡_, refl, sym, ap, ap₂, subst, _∙_}
 use mathlib.Core.List.{List, [], _∷_, _++_}
+use mathlib.Core.Bool.{true}
 use mathlib.Core.Logic.{_↔_}
 use Prim.Native.Nat.{ℕ, _+_, _-_, _≤_, _<_}
 use native.Mathlib.Omega.{arith}
@@ -15,18 +17,28 @@ use Rattle.laws.proofs.Splits.{part-there, there-part, length-part}
 use Rattle.text.specs.Limits.{Limits}
 use Rattle.text.specs.Strings.{decode, nameOf, contentOf}
 use Rattle.text.specs.Spelling.{utf8s}
-use Rattle.text.specs.Tree.{Bracket, square, curly, Forest, node}
+use Rattle.text.specs.Tree.{Bracket, square, curly, Forest, node, size}
 use Rattle.text.specs.Reader.{good}
 use Rattle.text.specs.Whole.{readOf}
+use Rattle.text.specs.Grammar.{JsonText, rootOf, depthOf}
+use Rattle.text.specs.Seats.{Head, Seat, Sits}
 use Rattle.text.specs.Placed.{Quoted, NameIn, TokenIn, Placed}
-use Rattle.text.specs.Doc.{Name, Doc, Members, empty, member, boxed, labelAt, membersOf, docOf}
-use Rattle.text.specs.Labels.{Labelled}
+use Rattle.text.specs.Meaning.{DistinctNames, Accepts}
+use Rattle.text.specs.Doc.{Name, Doc, Members, empty, member, boxed, labelAt, membersOf, docOf, countOf, countAll}
+use Rattle.text.specs.Distinct.{Distinct}
 use Rattle.text.specs.Promised.{Promised}
+use Rattle.text.specs.Labels.{Labelled}
 use Rattle.text.specs.Telling.{Stretch, NameTold, unnamed, named, TokenTold, as-written, string, TellsAll, nothing, token, entries, members, Tells, tells}
+use Rattle.text.specs.Writable.{depthIn, depthAll}
 use Rattle.text.proofs.Spelling.Decoded.{decode-spelled}
-use Rattle.text.proofs.Labels.{quoted-part, label-said, no-label}
-use Rattle.text.proofs.Promise.{promised, content-part, label-part, members-first, members-none, no-name-at}
+use Rattle.text.proofs.Documents.{DistinctIn}
+use Rattle.text.proofs.Promise.{promised, content-part, label-part, members-first, members-none, count-members, no-name-at}
+use Rattle.text.proofs.Labels.{string-part, label-said, no-label}
+use Rattle.text.proofs.Grammar.Wrong.{no-string}
+use Rattle.text.proofs.Readback.Runs.{part-quoted}
 use Rattle.text.proofs.Readback.Says.{firstDoc, doc-members}
+use Rattle.text.proofs.Readback.Meant.{root-nameless, new-in}
+use Rattle.text.proofs.Readback.Again.{depth-members}
 
 -- ---- stretches are parts ----
 
@@ -85,11 +97,8 @@ module _ (t : List ℕ) where
   token-told (TokenIn.truth e) = plain-told (omega arith)
   token-told (TokenIn.number n) = plain-told (omega arith)
   token-told (TokenIn.string {from} {to} q) =
-      let o = q .ordered in
-      let s : from + 1 - 1 ≡ from = omega arith in
-      let e : to - 1 + 1 ≡ to = omega arith in
       let l : Labelled (utf8s (q .codes)) (partOf t from to) =
-      record { inside = partOf t (from + 1) (to - 1); codes = q .codes; quoted = rw (s, e) at (quoted-part t (from + 1) (to - 1) q); spells = q .spells; says = refl } in
+      record { inside = partOf t (from + 1) (to - 1); codes = q .codes; quoted = string-part t from to q; spells = q .spells; says = refl } in
       string l (label-content l)
 
   box-told : (c : Bracket) {ns ne from to : ℕ} {inside rest : Forest} {n : Name} {label : List ℕ} {es ms : Members} → NameTold t ns ne n label
@@ -152,3 +161,60 @@ one-telling t f d e h k = told-doc t f d h ∙ sym (told-doc t f e k)
 
 pub tells-iff : (L : Limits) (t : List ℕ) (f : Forest) (to : ℕ) → readOf L t ≡ good f to → (d : Doc) → Tells t f d ↔ (d ≡ docOf t f)
 tells-iff L t f to e d = (told-doc t f d, λ h. rw h (tells-doc L t f to e))
+
+-- ---- a text that says a document within the limits is accepted ----
+
+module _ (t : List ℕ) where
+  stretch-quoted : {from to : ℕ} {n w : List ℕ} → Stretch t from to w → Labelled n w → Quoted t (from + 1) (to - 1)
+  stretch-quoted {from} {to} s l = part-quoted t from to (l .inside) (l .codes) (stretch-part t from to s ∙ l .quoted) (l .spells)
+
+  name-quoted : {ns ne : ℕ} {n label : List ℕ} → NameTold t ns ne n label → 0 < ns → Quoted t ns ne
+  name-quoted unnamed k = absurd (omega arith)
+  name-quoted (named {e = e} s l) k = let last : e + 1 - 1 ≡ e = omega arith in rw last at (stretch-quoted s l)
+
+  token-quoted : {kind from to : ℕ} {w : List ℕ} → Stretch t from to w → TokenTold kind w → kind ≡ 5 → Quoted t (from + 1) (to - 1)
+  token-quoted s (as-written n) k = absurd (n k)
+  token-quoted s (string l c) k = stretch-quoted s l
+
+  -- the name of a value spells, and so does a string
+  record Spelt (h : Head) : Type 0 where
+    name : 0 < h .ns → Quoted t (h .ns) (h .ne)
+    content : h .kind ≡ 5 → Quoted t (h .from + 1) (h .to - 1)
+
+  told-spelt : {c d : Seat} {h : Head} {f : Forest} {ms : Members} → TellsAll t f ms → Sits c f d h → Spelt h
+  told-spelt (token n s k r) Sits.leaf-here = record { name = name-quoted n; content = token-quoted s k }
+  told-spelt (token n s k r) (Sits.leaf-on i) = told-spelt r i
+  told-spelt (entries n e r) Sits.node-here = record { name = name-quoted n; content = λ k. absurd (no-string square k) }
+  told-spelt (entries n e r) (Sits.into i) = told-spelt e i
+  told-spelt (entries n e r) (Sits.node-on i) = told-spelt r i
+  told-spelt (members n e r) Sits.node-here = record { name = name-quoted n; content = λ k. absurd (no-string curly k) }
+  told-spelt (members n e r) (Sits.into i) = told-spelt e i
+  told-spelt (members n e r) (Sits.node-on i) = told-spelt r i
+
+  module _ (j : JsonText t) (d : Doc) (h : TellsAll t (rootOf j) (member [] [] d empty)) where
+    told-distinct : Distinct d → DistinctNames t (rootOf j)
+    told-distinct k =
+        let o : DistinctIn square (membersOf t (rootOf j)) = rw (← told-members t h) (k, tt) in
+        record { new = λ c s i. new-in t square (root-nameless j) o tt i }
+
+    told-count : size (rootOf j) ≡ countOf d
+    unfolding countAll
+    told-count = omega (arith, count-members t (rootOf j), ap countAll (told-members t h))
+
+    told-depth : depthOf (rootOf j) ≡ depthIn d
+    unfolding depthAll
+    told-depth = omega (arith, depth-members t (rootOf j), ap depthAll (told-members t h))
+
+pub told-accepted : (L : Limits) (t : List ℕ) (derives : JsonText t) (d : Doc) → Tells t (rootOf derives) d → (L .unique ≡ true → Distinct d)
+    → length t ≤ L .bytes → depthIn d ≤ L .depth → countOf d ≤ L .values → Accepts L t (rootOf derives)
+told-accepted L t j d (tells h) u short shallow few =
+    record {
+      derives = j;
+      tree = refl;
+      strings = λ c s i. told-spelt t h i .content;
+      names = λ c s i. told-spelt t h i .name;
+      distinct = λ e. told-distinct t j d h (u e);
+      short = short;
+      shallow = omega (arith, told-depth t j d h);
+      few = omega (arith, told-count t j d h);
+    }

@@ -26,7 +26,7 @@ unfolding depthIn
 box-depth square ms = refl
 box-depth curly ms = refl
 
-depth-members : (t : List ℕ) (f : Forest) → depthAll (membersOf t f) ≡ depthOf f
+pub depth-members : (t : List ℕ) (f : Forest) → depthAll (membersOf t f) ≡ depthOf f
 unfolding membersOf depthIn depthAll depthOf
 depth-members t T.none = refl
 depth-members t (leaf kind ns ne from to rest) = omega (arith, depth-members t rest)

@@ -65,7 +65,7 @@ tree-nameless (comma {v} {s} {r} {b = b} d p o e) ne at =
     λ ns g h. subst (NamelessIn b) (sym (join-assoc (treeOf d 0 0 at) (treeOf e 0 0 to) g)) (tree-nameless d 0 at 0 (join (treeOf e 0 0 to) g) (tree-nameless e 0 to 0 g h))
 
 -- the root has none
-root-nameless : {t : List ℕ} (d : JsonText t) → NamelessIn square (rootOf d)
+pub root-nameless : {t : List ℕ} (d : JsonText t) → NamelessIn square (rootOf d)
 unfolding rootOf
 root-nameless (json-text {s} p d o) = subst (NamelessIn square) (join-none (treeOf d 0 0 (length s))) (tree-nameless d 0 (length s) square 0 T.none refl tt)
 
@@ -162,7 +162,7 @@ module _ (t : List ℕ) where
   none-fresh square ms = tt
   none-fresh curly ms = λ name h. named-none h
 
-  new-in : {c d : Seat} {h : Head} {f : Forest} (b : Bracket) → NamelessIn b f → DistinctIn b (membersOf t f) → Fresh b (c .beside) (membersOf t f)
+  pub new-in : {c d : Seat} {h : Head} {f : Forest} (b : Bracket) → NamelessIn b f → DistinctIn b (membersOf t f) → Fresh b (c .beside) (membersOf t f)
       → Sits c f d h → 0 < h .ns → Named t (nameOf t (h .ns) (h .ne)) (d .beside) → ⊥
   unfolding membersOf
   new-in {c} b n e f (Sits.leaf-here {ns = ns} {ne = ne} {rest = rest}) k m =
