@@ -17,28 +17,28 @@ use Rattle.laws.proofs.Splits.{part-there, there-part, length-part}
 use Rattle.text.specs.Limits.{Limits}
 use Rattle.text.specs.Strings.{decode, nameOf, contentOf}
 use Rattle.text.specs.Spelling.{utf8s}
-use Rattle.text.specs.Tree.{Bracket, square, curly, Forest, node, size}
+use Rattle.text.specs.Tree.{Bracket, square, curly, Forest, node}
 use Rattle.text.specs.Reader.{good}
 use Rattle.text.specs.Whole.{readOf}
-use Rattle.text.specs.Grammar.{JsonText, rootOf, depthOf}
+use Rattle.text.specs.Grammar.{JsonText, rootOf}
 use Rattle.text.specs.Seats.{Head, Seat, Sits}
 use Rattle.text.specs.Placed.{Quoted, NameIn, TokenIn, Placed}
 use Rattle.text.specs.Meaning.{DistinctNames, Accepts}
-use Rattle.text.specs.Doc.{Name, Doc, Members, empty, member, boxed, labelAt, membersOf, docOf, countOf, countAll}
+use Rattle.text.specs.Doc.{Name, Doc, Members, empty, member, boxed, labelAt, membersOf, docOf, countOf}
 use Rattle.text.specs.Distinct.{Distinct}
 use Rattle.text.specs.Promised.{Promised}
 use Rattle.text.specs.Labels.{Labelled}
 use Rattle.text.specs.Telling.{Stretch, NameTold, unnamed, named, TokenTold, as-written, string, TellsAll, nothing, token, entries, members, Tells, tells}
-use Rattle.text.specs.Writable.{depthIn, depthAll}
+use Rattle.text.specs.Writable.{depthIn}
 use Rattle.text.proofs.Spelling.Decoded.{decode-spelled}
 use Rattle.text.proofs.Documents.{DistinctIn}
-use Rattle.text.proofs.Promise.{promised, content-part, label-part, members-first, members-none, count-members, no-name-at}
+use Rattle.text.proofs.Promise.{promised, content-part, label-part, members-first, members-none, no-name-at}
 use Rattle.text.proofs.Labels.{string-part, label-said, no-label}
 use Rattle.text.proofs.Grammar.Wrong.{no-string}
 use Rattle.text.proofs.Readback.Runs.{part-quoted}
 use Rattle.text.proofs.Readback.Says.{firstDoc, doc-members}
 use Rattle.text.proofs.Readback.Meant.{root-nameless, new-in}
-use Rattle.text.proofs.Readback.Again.{depth-members}
+use Rattle.text.proofs.Readback.Again.{root-count, root-depth}
 
 -- ---- stretches are parts ----
 
@@ -191,19 +191,10 @@ module _ (t : List ℕ) where
   told-spelt (members n e r) (Sits.into i) = told-spelt e i
   told-spelt (members n e r) (Sits.node-on i) = told-spelt r i
 
-  module _ (j : JsonText t) (d : Doc) (h : TellsAll t (rootOf j) (member [] [] d empty)) where
-    told-distinct : Distinct d → DistinctNames t (rootOf j)
-    told-distinct k =
-        let o : DistinctIn square (membersOf t (rootOf j)) = rw (← told-members t h) (k, tt) in
-        record { new = λ c s i. new-in t square (root-nameless j) o tt i }
-
-    told-count : size (rootOf j) ≡ countOf d
-    unfolding countAll
-    told-count = omega (arith, count-members t (rootOf j), ap countAll (told-members t h))
-
-    told-depth : depthOf (rootOf j) ≡ depthIn d
-    unfolding depthAll
-    told-depth = omega (arith, depth-members t (rootOf j), ap depthAll (told-members t h))
+  told-distinct : (j : JsonText t) (d : Doc) → TellsAll t (rootOf j) (member [] [] d empty) → Distinct d → DistinctNames t (rootOf j)
+  told-distinct j d h k =
+      let o : DistinctIn square (membersOf t (rootOf j)) = rw (← told-members t h) (k, tt) in
+      record { new = λ c s i. new-in t square (root-nameless j) o tt i }
 
 pub told-accepted : (L : Limits) (t : List ℕ) (derives : JsonText t) (d : Doc) → Tells t (rootOf derives) d → (L .unique ≡ true → Distinct d)
     → length t ≤ L .bytes → depthIn d ≤ L .depth → countOf d ≤ L .values → Accepts L t (rootOf derives)
@@ -215,6 +206,6 @@ told-accepted L t j d (tells h) u short shallow few =
       names = λ c s i. told-spelt t h i .name;
       distinct = λ e. told-distinct t j d h (u e);
       short = short;
-      shallow = omega (arith, told-depth t j d h);
-      few = omega (arith, told-count t j d h);
+      shallow = omega (arith, root-depth t (rootOf j) (sym (told-members t h)));
+      few = omega (arith, root-count t (rootOf j) (sym (told-members t h)));
     }
