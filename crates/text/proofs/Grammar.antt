@@ -3,7 +3,7 @@
 --     Stands, Prefixes      bytes that stand in a text, and texts that are like it as far as a place
 --     Exact                 a token's reader and its language agree, for each way of ABNF to build a rule
 --     Number, Quotes, Words     so numbers, strings, white space, literals are read as their rules say
---     Trees, Wrong          where values stand in a tree, and what is wrong with one
+--     Trees, Names, Wrong   where values stand in a tree, names that spell the same, and what is wrong with a value
 --     Sound, Told, Within   what an answer says, by induction on the definition: what is read derives, with its tree, and of what is refused the bytes
 --                           before the place begin a text of the grammar
 --     Meets, Follow         what derives is read, by induction on the derivation, as far as the text is like it, or is refused for what is wrong with it
@@ -17,6 +17,7 @@ pub mod Number
 pub mod Quotes
 pub mod Words
 pub mod Trees
+pub mod Names
 pub mod Wrong
 pub mod Sound
 pub mod Told

@@ -55,6 +55,14 @@ module _ (t : List ℕ) (i e : ℕ) (q : Quoted t i e) where
         says = decode-spelled (q .spells);
       }
 
+-- a string with its quotes
+pub string-part : (t : List ℕ) (from to : ℕ) → Quoted t (from + 1) (to - 1) → partOf t from to ≡ 34 ∷ partOf t (from + 1) (to - 1) ++ (34 ∷ [])
+string-part t from to q =
+    let o = q .ordered in
+    let s : from + 1 - 1 ≡ from = omega arith in
+    let e : to - 1 + 1 ≡ to = omega arith in
+    rw (s, e) at (quoted-part t (from + 1) (to - 1) q)
+
 -- an element has no name
 pub no-label : (t : List ℕ) {ns ne : ℕ} → ns ≡ 0 → ne ≡ 0 → Unlabelled (nameOf t ns ne) (labelAt t ns ne)
 unfolding utf8s

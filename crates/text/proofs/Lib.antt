@@ -17,3 +17,4 @@ pub mod Grammar
 pub mod NewNames
 pub mod Labels
 pub mod Readback
+pub mod Telling

@@ -9,7 +9,6 @@ use lib.ListN.{length, take, drop}
 use Rattle.laws.specs.Lists.{partOf}
 use Rattle.text.specs.Limits.{Limits}
 use Rattle.text.specs.Text.{byteAt}
-use Rattle.text.specs.Strings.{nameOf}
 use Rattle.text.specs.Spelling.{Spells}
 use Rattle.text.specs.Broken.{Ill}
 use Rattle.text.specs.Tree.{Forest}
@@ -43,9 +42,10 @@ pub data ValueBreaks (L : Limits) (t : List ℕ) (d : Seat) (h : Head) : (number
   -- in a string that opens at j, behind characters that are spelled: bytes that aim at a character and spell none
   character : {j p : ℕ} {codes : List ℕ} → StringAt h j → byteAt t j ≡ 34 → j < p → Spells (partOf t (j + 1) p) codes → Ill (drop p t)
       → ValueBreaks L t d h 3 p
-  -- a name, closed and spelled, that a member before it in its object has, both decoded; it counts whatever follows it. Nothing is asked of the
-  -- other name: if that does not spell, it breaks 3 at a smaller place, which comes first
-  repeated : {p e : ℕ} → L .unique ≡ true → h .ns ≡ p + 1 → Quoted t (p + 1) e → Named t (nameOf t (p + 1) e) (d .beside) → ValueBreaks L t d h 4 p
+  -- a name, closed, that spells what the name of a member before it in its object spells; it counts whatever follows it. The other name spells too:
+  -- one that does not breaks 3 at a smaller place, which comes first
+  repeated : {p e : ℕ} {codes : List ℕ} → L .unique ≡ true → h .ns ≡ p + 1 → Quoted t (p + 1) e → Spells (partOf t (p + 1) e) codes → Named t codes (d .beside)
+      → ValueBreaks L t d h 4 p
   -- an array or object inside as many others as may be open at once
   deep : h .holds ≡ true → d .inside ≡ L .depth → ValueBreaks L t d h 5 (h .from)
   -- a value after as many others as there may be

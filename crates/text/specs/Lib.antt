@@ -31,4 +31,5 @@ pub mod Promised
 -- documents as texts
 pub mod Writing
 pub mod Labels
+pub mod Telling
 pub mod Writable

@@ -5,16 +5,18 @@ use mathlib.Core.Path.{_≡_}
 use mathlib.Core.List.{List}
 use mathlib.Core.Bool.{true}
 use lib.ListN.{length}
+use Rattle.laws.specs.Lists.{partOf}
 use Rattle.text.specs.Limits.{Limits}
-use Rattle.text.specs.Strings.{nameOf}
+use Rattle.text.specs.Spelling.{Spells}
 use Rattle.text.specs.Tree.{Forest, size}
 use Rattle.text.specs.Placed.{Quoted}
 use Rattle.text.specs.Grammar.{JsonText, rootOf, depthOf}
 use Rattle.text.specs.Seats.{Head, Seat, top, Sits, Named}
 
--- 01: names compared decoded: no member has a name that a member before it, in the same object, has. (A value that is no member has the name start 0.)
+-- 01: names compared decoded: no member has a name that spells what the name of a member before it, in the same object, spells. (A value that is no
+-- member has the name start 0.)
 pub record DistinctNames (t : List ℕ) (f : Forest) : Type 0 where
-  pub new : (d : Seat) (h : Head) → Sits top f d h → 0 < h .ns → Named t (nameOf t (h .ns) (h .ne)) (d .beside) → ⊥
+  pub new : (d : Seat) (h : Head) → Sits top f d h → 0 < h .ns → (codes : List ℕ) → Spells (partOf t (h .ns) (h .ne)) codes → Named t codes (d .beside) → ⊥
 
 -- the text t is accepted with the tree f
 pub record Accepts (L : Limits) (t : List ℕ) (f : Forest) : Type 0 where

@@ -1,10 +1,10 @@
 -- Where the values of a tree stand: inside how many containers, after how many other values, and after which ones in the same container.
 -- Assumes nothing: these are definitions.
 use Prim.Native.Nat.{ℕ, _+_}
-use mathlib.Core.Path.{_≡_}
 use mathlib.Core.List.{List}
 use mathlib.Core.Bool.{Bool, true, false}
-use Rattle.text.specs.Strings.{nameOf}
+use Rattle.laws.specs.Lists.{partOf}
+use Rattle.text.specs.Spelling.{Spells}
 use Rattle.text.specs.Tree.{Bracket, bracketKind, Forest, none, leaf, node, size, join}
 
 -- a value without what is inside it: may it hold others (is it an array or an object)? and the first five words of its row
@@ -55,9 +55,9 @@ pub data Sits : Seat → Forest → Seat → Head → Type 0 where
   node-on : {c d : Seat} {h : Head} {b : Bracket} {ns ne from to : ℕ} {inner rest : Forest}
       → Sits (behind c (node b ns ne from to inner none)) rest d h → Sits c (node b ns ne from to inner rest) d h
 
--- one of these values, not looking inside them, has that decoded name
-pub data Named (t name : List ℕ) : Forest → Type 0 where
-  leaf-here : {kind ns ne from to : ℕ} {rest : Forest} → nameOf t ns ne ≡ name → Named t name (leaf kind ns ne from to rest)
-  node-here : {b : Bracket} {ns ne from to : ℕ} {inner rest : Forest} → nameOf t ns ne ≡ name → Named t name (node b ns ne from to inner rest)
-  leaf-on : {kind ns ne from to : ℕ} {rest : Forest} → Named t name rest → Named t name (leaf kind ns ne from to rest)
-  node-on : {b : Bracket} {ns ne from to : ℕ} {inner rest : Forest} → Named t name rest → Named t name (node b ns ne from to inner rest)
+-- one of these values, not looking inside them, has a name that spells these code points
+pub data Named (t codes : List ℕ) : Forest → Type 0 where
+  leaf-here : {kind ns ne from to : ℕ} {rest : Forest} → Spells (partOf t ns ne) codes → Named t codes (leaf kind ns ne from to rest)
+  node-here : {b : Bracket} {ns ne from to : ℕ} {inner rest : Forest} → Spells (partOf t ns ne) codes → Named t codes (node b ns ne from to inner rest)
+  leaf-on : {kind ns ne from to : ℕ} {rest : Forest} → Named t codes rest → Named t codes (leaf kind ns ne from to rest)
+  node-on : {b : Bracket} {ns ne from to : ℕ} {inner rest : Forest} → Named t codes rest → Named t codes (node b ns ne from to inner rest)

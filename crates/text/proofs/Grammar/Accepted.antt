@@ -3,30 +3,33 @@
 use mathlib.Core.Path.{_≡_, refl, sym, ap, subst, _∙_}
 use mathlib.Core.List.{List}
 use mathlib.Core.Logic.{_↔_, _⊎_, ⊎-elim}
-use Prim.Native.Nat.{ℕ, _+_, _≤_}
+use Prim.Native.Nat.{ℕ, _+_, _-_, _≤_}
 use native.Mathlib.Omega.{arith}
-use native.Mathlib.Nat.{zero-add, le-refl}
-use borrow.Author.Tests.{eq-eqb, le-ltb}
-use lib.ListN.{length, List·getD-eq-default}
-use Rattle.laws.specs.Bounds.{AllBelow}
-use Rattle.laws.proofs.Bounds.{below-at}
+use native.Mathlib.Nat.{le-refl}
+use borrow.Author.Tests.{le-ltb}
+use lib.ListN.{length}
+use Rattle.laws.specs.Lists.{partOf}
 use Rattle.text.specs.Limits.{Limits}
-use Rattle.text.specs.Text.{byteAt}
 use Rattle.text.specs.Tokens.{skip}
 use Rattle.text.specs.Tree.{Forest}
 use Rattle.text.specs.Reader.{Read, good, bad}
 use Rattle.text.specs.Whole.{endOf, readOf}
+use Rattle.text.specs.Spelling.{Spells}
+use Rattle.text.specs.Placed.{Quoted}
 use Rattle.text.specs.Grammar.{JsonText, rootOf, value}
 use Rattle.text.specs.Seats.{Head, Seat, top, Sits}
 use Rattle.text.specs.Meaning.{Accepts}
+use Rattle.text.specs.declared.Token.the-variants.{End}
 use Rattle.text.specs.declared.Refusal.{Refusal}
 use Rattle.text.proofs.Induction.{read-accepted}
-use Rattle.text.proofs.Grammar.Stands.{by-order}
 use Rattle.text.proofs.Grammar.Exact.{Past}
+use Rattle.text.proofs.Grammar.Quotes.{quotedAt}
+use Rattle.text.proofs.Grammar.Trees.{in-deep, in-few}
 use Rattle.text.proofs.Grammar.Sound.{Parsed, placeOf}
-use Rattle.text.proofs.Grammar.Wrong.{Wrong, Kept, clean}
+use Rattle.text.proofs.Grammar.Told.{three-end}
+use Rattle.text.proofs.Grammar.Wrong.{Wrong, string, name, again, deep, many, Kept}
 use Rattle.text.proofs.Grammar.Meets.{Numbered, Near, read, broken}
-use Rattle.text.proofs.Grammar.Rules.{sane, sane-string, sane-name, sane-new}
+use Rattle.text.proofs.Grammar.Rules.{quoted-end, sane-string, sane-name, sane-new}
 use Rattle.text.proofs.Grammar.Wholes.{root, root-told, root-within, self, read-inside, read-text}
 
 module _ (L : Limits) (t : List ℕ) where
@@ -54,13 +57,21 @@ module _ (L : Limits) (t : List ℕ) where
 
   -- ---- as it should be, so it is read ----
 
-  pub accepts-kept : {f : Forest} → Accepts L t f → Kept L t (L .depth) top f
-  accepts-kept {f} a =
-      record {
-        shallow = a .shallow;
-        few = omega (arith, a .few);
-        sane = λ c h i. sane L t c h (a .strings c h i) (a .names c h i) (λ u. a .distinct u .new c h i);
-      }
+  name-closed : {f : Forest} {d : Seat} {h : Head} (j : ℕ) → Accepts L t f → Sits top f d h → h .ns ≡ j + 1 → quotedAt t j ≡ End (h .ne + 1)
+  name-closed {d} {h} j a i k = quoted-end t j (subst (λ (n : ℕ). Quoted t n (h .ne)) k (a .names d h i (omega arith)))
+
+  -- its values have nothing wrong
+  pub accepts-clean : {f : Forest} {d : Seat} {h : Head} {m x : ℕ} → Accepts L t f → Sits top f d h → Wrong L t d h m x → ⊥
+  accepts-clean {d} {h} a i (string k z) = three-end z (quoted-end t (h .from) (a .strings d h i k))
+  accepts-clean {d} {h} a i (name j k z) = three-end z (name-closed j a i k)
+  accepts-clean {d} {h} {x} a i (again {e} u k z n) =
+      let same-end : End e ≡ End (h .ne + 1) = sym z ∙ name-closed x a i k in
+      let end : e ≡ h .ne + 1 = cc in
+      let last : e - 1 ≡ h .ne = omega arith in
+      let p : Spells (partOf t (h .ns) (h .ne)) (n .codes) = rw (k, ← last) (n .spells) in
+      a .distinct u .new d h i (omega arith) (n .codes) p (n .there)
+  accepts-clean a i (deep o k) = omega (arith, in-deep i o, a .shallow)
+  accepts-clean a i (many k) = omega (arith, in-few i, a .few)
 
   -- what is answered of a text of the grammar: its value is read and the text ends behind it, or a value has something wrong, which is the answer
   pub data Answered (f : Forest) : Read → Type 0 where
@@ -86,7 +97,7 @@ module _ (L : Limits) (t : List ℕ) where
     where
       go : (R : Read) → Answered f R → endOf t R ≡ good f (length t)
       go R (ended end e) = ended-so f end e
-      go R (stopped j w n) = absurd (clean L t (L .depth) (zero-add (L .depth)) (accepts-kept a) j w)
+      go R (stopped j w n) = absurd (accepts-clean a j w)
 
 -- theorem: accepted exactly
 pub accepts : (L : Limits) (t : List ℕ) (f : Forest) → (readOf L t ≡ good f (length t)) ↔ Accepts L t f

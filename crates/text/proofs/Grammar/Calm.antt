@@ -15,7 +15,7 @@ use Rattle.text.specs.Text.{byteAt}
 use Rattle.text.specs.Strings.{nameOf}
 use Rattle.text.specs.Tokens.{isSpace, skip}
 use Rattle.text.specs.Tree.{Bracket, Forest, none, leaf, node, size, join}
-use Rattle.text.specs.Reader.{Read, bad, scalarWith, scalarAt, closeOf, container, deep, afterItem, itemsFrom, insideOf, named, colonAt, memberWith, valueAt}
+use Rattle.text.specs.Reader.{Read, good, bad, scalarWith, scalarAt, closeOf, container, deep, afterItem, itemsFrom, insideOf, named, colonAt, memberWith, valueAt}
 use Rattle.text.specs.Grammar.{Ws, JsonString, Simple, simpleKind, IsSimple, opening, Part, value, item, items, Is, simple, empty, full, element, member, one, comma, treeOf, closing}
 use Rattle.text.specs.Seats.{Head, Seat, under, behind, Sits}
 use Rattle.text.specs.declared.Token.{Token}
@@ -27,10 +27,11 @@ use Rattle.text.proofs.Grammar.Exact.{Past, Said, Goes}
 use Rattle.text.proofs.Grammar.Quotes.{quotedAt, bad-later, string-exact}
 use Rattle.text.proofs.Grammar.Words.{Behind, close, comma as a-comma, simple-first, simple-opens, token-simple, kind-text, skip-follow, skip-inside}
 use Rattle.text.proofs.Grammar.Trees.{Either-of, first, later, in-join, in-none}
+use Rattle.text.proofs.Grammar.Names.{Names, names-join, known-named}
 use Rattle.text.proofs.Grammar.Wrong.{rank, Wrong, string, name, again, many, no-string}
 use Rattle.text.proofs.Grammar.Wrong as W
 use Rattle.text.proofs.Grammar.Sound.{placeOf, byte-opening, glue-end}
-use Rattle.text.proofs.Grammar.Told.{itemAt, quote-first, no-two, no-end, three-end, same-three}
+use Rattle.text.proofs.Grammar.Told.{itemAt, quote-first, item-names, no-two, no-end, three-end, same-three}
 use Rattle.text.proofs.Grammar.Within.{item-within}
 use Rattle.text.proofs.Grammar.Meets.{numberOf, numbered-has, Reads, past, same, wrong, high-closing, first as lead-first, space-behind}
 use Rattle.text.proofs.Grammar.Follow.{opens-deep, opens, counts-at, skip-like, skip-stuck, turn, follow}
@@ -144,7 +145,8 @@ module _ (L : Limits) (t : List ℕ) (q : ℕ) where
   module _ (b : Bracket) (c : Seat) (more : Forest → ℕ → Read) (m x : ℕ) (lt : x < q) where
     comma-time : {T : Forest} {to : ℕ} {s r : List ℕ} (w : List ℕ) {R : Read} → to + length s + 1 + length r ≤ x → placeOf R ≤ length t → Ws s → Ws r → isSpace (byteAt w 0) ≡ false
         → Like t q to (s ++ 44 ∷ (r ++ w)) → Reads L t q c T to R
-        → ((y : ℕ) → y ≡ to + length s + 1 + length r → y ≤ length t → c .after + size T ≤ L .values → In-time m x (more T y)) → In-time m x (afterItem t (closing b) (c .beside) more R)
+        → ((y : ℕ) → y ≡ to + length s + 1 + length r → y ≤ length t → c .after + size T ≤ L .values → R ≡ good T to → In-time m x (more T y))
+        → In-time m x (afterItem t (closing b) (c .beside) more R)
     unfolding afterItem
     comma-time w far i p o dark h (past k l) g = absurd (omega arith)
     comma-time w far i p o dark h (wrong j v n (inl k)) g = absurd (omega arith)
@@ -159,7 +161,7 @@ module _ (L : Limits) (t : List ℕ) (q : ℕ) where
         (λ n.
         let j : y + 1 ≤ length t = omega (arith, inside t y (omega arith)) in
         ⊎-elim
-        (λ (a : y ≡ to + length s). ⊎-elim (λ a₂. g (skip t (y + 1)) (omega arith) (skip-inside t (y + 1) j) k) (λ a₂. absurd (omega (arith, a₂ .word)))
+        (λ (a : y ≡ to + length s). ⊎-elim (λ a₂. g (skip t (y + 1)) (omega arith) (skip-inside t (y + 1) j) k refl) (λ a₂. absurd (omega (arith, a₂ .word)))
         (skip-follow t w j o dark (like-tail l)))
         (λ a. absurd (omega (arith, a .word))) (skip-follow t (44 ∷ (r ++ w)) i p refl h))
         (λ n. absurd (omega (arith, stuck n .word))))
@@ -206,7 +208,7 @@ module _ (L : Limits) (t : List ℕ) (q : ℕ) where
           let l : x ≡ at = omega arith in
           let same-end : End f ≡ End a = sym (rw l at y) ∙ k in
           let l₂ : f ≡ a = cc in
-          clash (named t (nameOf t (at + 1) (a - 1)) (c .beside)) (rw (l, l₂) at n) (new b)
+          clash (named t (nameOf t (at + 1) (a - 1)) (c .beside)) (known-named t (rw (l, l₂) at n)) (new b)
 
       new-time : (e : Seat) (f : Head) (m x : ℕ) → Sits c (treeOf d (at + 1) (at + length v - 1) begin) e f → Wrong L t e f m x → x < q → a ≤ length t
           → (a ≡ at + length v) ⊎ Past q (at + length v) a
@@ -241,8 +243,8 @@ comma-calm : (L : Limits) (t : List ℕ) (q : ℕ) (b : Bracket) (depth turns : 
     → c .inside + depth ≡ L .depth → length t < turns + at → at ≤ length t → Ws s → Ws r → isSpace (byteAt w 0) ≡ false → Like t q to (s ++ 44 ∷ (r ++ w))
     → ((e : Seat) (h : Head) (m x : ℕ) → Sits (behind c T) S e h → Wrong L t e h m x → to + length s + 1 + length r ≤ x)
     → Calm L t q c T (itemAt L t depth b (c .beside) at (c .after)) → Reads L t q c T to (itemAt L t depth b (c .beside) at (c .after))
-    → ((left y : ℕ) → length t < suc left + at → y ≡ to + length s + 1 + length r → y ≤ length t → c .after + size T ≤ L .values → Calm L t q (behind c T) S
-    (itemsFrom t (itemAt L t depth b) (closing b) left y (c .after + size T) (join (c .beside) T)))
+    → ((left y : ℕ) → length t < suc left + at → y ≡ to + length s + 1 + length r → y ≤ length t → c .after + size T ≤ L .values
+    → itemAt L t depth b (c .beside) at (c .after) ≡ good T to → Calm L t q (behind c T) S (itemsFrom t (itemAt L t depth b) (closing b) left y (c .after + size T) (join (c .beside) T)))
     → Calm L t q c (join T S) (itemsFrom t (itemAt L t depth b) (closing b) turns at (c .after) (c .beside))
 comma-calm L t q b depth turns c at s r w to T S room e i p o dark h lower calm₁ met calm₂ =
     record { least = λ a f m x j y lt. turn (In-time m x) L t b depth turns at (c .after) (c .beside) e i (λ left u. go a f m x y lt left u (in-join T S j)) }
@@ -252,7 +254,7 @@ comma-calm L t q b depth turns c at s r w to T S room e i p o dark h lower calm�
         (itemAt L t depth b (c .beside) at (c .after)))
     go a f m x y lt left u (first j) = time-after t (closing b) (c .beside) _ (calm₁ .least a f m x j y lt)
     go a f m x y lt left u (later j) =
-        comma-time L t q b c _ m x lt w (lower a f m x j y) (item-within L t depth b (c .beside) at (c .after) i) p o dark h met (λ z k n l. calm₂ left z u k n l .least a f m x j y lt)
+        comma-time L t q b c _ m x lt w (lower a f m x j y) (item-within L t depth b (c .beside) at (c .after) i) p o dark h met (λ z k n l read. calm₂ left z u k n l read .least a f m x j y lt)
 
 -- ---- by induction on the derivation ----
 
@@ -266,7 +268,7 @@ Calms L t q (item b) w d =
     → Calm L t q c (treeOf d 0 0 at) (itemAt L t depth b (c .beside) at (c .after))
 Calms L t q (items b) w d =
     (r : List ℕ) (depth turns : ℕ) (c : Seat) (at : ℕ) → c .inside + depth ≡ L .depth → c .after ≤ L .values → length t < turns + at → at ≤ length t → Like t q at (w ++ closing b ∷ r)
-    → Calm L t q c (treeOf d 0 0 at) (itemsFrom t (itemAt L t depth b) (closing b) turns at (c .after) (c .beside))
+    → Names t (c .beside) → Calm L t q c (treeOf d 0 0 at) (itemsFrom t (itemAt L t depth b) (closing b) turns at (c .after) (c .beside))
 
 -- a value without a name has no wrong one
 pub no-names : (L : Limits) (t : List ℕ) (q : ℕ) (before : Forest) → Good-names L t q before 0
@@ -291,7 +293,7 @@ calm L t q (full {s} {w} b p d) = λ z o depth c ns ne at room few i h g.
     container-calm L t q b (treeOf d 0 0 (at + 1 + length s)) (at + length s + length w + 2) c ns ne at g (like-here h)
     (λ e y m x j v. omega (arith, low L t d (under c) e y m x (at + 1 + length s) j v)) (λ e y m x j v. low L t (full b p d) c e y m x ns ne at j v)
     (λ depth r j m. inside-calm L t q b depth c d z at (omega arith) p l
-    (λ k. calm L t q d z depth (suc (length t)) (under c) (at + 1 + length s) r (omega arith) (omega arith) k (like-skip s l))) depth room
+    (λ k. calm L t q d z depth (suc (length t)) (under c) (at + 1 + length s) r (omega arith) (omega arith) k (like-skip s l) Names.no-more)) depth room
 calm L t q (element d) = λ s o depth c at room few i h. calm L t q d s o depth c 0 0 at room few i h (no-names L t q (c .beside))
 calm L t q (member {m = v} {s} {r} {w} g p o d) = λ z b depth c at room few i h.
     let l = rw (glue-end 58 v s r w z) at h in
@@ -303,14 +305,14 @@ calm L t q (member {m = v} {s} {r} {w} g p o d) = λ z b depth c at room few i h
           (λ names k. calm L t q d z b depth c (at + 1) (at + length v - 1) (at + length v + length s + 1 + length r) room few k lw names) e f m x j y lt
           (quotedAt t at) refl (string-exact t .told at i) (string-exact t .follow q at v (s ++ 58 ∷ (r ++ (w ++ z))) i g tt l) (low L t d c e f m x (at + 1) _ _ j y));
     }
-calm L t q (one {v} {s} {b} d p) = λ r depth turns c at room few e i h.
+calm L t q (one {v} {s} {b} d p) = λ r depth turns c at room few e i h names.
     let l = rw (append-assoc v s (closing b ∷ r)) at h in
     record {
       least = λ a f m x j y lt.
           turn (In-time m x) L t b depth turns at (c .after) (c .beside) e i
           (λ left u. time-after t (closing b) (c .beside) _ (calm L t q d (s ++ closing b ∷ r) (space-behind (closing b ∷ r) p (close b)) depth c at room few i l .least a f m x j y lt));
     }
-calm L t q (comma {v} {s} {r = r} {w} {b} d p o f) = λ z depth turns c at room few e i h.
+calm L t q (comma {v} {s} {r = r} {w} {b} d p o f) = λ z depth turns c at room few e i h names.
     let l = rw (glue-end 44 v s r w (closing b ∷ z)) at h in
     let lv = like-skip v l in
     let lw = like-skip r (like-tail (like-skip s lv)) in
@@ -319,5 +321,7 @@ calm L t q (comma {v} {s} {r = r} {w} {b} d p o f) = λ z depth turns c at room 
     (lead-first f (closing b ∷ z) .dark) lv
     (λ a g m x. low L t f (behind c (treeOf d 0 0 at)) a g m x (at + length v + length s + 1 + length r))
     (calm L t q d (s ++ 44 ∷ (r ++ (w ++ closing b ∷ z))) behind-v depth c at room few i l)
-    (follow L t q d (s ++ 44 ∷ (r ++ (w ++ closing b ∷ z))) behind-v depth c at room few i l)
-    (λ left y u a j m. rw a (calm L t q f z depth left (behind c (treeOf d 0 0 at)) (at + length v + length s + 1 + length r) room m (omega arith) (omega arith) lw))
+    (follow L t q d (s ++ 44 ∷ (r ++ (w ++ closing b ∷ z))) behind-v depth c at room few i l names)
+    (λ left y u a j m read.
+    let both = names-join t names (item-names L t depth b c at i read) in
+    rw a (calm L t q f z depth left (behind c (treeOf d 0 0 at)) (at + length v + length s + 1 + length r) room m (omega arith) (omega arith) lw both))

@@ -25,10 +25,12 @@ use Rattle.text.proofs.Grammar.Exact.{Said, Past, Goes}
 use Rattle.text.proofs.Grammar.Quotes.{quotedAt, string-exact}
 use Rattle.text.proofs.Grammar.Words.{Behind, close, comma as a-comma, simpleOf, simple-exact, simple-first, simple-opens, token-simple, kind-text, kind-way, skip-follow, skip-later, skip-inside}
 use Rattle.text.proofs.Grammar.Trees.{join-none, in-left}
+use Rattle.text.proofs.Grammar.Names.{Names, names-join, named-known}
 use Rattle.text.proofs.Grammar.Wrong.{Wrong, string, name, again, many}
 use Rattle.text.proofs.Grammar.Wrong as W
 use Rattle.text.proofs.Grammar.Sound.{placeOf, byte-opening, glued, glue-end}
-use Rattle.text.proofs.Grammar.Told.{itemAt, quote-first}
+use Rattle.text.proofs.Grammar.Told.{itemAt, quote-first, item-names}
+use Rattle.text.proofs.Grammar.Rules.{end-quoted}
 use Rattle.text.proofs.Grammar.Within.{value-later, item-within, items-later}
 use Rattle.text.proofs.Grammar.Meets.{simple-long, third, fourth, fifth, sixth, Meets, past, same, wrong, Reads, meets-close, meets-join, firstly, dark-closing, high-closing, first, space-behind, length-glued, three-text}
 
@@ -156,11 +158,11 @@ module _ (L : Limits) (t : List ℕ) where
           (λ e. if-equal (λ R. to ≤ placeOf R) (byteAt t (skip t to)) 44 (λ k. omega (arith, over f to k)) (λ k. omega arith))
 
       after-follow : {T G : Forest} (S : Forest) {to x : ℕ} {R : Read} → to ≤ x → placeOf R ≤ length t → Reads L t q c T to R
-          → (to ≤ length t → c .after + size T ≤ L .values → Meets L t q c G (join T S) x (afterItem t (closing b) (c .beside) more (good T to)))
+          → (to ≤ length t → c .after + size T ≤ L .values → R ≡ good T to → Meets L t q c G (join T S) x (afterItem t (closing b) (c .beside) more (good T to)))
           → Meets L t q c G (join T S) x (afterItem t (closing b) (c .beside) more R)
       unfolding afterItem
       after-follow S far i (past {R} k h) g = past {R = afterItem t (closing b) (c .beside) more R} (omega arith) (omega (arith, after-place R))
-      after-follow S far i (same k) g = g i k
+      after-follow S far i (same k) g = g i k refl
       after-follow S far i (wrong j w n (inl o)) g = wrong (in-left S j) w n (inl (omega arith))
       after-follow S far i (wrong j w n (inr o)) g = wrong (in-left S j) w n (inr (omega arith))
 
@@ -173,7 +175,7 @@ module _ (L : Limits) (t : List ℕ) where
           let x = skip t to in
           let all : P (afterItem t (closing b) (c .beside) more R) =
           after-follow none (omega arith) i m
-          (λ j k. if-equal P (byteAt t x) (closing b)
+          (λ j k v. if-equal P (byteAt t x) (closing b)
           (λ e. ⊎-elim (λ u. rw u (same (rw (join-none T) k))) (λ u. past (omega (arith, u .word)) (omega (arith, u .answer))) (skip-follow t (closing b ∷ r) j p (dark-closing b) h))
           (λ e. let u = skip-stuck (closing b ∷ r) j p (dark-closing b) h e in if-equal P (byteAt t x) 44
           (λ k. past (omega (arith, u .word)) (omega (arith, u .answer, over T to k))) (λ k. past (omega (arith, u .word)) (u .answer)))) in
@@ -183,7 +185,7 @@ module _ (L : Limits) (t : List ℕ) where
       comma-follow : {T : Forest} (S : Forest) {to z : ℕ} {s r : List ℕ} (w : List ℕ) {R : Read} → to + length s + 1 + length r ≤ z → placeOf R ≤ length t → Ws s → Ws r
           → isSpace (byteAt w 0) ≡ false
           → Like t q to (s ++ 44 ∷ (r ++ w)) → Reads L t q c T to R
-          → ((y : ℕ) → y ≡ to + length s + 1 + length r → y ≤ length t → c .after + size T ≤ L .values → Meets L t q (behind c T) (join (join (c .beside) T) S) S z (more T y))
+          → ((y : ℕ) → y ≡ to + length s + 1 + length r → y ≤ length t → c .after + size T ≤ L .values → R ≡ good T to → Meets L t q (behind c T) (join (join (c .beside) T) S) S z (more T y))
           → Meets L t q c (join (c .beside) (join T S)) (join T S) z (afterItem t (closing b) (c .beside) more R)
       unfolding afterItem
       comma-follow {T} S {to} {z} {s} {r} w far i p o dark h m g =
@@ -191,7 +193,7 @@ module _ (L : Limits) (t : List ℕ) where
           let x = skip t to in
           let y = skip t (x + 1) in
           after-follow S (omega arith) i m
-          (λ j k.
+          (λ j k read.
           let l = skip-like (44 ∷ (r ++ w)) j p refl h in
           let stuck = skip-stuck (44 ∷ (r ++ w)) j p refl h in
           if-equal P (byteAt t x) (closing b)
@@ -200,7 +202,7 @@ module _ (L : Limits) (t : List ℕ) where
           (λ n.
           let v = over T to n in
           ⊎-elim
-          (λ (a : x ≡ to + length s). ⊎-elim (λ a₂. meets-join L t q (c .beside) T S k (g y (omega arith) (v .1) k))
+          (λ (a : x ≡ to + length s). ⊎-elim (λ a₂. meets-join L t q (c .beside) T S k (g y (omega arith) (v .1) k read))
           (λ a₂. past (omega (arith, a₂ .word)) (omega (arith, a₂ .answer))) (skip-follow t w (omega arith) o dark (like-tail l)))
           (λ a. past (omega (arith, a .word)) (omega (arith, a .answer))) (skip-follow t (44 ∷ (r ++ w)) j p refl h))
           (λ n. let u = stuck n in past (omega (arith, u .word)) (u .answer))))
@@ -252,20 +254,20 @@ module _ (L : Limits) (t : List ℕ) where
           past (omega (arith, v .word)) (v .answer))
           (λ e. past (omega (arith, e .word)) (omega (arith, e .answer))) u)
 
-      member-follow : ((ns ne at : ℕ) → at ≤ length t → Like t q at (w ++ z) → Reads L t q c (treeOf d ns ne at) (at + length w) (valueAt L t depth ns ne at (c .after)))
+      member-follow : Names t (c .beside) → ((ns ne at : ℕ) → at ≤ length t → Like t q at (w ++ z) → Reads L t q c (treeOf d ns ne at) (at + length w) (valueAt L t depth ns ne at (c .after)))
           → (key : Token) → quotedAt t at ≡ key → Said t JsonString at key → Goes q (at + length m) key
           → Reads L t q c tree-of end-of (memberWith L t (valueAt L t depth) (c .beside) at (c .after) key)
       unfolding memberWith
-      member-follow g (No2 x) e k u = past (omega (arith, u .word)) (u .answer)
-      member-follow g (No3 x) e k u =
+      member-follow names g (No2 x) e k u = past (omega (arith, u .word)) (u .answer)
+      member-follow names g (No3 x) e k u =
           let f = firstly c d (at + 1) (at + length m - 1) (at + length m + length s + 1 + length r) in wrong (f .there) (name at (f .name) e) third
           (⊎-elim (λ a. inl (omega arith)) (λ a. inr (omega arith)) u)
-      member-follow g (End end) e k u =
+      member-follow names g (End end) e k u =
           let P = Reads L t q c tree-of end-of in
           let colon = colon-follow g end (stands-inside (k .stands) i) u in
           if-true P (L .unique)
           (λ v. if-true P (named t (nameOf t (at + 1) (end - 1)) (c .beside))
-          (λ n. let f = firstly c d (at + 1) (at + length m - 1) (at + length m + length s + 1 + length r) in wrong (f .there) (again v (f .name) e n) fourth (inr (omega arith)))
+          (λ n. let f = firstly c d (at + 1) (at + length m - 1) (at + length m + length s + 1 + length r) in wrong (f .there) (again v (f .name) e (named-known t (end-quoted t at e .spells) names n)) fourth (inr (omega arith)))
           (λ n. colon))
           (λ v. colon)
 
@@ -277,10 +279,11 @@ Follows L t q value w d =
     (s : List ℕ) → Behind (byteAt s 0) → (depth : ℕ) (c : Seat) (ns ne at : ℕ) → c .inside + depth ≡ L .depth → c .after ≤ L .values → at ≤ length t → Like t q at (w ++ s)
     → Reads L t q c (treeOf d ns ne at) (at + length w) (valueAt L t depth ns ne at (c .after))
 Follows L t q (item b) w d =
-    (s : List ℕ) → Behind (byteAt s 0) → (depth : ℕ) (c : Seat) (at : ℕ) → c .inside + depth ≡ L .depth → c .after ≤ L .values → at ≤ length t → Like t q at (w ++ s)
+    (s : List ℕ) → Behind (byteAt s 0) → (depth : ℕ) (c : Seat) (at : ℕ) → c .inside + depth ≡ L .depth → c .after ≤ L .values → at ≤ length t → Like t q at (w ++ s) → Names t (c .beside)
     → Reads L t q c (treeOf d 0 0 at) (at + length w) (itemAt L t depth b (c .beside) at (c .after))
 Follows L t q (items b) w d =
     (r : List ℕ) (depth turns : ℕ) (c : Seat) (at : ℕ) → c .inside + depth ≡ L .depth → c .after ≤ L .values → length t < turns + at → at ≤ length t → Like t q at (w ++ closing b ∷ r)
+    → Names t (c .beside)
     → Meets L t q c (join (c .beside) (treeOf d 0 0 at)) (treeOf d 0 0 at) (at + length w + 1) (itemsFrom t (itemAt L t depth b) (closing b) turns at (c .after) (c .beside))
 
 -- a turn
@@ -309,15 +312,15 @@ follow L t q (full {s} {w} b p d) = λ z o depth c ns ne at room few i h.
     rw e
     (container-follow L t q b T (at + length s + length w + 2) c ns ne at (omega arith) few i (like-here h)
     (λ depth r j m. inside-full L t q b depth c r m d z at T j p l
-    (λ x u k. rw u (follow L t q d z depth (suc (length t)) (under c) (at + 1 + length s) r (omega arith) (omega arith) (omega arith) (like-skip s l)))) depth room)
-follow L t q (element d) = λ s o depth c at room few i h. follow L t q d s o depth c 0 0 at room few i h
-follow L t q (member {m} {s} {r} {w} g p o d) = λ z b depth c at room few i h.
+    (λ x u k. rw u (follow L t q d z depth (suc (length t)) (under c) (at + 1 + length s) r (omega arith) (omega arith) (omega arith) (like-skip s l) Names.no-more))) depth room)
+follow L t q (element d) = λ s o depth c at room few i h names. follow L t q d s o depth c 0 0 at room few i h
+follow L t q (member {m} {s} {r} {w} g p o d) = λ z b depth c at room few i h names.
     let l = rw (glue-end 58 m s r w z) at h in
     let e : at + length (glued 58 m s r w) ≡ at + length m + length s + 1 + length r + length w = omega (arith, length-glued 58 m s r w) in
     rw (e, quote-first L t (valueAt L t depth) (c .beside) at (c .after))
-    (member-follow L t q depth c room at i m s r w z p o d l (λ ns ne at i l. follow L t q d z b depth c ns ne at room few i l)
+    (member-follow L t q depth c room at i m s r w z p o d l names (λ ns ne at i l. follow L t q d z b depth c ns ne at room few i l)
     (quotedAt t at) refl (string-exact t .told at i) (string-exact t .follow q at m (s ++ 58 ∷ (r ++ (w ++ z))) i g tt l))
-follow L t q (one {v} {s} {b} d p) = λ r depth turns c at room few e i h.
+follow L t q (one {v} {s} {b} d p) = λ r depth turns c at room few e i h names.
     let l = rw (append-assoc v s (closing b ∷ r)) at h in
     let x : at + length (v ++ s) + 1 ≡ at + length v + length s + 1 = omega (arith, length-append v s) in
     let T = treeOf d 0 0 at in
@@ -325,8 +328,8 @@ follow L t q (one {v} {s} {b} d p) = λ r depth turns c at room few e i h.
     (turn (Meets L t q c (join (c .beside) T) T (at + length v + length s + 1)) L t b depth turns at (c .after) (c .beside) e i
     (λ left u. last-follow L t q b c _ (λ f to j. items-later L t depth b left to (c .after + size f) (join (c .beside) f) j) r
     (item-within L t depth b (c .beside) at (c .after) i) p (like-skip v l)
-    (follow L t q d (s ++ closing b ∷ r) (space-behind (closing b ∷ r) p (close b)) depth c at room few i l)))
-follow L t q (comma {v} {s} {r = r} {w} {b} d p o f) = λ z depth turns c at room few e i h.
+    (follow L t q d (s ++ closing b ∷ r) (space-behind (closing b ∷ r) p (close b)) depth c at room few i l names)))
+follow L t q (comma {v} {s} {r = r} {w} {b} d p o f) = λ z depth turns c at room few e i h names.
     let l = rw (glue-end 44 v s r w (closing b ∷ z)) at h in
     let x : at + length (glued 44 v s r w) + 1 ≡ at + length v + length s + 1 + length r + length w + 1 = omega (arith, length-glued 44 v s r w) in
     let T = treeOf d 0 0 at in
@@ -336,5 +339,7 @@ follow L t q (comma {v} {s} {r = r} {w} {b} d p o f) = λ z depth turns c at roo
     (turn (Meets L t q c (join (c .beside) (join T S)) (join T S) (at + length v + length s + 1 + length r + length w + 1)) L t b depth turns at (c .after) (c .beside) e i
     (λ left u. comma-follow L t q b c _ (λ f to j. items-later L t depth b left to (c .after + size f) (join (c .beside) f) j) S (w ++ closing b ∷ z) (omega arith)
     (item-within L t depth b (c .beside) at (c .after) i) p o (first f (closing b ∷ z) .dark) (like-skip v l)
-    (follow L t q d (s ++ 44 ∷ (r ++ (w ++ closing b ∷ z))) (space-behind (44 ∷ (r ++ (w ++ closing b ∷ z))) p a-comma) depth c at room few i l)
-    (λ y a j m. rw a (follow L t q f z depth left (behind c T) (at + length v + length s + 1 + length r) room m (omega arith) (omega arith) lw))))
+    (follow L t q d (s ++ 44 ∷ (r ++ (w ++ closing b ∷ z))) (space-behind (44 ∷ (r ++ (w ++ closing b ∷ z))) p a-comma) depth c at room few i l names)
+    (λ y a j m read.
+    let both = names-join t names (item-names L t depth b c at i read) in
+    rw a (follow L t q f z depth left (behind c T) (at + length v + length s + 1 + length r) room m (omega arith) (omega arith) lw both))))

@@ -7,12 +7,10 @@ use mathlib.Core.Logic.{_↔_, ⊎-elim}
 use Prim.Native.Nat.{ℕ, _+_, _≤_, _<_}
 use native.Mathlib.Omega.{arith}
 use native.Mathlib.Nat.{le-refl}
-use lib.ListN.{length, take, drop, take-append-drop, length-append, List·getD-eq-default}
+use lib.ListN.{length, take, drop, take-append-drop, length-append}
 use lib.Seq.{length-take-le, take-take}
-use Rattle.laws.specs.Bounds.{AllBelow}
-use Rattle.laws.proofs.Branches.{if-less, if-equal}
+use Rattle.laws.proofs.Branches.{if-less}
 use Rattle.text.specs.Limits.{Limits}
-use Rattle.text.specs.Text.{byteAt}
 use Rattle.text.specs.Tokens.{skip}
 use Rattle.text.specs.Tree.{Forest}
 use Rattle.text.specs.declared.Paper.{Paper}

@@ -1,25 +1,22 @@
 -- What is wrong with a value, in the words of reading (proofs/Grammar/Wrong.antt) and by the rules (specs/Fault.antt, specs/Meaning.antt), is the same:
 --     end-quoted, quoted-end        a string that is read is one that spells
---     named-there, there-named      the test of a name is right
 --     wrong-breaks, breaks-wrong    a value has something wrong exactly if it breaks a rule
---     sane-string, sane-name, sane-new, sane     a value is read exactly if its string and its name spell and its name is new
+--     sane-string, sane-name, sane-new     a value that is read has a string and a name that spell, and a new name
 -- Assumes nothing.
-use mathlib.Core.Path.{_≡_, refl, sym, ap, subst, _∙_}
+use mathlib.Core.Path.{_≡_, sym, subst}
 use mathlib.Core.List.{List}
-use mathlib.Core.Bool.{Bool, true, false, cond}
+use mathlib.Core.Bool.{true}
 use Prim.Native.Nat.{ℕ, _+_, _-_, _≤_, _<_}
 use native.Mathlib.Omega.{arith}
 use lib.ListN.{length, drop, length-drop}
-use Rattle.laws.specs.Order.{same}
+use Rattle.laws.specs.Lists.{partOf}
 use Rattle.laws.proofs.Branches.{if-equal}
-use Rattle.laws.proofs.Orders.{same-eq, eq-same}
 use Rattle.laws.proofs.Places.{inside}
 use Rattle.text.specs.Limits.{Limits}
 use Rattle.text.specs.Text.{byteAt}
-use Rattle.text.specs.Strings.{stringEnd, nameOf}
+use Rattle.text.specs.Strings.{stringEnd}
+use Rattle.text.specs.Spelling.{Spells}
 use Rattle.text.specs.Broken.{Aims, Ill}
-use Rattle.text.specs.Tree.{Forest, none, leaf, node}
-use Rattle.text.specs.Reader.{named}
 use Rattle.text.specs.Placed.{Quoted}
 use Rattle.text.specs.Seats.{Head, Seat, Named}
 use Rattle.text.specs.Fault.{StringAt, ValueBreaks}
@@ -29,6 +26,7 @@ use Rattle.text.proofs.TokenBytes.{string-quoted}
 use Rattle.text.proofs.Spelling.Ends.{part-spells, spells-part, spells-ended, no3-ill, ill-no3}
 use Rattle.text.proofs.Grammar.Stands.{clash}
 use Rattle.text.proofs.Grammar.Quotes.{quotedAt, bad-later}
+use Rattle.text.proofs.Grammar.Names.{known-named}
 use Rattle.text.proofs.Grammar.Wrong.{Wrong, string, name, again, deep, many, Sane}
 
 -- ---- strings ----
@@ -76,36 +74,6 @@ some-bytes (Aims.escape d r) = omega arith
 ill-inside : (t : List ℕ) (p : ℕ) → Ill (drop p t) → p < length t
 ill-inside t p i = omega (arith, some-bytes (i .aims), length-drop p t)
 
--- ---- names ----
-
-or-later : (c : Bool) {d : Bool} → d ≡ true → cond c true d ≡ true
-or-later true e = refl
-or-later false e = e
-
-module _ (t wanted : List ℕ) where
-  pub named-there : (f : Forest) → named t wanted f ≡ true → Named t wanted f
-  unfolding named
-  named-there none e = clash false e refl
-  named-there (leaf kind ns ne from to rest) e = go (same (nameOf t ns ne) wanted) refl e (named-there rest)
-    where
-      go : (c : Bool) → same (nameOf t ns ne) wanted ≡ c → cond c true (named t wanted rest) ≡ true → (named t wanted rest ≡ true → Named t wanted rest)
-          → Named t wanted (leaf kind ns ne from to rest)
-      go true s z g = Named.leaf-here (same-eq (nameOf t ns ne) wanted s)
-      go false s z g = Named.leaf-on (g z)
-  named-there (node b ns ne from to inner rest) e = go (same (nameOf t ns ne) wanted) refl e (named-there rest)
-    where
-      go : (c : Bool) → same (nameOf t ns ne) wanted ≡ c → cond c true (named t wanted rest) ≡ true → (named t wanted rest ≡ true → Named t wanted rest)
-          → Named t wanted (node b ns ne from to inner rest)
-      go true s z g = Named.node-here (same-eq (nameOf t ns ne) wanted s)
-      go false s z g = Named.node-on (g z)
-
-  pub there-named : {f : Forest} → Named t wanted f → named t wanted f ≡ true
-  unfolding named
-  there-named (Named.leaf-here {ns} {ne} e) = rw (eq-same (nameOf t ns ne) wanted e)
-  there-named (Named.node-here {ns} {ne} e) = rw (eq-same (nameOf t ns ne) wanted e)
-  there-named (Named.leaf-on {ns} {ne} n) = or-later (same (nameOf t ns ne) wanted) (there-named n)
-  there-named (Named.node-on {ns} {ne} n) = or-later (same (nameOf t ns ne) wanted) (there-named n)
-
 -- ---- one value ----
 
 module _ (L : Limits) (t : List ℕ) where
@@ -119,7 +87,7 @@ module _ (L : Limits) (t : List ℕ) where
   pub wrong-breaks : {d : Seat} {h : Head} {m x : ℕ} → Wrong L t d h m x → ValueBreaks L t d h m x
   wrong-breaks (string k z) = three-breaks (StringAt.value k) z
   wrong-breaks (name j k z) = three-breaks (StringAt.name k) z
-  wrong-breaks {d} {x} (again {e} u k z n) = ValueBreaks.repeated u k (end-quoted t x z) (named-there t (nameOf t (x + 1) (e - 1)) (d .beside) n)
+  wrong-breaks {x} (again u k z n) = ValueBreaks.repeated u k (end-quoted t x z) (n .spells) (n .there)
   wrong-breaks (deep o k) = ValueBreaks.deep o k
   wrong-breaks (many k) = ValueBreaks.many k
 
@@ -131,9 +99,9 @@ module _ (L : Limits) (t : List ℕ) where
   breaks-wrong (ValueBreaks.character {j} {p} o b l s i) =
       let n = ill-inside t p i in
       opening-wrong o (quoted-open t j (No3 p) b (ill-no3 t (j + 1) p (record { spells = spells-part t (j + 1) p (omega arith) (omega arith) s; ill = i })))
-  breaks-wrong {d} (ValueBreaks.repeated {p} {e} u k g n) =
+  breaks-wrong {d} (ValueBreaks.repeated {p} {e} {codes} u k g s n) =
       let last : e + 1 - 1 ≡ e = omega arith in
-      again u k (quoted-end t p g) (rw last (there-named t (nameOf t (p + 1) e) n))
+      again u k (quoted-end t p g) (rw last (record { codes = codes; spells = s; there = n }))
   breaks-wrong (ValueBreaks.deep o k) = deep o k
   breaks-wrong (ValueBreaks.many k) = many k
 
@@ -156,20 +124,5 @@ module _ (L : Limits) (t : List ℕ) where
         let g : Quoted t (h .ns - 1 + 1) (h .ne + 1 - 1) = end-quoted t (h .ns - 1) (s .names .closed (h .ns - 1) e) in
         subst (λ (i : ℕ). Quoted t i (h .ne)) (sym e) (rw last at g)
 
-    pub sane-new : Sane L t d h → L .unique ≡ true → 0 < h .ns → Named t (nameOf t (h .ns) (h .ne)) (d .beside) → ⊥
-    sane-new s u k n = clash _ (there-named t (nameOf t (h .ns) (h .ne)) n) (s .names .new u (h .ns - 1) (omega arith))
-
-    pub sane : (h .kind ≡ 5 → Quoted t (h .from + 1) (h .to - 1)) → (0 < h .ns → Quoted t (h .ns) (h .ne))
-        → (L .unique ≡ true → 0 < h .ns → Named t (nameOf t (h .ns) (h .ne)) (d .beside) → ⊥) → Sane L t d h
-    sane strings names new =
-        record {
-          closed = λ k. let g = strings k in let e : h .to - 1 + 1 ≡ h .to = omega (arith, g .ordered) in quoted-end t (h .from) g ∙ ap End e;
-          names = record {
-            closed = λ j e. quoted-end t j (subst (λ (i : ℕ). Quoted t i (h .ne)) e (names (omega arith)));
-            new = λ u j e. go u (omega arith) (named t (nameOf t (h .ns) (h .ne)) (d .beside)) refl;
-          };
-        }
-      where
-        go : L .unique ≡ true → 0 < h .ns → (c : Bool) → named t (nameOf t (h .ns) (h .ne)) (d .beside) ≡ c → c ≡ false
-        go u k true e = absurd (new u k (named-there t (nameOf t (h .ns) (h .ne)) (d .beside) e))
-        go u k false e = refl
+    pub sane-new : Sane L t d h → L .unique ≡ true → 0 < h .ns → (codes : List ℕ) → Spells (partOf t (h .ns) (h .ne)) codes → Named t codes (d .beside) → ⊥
+    sane-new s u k codes p n = clash _ (known-named t (record { codes = codes; spells = p; there = n })) (s .names .new u (h .ns - 1) (omega arith))

@@ -1,5 +1,6 @@
 -- What an answer says (proofs/Grammar/Sound.antt), by induction on the definition: the containers that may be opened, then the turns.
 --     value-told, item-told           what is read of a value and of an item
+--     item-names                      the name of an item that is read spells
 -- Assumes nothing.
 use mathlib.Core.Path.{_≡_, refl, sym, ap, ap₂, subst, _∙_}
 use mathlib.Core.List.{List, [], _∷_, _++_, append-assoc}
@@ -9,17 +10,20 @@ use native.Mathlib.Omega.{arith}
 use native.Mathlib.Nat.{le-refl}
 use lib.ListN.{length}
 use lib.Dec.{eqb}
+use Rattle.laws.specs.Lists.{partOf}
 use Rattle.laws.proofs.Branches.{if-equal, if-most, if-true}
 use Rattle.laws.proofs.Places.{inside}
+use Rattle.laws.proofs.Parts.{part-none}
 use Rattle.text.specs.Limits.{Limits}
 use Rattle.text.specs.Text.{byteAt}
 use Rattle.text.specs.Strings.{stringEnd, nameOf}
+use Rattle.text.specs.Spelling.{Spells}
 use Rattle.text.specs.Tokens.{skip, kindBy}
 use Rattle.text.specs.Tree.{Bracket, square, curly, Forest, none}
 use Rattle.text.specs.Reader.{Read, good, bad, Reader, ItemReader, scalarWith, scalarAt, deep, valueWith, named, colonAt, memberWith, memberOf, valueAt}
 use Rattle.text.specs.Abnf.{Star}
-use Rattle.text.specs.Grammar.{Ws, JsonString, Simple, simpleKind, IsSimple, value, item, Is, simple, element, member, treeOf}
-use Rattle.text.specs.Seats.{Seat}
+use Rattle.text.specs.Grammar.{Ws, JsonString, Simple, simpleKind, IsSimple, value, item, Is, simple, empty, full, element, member, treeOf}
+use Rattle.text.specs.Seats.{Seat, Sits}
 use Rattle.text.specs.declared.Token.{Token}
 use Rattle.text.specs.declared.Token.the-variants.{End, No2, No3}
 use Rattle.text.specs.declared.Refusal.the-variants.{Grammar}
@@ -27,7 +31,9 @@ use Rattle.text.proofs.Grammar.Stands.{clash, Stands, Like, stands-join
 use Rattle.text.proofs.Grammar.Exact.{Standing, Begun, Said}
 use Rattle.text.proofs.Grammar.Quotes.{quotedAt, string-exact, string-long}
 use Rattle.text.proofs.Grammar.Words.{skip-told, simpleOf, simple-exact, Lead, no-value, a-simple, a-bracket, lead, lead-opens, token-simple, kind-text, kind-way}
-use Rattle.text.proofs.Grammar.Wrong.{Good-name, kept-leaf}
+use Rattle.text.proofs.Grammar.Names.{Names}
+use Rattle.text.proofs.Grammar.Wrong.{Good-name, Kept, kept-leaf}
+use Rattle.text.proofs.Grammar.Rules.{end-quoted}
 use Rattle.text.proofs.Grammar.Sound.{Told, stopped-map, glued, glue, null-value, Parsed, Viable, glued-stands, some-value, some-bracket, container-told}
 
 -- the items of a container at a place
@@ -247,3 +253,30 @@ module _ (L : Limits) (t : List ℕ) where
   pub item-told : (depth : ℕ) (b : Bracket) (c : Seat) (at : ℕ) → at ≤ length t
       → Told (Parsed L t (item b) depth c 0 0 at) (Viable L t (item b) at) (itemAt L t depth b (c .beside) at (c .after))
   item-told depth = item-from depth (value-told depth)
+
+  -- ---- the name of an item that is read ----
+
+  first-name : {w : List ℕ} {depth ns ne : ℕ} (c : Seat) (at : ℕ) (d : Is value w) → Kept L t depth c (treeOf d ns ne at) → Good-name L t (c .beside) ns ne
+  unfolding treeOf
+  first-name c at (simple k l) h = h .sane c _ Sits.leaf-here .names
+  first-name c at (empty b p) h = h .sane c _ Sits.node-here .names
+  first-name c at (full b p d) h = h .sane c _ Sits.node-here .names
+
+  value-names : {w codes : List ℕ} (d : Is value w) (ns ne at : ℕ) → Spells (partOf t ns ne) codes → Names t (treeOf d ns ne at)
+  unfolding treeOf
+  value-names (simple k l) ns ne at h = Names.a-leaf h Names.no-more
+  value-names (empty b p) ns ne at h = Names.a-node h Names.no-more
+  value-names (full b p d) ns ne at h = Names.a-node h Names.no-more
+
+  derived-names : {b : Bracket} {w : List ℕ} (depth : ℕ) (c : Seat) (at : ℕ) (d : Is (item b) w) → Kept L t depth c (treeOf d 0 0 at) → Names t (treeOf d 0 0 at)
+  unfolding treeOf
+  derived-names depth c at (element d) h = value-names {codes = []} d 0 0 at (rw (part-none t 0 (omega arith)) Spells.none)
+  derived-names depth c at (member {m} {s} {r} g p o d) h =
+      let last : at + length m - 1 + 1 - 1 ≡ at + length m - 1 = omega arith in
+      let begin = at + length m + length s + 1 + length r in
+      value-names d (at + 1) (at + length m - 1) begin (rw last at (end-quoted t at (first-name c begin d h .closed at refl) .spells))
+
+  pub item-names : (depth : ℕ) (b : Bracket) (c : Seat) (at : ℕ) {f : Forest} {to : ℕ} → at ≤ length t → itemAt L t depth b (c .beside) at (c .after) ≡ good f to → Names t f
+  item-names depth b c at {f} {to} i e =
+      let p : Parsed L t (item b) depth c 0 0 at f to = subst (Told (Parsed L t (item b) depth c 0 0 at) (Viable L t (item b) at)) e (item-told depth b c at i) in
+      subst (Names t) (sym (p .trees)) (derived-names depth c at (p .is) (subst (Kept L t depth c) (p .trees) (p .kept)))

@@ -1,9 +1,8 @@
--- What is wrong with a value of a tree, in the words of the reading definitions: a string or a name that is refused with 3, a name that its object has
--- already, a container too deep, a value too many; and which of two wrongs comes first (`rank`).
---     clean         values that are read have nothing wrong
---     kept-leaf, kept-node, kept-join, kept-none     how they are put together
+-- What is wrong with a value of a tree, in the words of the reading definitions: a string or a name that is refused with 3, a name that spells what one
+-- before it in its object spells, a container too deep, a value too many; and which of two wrongs comes first (`rank`).
+--     kept-leaf, kept-node, kept-join, kept-none     how values that are read are put together
 -- Assumes nothing.
-use mathlib.Core.Path.{_≡_, sym, _∙_}
+use mathlib.Core.Path.{_≡_}
 use mathlib.Core.List.{List}
 use mathlib.Core.Bool.{true, false}
 use Prim.Native.Nat.{ℕ, suc, _+_, _-_, _*_, _≤_, _<_}
@@ -15,9 +14,9 @@ use Rattle.text.specs.Reader.{named}
 use Rattle.text.specs.Grammar.{depthOf}
 use Rattle.text.specs.Seats.{Head, Seat, under, behind, Sits}
 use Rattle.text.specs.declared.Token.the-variants.{End, No3}
-use Rattle.text.proofs.Grammar.Stands.{clash}
 use Rattle.text.proofs.Grammar.Quotes.{quotedAt}
-use Rattle.text.proofs.Grammar.Trees.{size-join, depth-join, Either-of, first, later, in-join, in-deep, in-few, in-none}
+use Rattle.text.proofs.Grammar.Trees.{size-join, depth-join, Either-of, first, later, in-join, in-none}
+use Rattle.text.proofs.Grammar.Names.{Known}
 
 -- the smaller place first, then the smaller number; the numbers are 2 to 6
 abbrev pub rank : (number place : ℕ) → ℕ
@@ -32,7 +31,7 @@ module _ (L : Limits) (t : List ℕ) where
   pub data Wrong (d : Seat) (h : Head) : (number place : ℕ) → Type 0 where
     string : {x : ℕ} → h .kind ≡ 5 → quotedAt t (h .from) ≡ No3 x → Wrong d h 3 x
     name : (j : ℕ) {x : ℕ} → h .ns ≡ j + 1 → quotedAt t j ≡ No3 x → Wrong d h 3 x
-    again : {e x : ℕ} → L .unique ≡ true → h .ns ≡ x + 1 → quotedAt t x ≡ End e → named t (nameOf t (x + 1) (e - 1)) (d .beside) ≡ true → Wrong d h 4 x
+    again : {e x : ℕ} → L .unique ≡ true → h .ns ≡ x + 1 → quotedAt t x ≡ End e → Known t (x + 1) (e - 1) (d .beside) → Wrong d h 4 x
     deep : h .holds ≡ true → d .inside ≡ L .depth → Wrong d h 5 (h .from)
     many : d .after ≡ L .values → Wrong d h 6 (h .from)
 
@@ -46,32 +45,11 @@ module _ (L : Limits) (t : List ℕ) where
     pub closed : h .kind ≡ 5 → quotedAt t (h .from) ≡ End (h .to)
     pub names : Good-name (d .beside) (h .ns) (h .ne)
 
-  end-end : {p q : ℕ} (k : ℕ) → quotedAt t k ≡ End p → quotedAt t k ≡ End q → p ≡ q
-  end-end {p} {q} k e f = let z : End p ≡ End q = sym e ∙ f in cc
-
-  pub end-bad : {A : Type 0} {p x : ℕ} (k : ℕ) → quotedAt t k ≡ End p → quotedAt t k ≡ No3 x → A
-  end-bad {A} {p} {x} k e f = let z : End p ≡ No3 x = sym e ∙ f in let o : _≡_ {A = ℕ} 0 1 = cc in absurd (omega arith)
-
-  -- a name that is read is not there already
-  name-new : {A : Type 0} {before : Forest} {ns ne e : ℕ} (x : ℕ) → Good-name before ns ne → L .unique ≡ true → ns ≡ x + 1 → quotedAt t x ≡ End e
-      → named t (nameOf t (x + 1) (e - 1)) before ≡ true → A
-  name-new {A} {before} {ns} {ne} {e} x g u k c m =
-      let f : e ≡ ne + 1 = end-end x c (g .closed x k) in
-      let h : e - 1 ≡ ne = omega arith in
-      clash (named t (nameOf t ns ne) before) (rw (k, ← h) m) (g .new u x k)
-
   -- values that are read, where so many containers may be opened and the first stands at c
   pub record Kept (depth : ℕ) (c : Seat) (f : Forest) : Type 0 where
     pub shallow : depthOf f ≤ depth
     pub few : c .after + size f ≤ L .values
     pub sane : (d : Seat) (h : Head) → Sits c f d h → Sane d h
-
-  pub clean : {c d : Seat} {h : Head} {f : Forest} {m x : ℕ} (depth : ℕ) → c .inside + depth ≡ L .depth → Kept depth c f → Sits c f d h → Wrong d h m x → ⊥
-  clean {d} {h} depth e k i (string p b) = end-bad (h .from) (k .sane d h i .closed p) b
-  clean {d} {h} depth e k i (name j p b) = end-bad j (k .sane d h i .names .closed j p) b
-  clean {d} {h} {x} depth e k i (again u p c m) = name-new x (k .sane d h i .names) u p c m
-  clean depth e k i (deep o p) = omega (arith, in-deep i o, k .shallow)
-  clean depth e k i (many p) = omega (arith, in-few i, k .few)
 
   pub kept-join : {depth : ℕ} {c : Seat} (f g : Forest) → Kept depth c f → Kept depth (behind c f) g → Kept depth c (join f g)
   kept-join {depth} {c} f g k l =

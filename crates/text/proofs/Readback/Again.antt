@@ -1,14 +1,14 @@
 -- What is written of a document is read back: `reads-back`, for every writable document that is within the limits of bytes and values.
 -- Assumes nothing.
 use mathlib.Core.Path.{_≡_, refl, ap, _∙_}
-use mathlib.Core.List.{List}
+use mathlib.Core.List.{List, []}
 use Prim.Native.Nat.{ℕ, suc, _≤_}
 use native.Mathlib.Omega.{arith}
 use lib.ListN.{length}
 use Rattle.text.specs.Limits.{Limits}
 use Rattle.text.specs.Tree.{Bracket, square, curly, Forest, leaf, node, size}
 use Rattle.text.specs.Tree as T
-use Rattle.text.specs.Grammar.{JsonText, rootOf, depthOf}
+use Rattle.text.specs.Grammar.{rootOf, depthOf}
 use Rattle.text.specs.Doc.{Doc, Members, boxed, membersOf, countOf, countAll}
 use Rattle.text.specs.Writing.{written}
 use Rattle.text.specs.Writable.{Writable, depthIn, depthAll, ReadsBack}
@@ -32,14 +32,15 @@ depth-members t T.none = refl
 depth-members t (leaf kind ns ne from to rest) = omega (arith, depth-members t rest)
 depth-members t (node b ns ne from to inside rest) = omega (arith, box-depth b (membersOf t inside), depth-members t inside, depth-members t rest)
 
-module _ {t : List ℕ} (j : JsonText t) where
-  text-count : size (rootOf j) ≡ countOf (textDoc j)
+-- a tree of one value
+module _ (t : List ℕ) (f : Forest) {d : Doc} (is : membersOf t f ≡ Members.member [] [] d Members.empty) where
+  pub root-count : size f ≡ countOf d
   unfolding countAll
-  text-count = omega (arith, count-members t (rootOf j), ap countAll (text-members j))
+  root-count = omega (arith, count-members t f, ap countAll is)
 
-  text-depth : depthOf (rootOf j) ≡ depthIn (textDoc j)
+  pub root-depth : depthOf f ≡ depthIn d
   unfolding depthAll
-  text-depth = omega (arith, depth-members t (rootOf j), ap depthAll (text-members j))
+  root-depth = omega (arith, depth-members t f, ap depthAll is)
 
 -- ---- the theorem ----
 
@@ -47,8 +48,8 @@ pub reads-back : (L : Limits) (d : Doc) → Writable d → length (written d) �
 reads-back L d h short few =
     let (j, again) = written-text d (h .labels) in
     let h′ : Writable (textDoc j) = rw again h in
-    let count : size (rootOf j) ≡ countOf d = text-count j ∙ ap countOf again in
-    let depth : depthOf (rootOf j) ≡ depthIn d = text-depth j ∙ ap depthIn again in
+    let count : size (rootOf j) ≡ countOf d = root-count (written d) (rootOf j) (text-members j) ∙ ap countOf again in
+    let depth : depthOf (rootOf j) ≡ depthIn d = root-depth (written d) (rootOf j) (text-members j) ∙ ap depthIn again in
     record {
       derives = j;
       says = text-doc j ∙ again;

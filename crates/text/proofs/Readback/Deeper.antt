@@ -4,7 +4,6 @@ use mathlib.Core.List.{List}
 use mathlib.Core.Logic.{_⊎_, inl, inr, ⊎-elim}
 use Prim.Native.Nat.{ℕ, _≤_, _<_}
 use native.Mathlib.Omega.{arith}
-use native.Mathlib.Nat.{zero-add}
 use borrow.Author.Tests.{le-ltb}
 use lib.ListN.{length}
 use Rattle.text.specs.Limits.{Limits}
@@ -16,10 +15,10 @@ use Rattle.text.specs.Seats.{Head, Seat}
 use Rattle.text.specs.Meaning.{Accepts}
 use Rattle.text.specs.declared.Refusal.{Refusal}
 use Rattle.text.specs.declared.Refusal.the-variants.{Deep}
-use Rattle.text.proofs.Grammar.Wrong.{Wrong, string, name, again, deep, many, clean}
+use Rattle.text.proofs.Grammar.Wrong.{Wrong, string, name, again, deep, many}
 use Rattle.text.proofs.Grammar.Meets.{Numbered, third, fourth, fifth, sixth}
 use Rattle.text.proofs.Grammar.Wholes.{root}
-use Rattle.text.proofs.Grammar.Accepted.{accepts, accepts-kept, Answered, ended, stopped, answered, ended-so}
+use Rattle.text.proofs.Grammar.Accepted.{accepts, accepts-clean, Answered, ended, stopped, answered, ended-so}
 
 -- the same limits, but for the depth
 abbrev pub toDepth : Limits → ℕ → Limits
@@ -53,6 +52,5 @@ module _ (L : Limits) (depth : ℕ) (t : List ℕ) where
           let x : Accepts L t f = accepts L t f .0 (by-root (a .short) R e ∙ ended-so L t f end o) in
           absurd (omega (arith, x .shallow))
       go R e (stopped {r = r} j w n) =
-          let k = accepts-kept (toDepth L depth) t a in
-          let (p, q) = five-deep n (⊎-elim (λ v. v) (λ v. absurd (clean (toDepth L depth) t depth (zero-add depth) k j v)) (wrong-deep w)) in
+          let (p, q) = five-deep n (⊎-elim (λ v. v) (λ v. absurd (accepts-clean (toDepth L depth) t a j v)) (wrong-deep w)) in
           (p, by-root (a .short) R e ∙ ap bad q)

@@ -1,9 +1,9 @@
 -- The document of a text that is read is writable, and no longer than the text when it is written: `text-writable`, `text-shorter`.
 -- Assumes nothing.
 use mathlib.Core.Path.{_≡_, refl, ap, _∙_}
-use mathlib.Core.List.{List, [], _∷_, _++_}
+use mathlib.Core.List.{List, []}
 use mathlib.Core.Bool.{true}
-use Prim.Native.Nat.{ℕ, _+_, _-_, _≤_}
+use Prim.Native.Nat.{ℕ, _≤_}
 use native.Mathlib.Omega.{arith}
 use lib.ListN.{length}
 use lib.Dec.{eqb}
@@ -25,7 +25,7 @@ use Rattle.text.specs.Labels.{Labelled, Every}
 use Rattle.text.specs.Writable.{Lexeme, Writable}
 use Rattle.text.specs.Seats.{top}
 use Rattle.text.proofs.Induction.{read-accepted}
-use Rattle.text.proofs.Labels.{LabelIn, EveryIn, quoted-part, labels-said, every-box, every-none, every-more, every-parts}
+use Rattle.text.proofs.Labels.{LabelIn, EveryIn, string-part, labels-said, every-box, every-none, every-more, every-parts}
 use Rattle.text.proofs.Promise.{promised}
 use Rattle.text.proofs.Grammar.Stands.{stands-to, stands-inside}
 use Rattle.text.proofs.Grammar.Prefixes.{stands-drop}
@@ -97,12 +97,7 @@ placed-token t (null e) = λ k. rw e Lexeme.null
 placed-token t (falsity e) = λ k. rw e Lexeme.falsity
 placed-token t (truth e) = λ k. rw e Lexeme.truth
 placed-token t (number n) = λ k. absurd (k refl)
-placed-token t (string {from} {to} q) =
-    let o = q .ordered in
-    let s : from + 1 - 1 ≡ from = omega arith in
-    let e : to - 1 + 1 ≡ to = omega arith in
-    let part : partOf t from to ≡ 34 ∷ partOf t (from + 1) (to - 1) ++ (34 ∷ []) = rw (s, e) at (quoted-part t (from + 1) (to - 1) q) in
-    λ k. rw part (Lexeme.string (q .spells))
+placed-token t (string {from} {to} q) = λ k. rw (string-part t from to q) (Lexeme.string (q .spells))
 
 number-token : (w : List ℕ) (k : Simple) → IsSimple k w → Number-token (simpleKind k) w
 number-token w nothing l = λ e. absurd (omega arith)

@@ -10,9 +10,10 @@ use native.Mathlib.Omega.{arith}
 use lib.ListN.{length}
 use Rattle.laws.specs.Lists.{partOf}
 use Rattle.laws.specs.Order.{same}
-use Rattle.laws.proofs.Orders.{same-refl}
+use Rattle.laws.proofs.Orders.{eq-same}
 use Rattle.text.specs.Limits.{Limits}
 use Rattle.text.specs.Strings.{nameOf}
+use Rattle.text.specs.Spelling.{Spells, utf8s}
 use Rattle.text.specs.Reader.{named}
 use Rattle.text.specs.Tree.{Bracket, square, curly, Forest, leaf, node, join, size}
 use Rattle.text.specs.Tree as T
@@ -26,10 +27,11 @@ use Rattle.text.specs.Writable.{Lexeme, Writable}
 use Rattle.text.specs.Meaning.{Accepts}
 use Rattle.text.proofs.Labels.{EveryIn, LabelIn, every-inside, every-parts}
 use Rattle.text.proofs.Documents.{DistinctIn, label-part, seek-name, seek-later}
+use Rattle.text.proofs.Spelling.Decoded.{decode-spelled}
 use Rattle.text.proofs.Grammar.Stands.{clash}
 use Rattle.text.proofs.Grammar.Trees.{join-none, join-assoc}
 use Rattle.text.proofs.Grammar.Wrong.{no-string}
-use Rattle.text.proofs.Grammar.Rules.{there-named}
+use Rattle.text.proofs.Grammar.Names.{there-named}
 use Rattle.text.proofs.Readback.Runs.{part-quoted}
 use Rattle.text.proofs.Readback.Says.{textDoc, text-members}
 
@@ -65,7 +67,7 @@ tree-nameless (comma {v} {s} {r} {b = b} d p o e) ne at =
     λ ns g h. subst (NamelessIn b) (sym (join-assoc (treeOf d 0 0 at) (treeOf e 0 0 to) g)) (tree-nameless d 0 at 0 (join (treeOf e 0 0 to) g) (tree-nameless e 0 to 0 g h))
 
 -- the root has none
-root-nameless : {t : List ℕ} (d : JsonText t) → NamelessIn square (rootOf d)
+pub root-nameless : {t : List ℕ} (d : JsonText t) → NamelessIn square (rootOf d)
 unfolding rootOf
 root-nameless (json-text {s} p d o) = subst (NamelessIn square) (join-none (treeOf d 0 0 (length s))) (tree-nameless d 0 (length s) square 0 T.none refl tt)
 
@@ -110,11 +112,11 @@ module _ (t : List ℕ) where
 
   -- ---- names are new ----
 
-  named-none : {A : Type 0} {name : List ℕ} → Named t name T.none → A
+  named-none : {A : Type 0} {codes : List ℕ} → Named t codes T.none → A
   unfolding named
-  named-none {A} {name} h = clash false (there-named t name h) refl
+  named-none h = clash false (there-named t h) refl
 
-  named-join : {name : List ℕ} (f g : Forest) → Named t name (join f g) → Named t name f ⊎ Named t name g
+  named-join : {codes : List ℕ} (f g : Forest) → Named t codes (join f g) → Named t codes f ⊎ Named t codes g
   unfolding join
   named-join T.none g h = inr h
   named-join (leaf kind ns ne from to rest) g (Named.leaf-here e) = inl (Named.leaf-here e)
@@ -122,29 +124,30 @@ module _ (t : List ℕ) where
   named-join (node b ns ne from to inside rest) g (Named.node-here e) = inl (Named.node-here e)
   named-join (node b ns ne from to inside rest) g (Named.node-on h) = ⊎-elim (λ x. inl (Named.node-on x)) (λ x. inr x) (named-join rest g h)
 
-  leaf-named : {name : List ℕ} {kind ns ne from to : ℕ} → Named t name (leaf kind ns ne from to T.none) → nameOf t ns ne ≡ name
-  leaf-named (Named.leaf-here e) = e
+  leaf-named : {codes : List ℕ} {kind ns ne from to : ℕ} → Named t codes (leaf kind ns ne from to T.none) → nameOf t ns ne ≡ utf8s codes
+  leaf-named (Named.leaf-here s) = decode-spelled s
   leaf-named (Named.leaf-on h) = named-none h
 
-  node-named : {name : List ℕ} {b : Bracket} {ns ne from to : ℕ} {inside : Forest} → Named t name (node b ns ne from to inside T.none) → nameOf t ns ne ≡ name
-  node-named (Named.node-here e) = e
+  node-named : {codes : List ℕ} {b : Bracket} {ns ne from to : ℕ} {inside : Forest} → Named t codes (node b ns ne from to inside T.none) → nameOf t ns ne ≡ utf8s codes
+  node-named (Named.node-here s) = decode-spelled s
   node-named (Named.node-on h) = named-none h
 
   -- in an object: no member has the name of one of these values
   abbrev Fresh : Bracket → (before : Forest) → Members → Type 0
   Fresh square before ms = Prim.Unit {0}
-  Fresh curly before ms = (name : Name) → Named t name before → seek name ms ≡ none
+  Fresh curly before ms = (codes : List ℕ) → Named t codes before → seek (utf8s codes) ms ≡ none
 
   module _ (n : Name) (label : List ℕ) (d : Doc) (ms : Members) where
-    fresh-not : (b : Bracket) (before : Forest) → Fresh b before (Members.member n label d ms) → (ns : ℕ) → Nameless b ns → 0 < ns → Named t n before → ⊥
-    fresh-not square before f ns z k h = omega arith
-    fresh-not curly before f ns z k h = clash (same n n) (same-refl n) (seek-name t n n label d ms (f n h))
+    fresh-not : (b : Bracket) (before : Forest) → Fresh b before (Members.member n label d ms) → (ns : ℕ) → Nameless b ns → 0 < ns
+        → (codes : List ℕ) → n ≡ utf8s codes → Named t codes before → ⊥
+    fresh-not square before f ns z k codes e h = omega arith
+    fresh-not curly before f ns z k codes e h = clash (same n (utf8s codes)) (eq-same n (utf8s codes) e) (seek-name t (utf8s codes) n label d ms (f codes h))
 
-    fresh-on : (b : Bracket) (before this : Forest) → ((name : Name) → Named t name this → n ≡ name) → DistinctIn b (Members.member n label d ms)
+    fresh-on : (b : Bracket) (before this : Forest) → ((codes : List ℕ) → Named t codes this → n ≡ utf8s codes) → DistinctIn b (Members.member n label d ms)
         → Fresh b before (Members.member n label d ms) → Fresh b (join before this) ms
     fresh-on square before this o e f = tt
     fresh-on curly before this o e f =
-        λ name h. ⊎-elim (λ x. seek-later t name n label d ms (f name x)) (λ x. rw (← o name x) (e .0)) (named-join before this h)
+        λ codes h. ⊎-elim (λ x. seek-later t (utf8s codes) n label d ms (f codes x)) (λ x. rw (← o codes x) (e .0)) (named-join before this h)
 
     distinct-first : (b : Bracket) → DistinctIn b (Members.member n label d ms) → Distinct d
     distinct-first square e = e .0
@@ -160,23 +163,23 @@ module _ (t : List ℕ) where
 
   none-fresh : (b : Bracket) (ms : Members) → Fresh b T.none ms
   none-fresh square ms = tt
-  none-fresh curly ms = λ name h. named-none h
+  none-fresh curly ms = λ codes h. named-none h
 
-  new-in : {c d : Seat} {h : Head} {f : Forest} (b : Bracket) → NamelessIn b f → DistinctIn b (membersOf t f) → Fresh b (c .beside) (membersOf t f)
-      → Sits c f d h → 0 < h .ns → Named t (nameOf t (h .ns) (h .ne)) (d .beside) → ⊥
+  pub new-in : {c d : Seat} {h : Head} {f : Forest} (b : Bracket) → NamelessIn b f → DistinctIn b (membersOf t f) → Fresh b (c .beside) (membersOf t f)
+      → Sits c f d h → 0 < h .ns → (codes : List ℕ) → Spells (partOf t (h .ns) (h .ne)) codes → Named t codes (d .beside) → ⊥
   unfolding membersOf
-  new-in {c} b n e f (Sits.leaf-here {ns = ns} {ne = ne} {rest = rest}) k m =
-      fresh-not (nameOf t ns ne) (labelAt t ns ne) _ (membersOf t rest) b (c .beside) f ns (n .0) k m
-  new-in {c} b n e f (Sits.node-here {ns = ns} {ne = ne} {rest = rest}) k m =
-      fresh-not (nameOf t ns ne) (labelAt t ns ne) _ (membersOf t rest) b (c .beside) f ns (n .0) k m
-  new-in b n e f (Sits.into {b = c} {ns = ns} {ne = ne} {inner = inner} {rest = rest} i) k m =
-      new-in c (n .1) (box-distinct c (membersOf t inner) (distinct-first (nameOf t ns ne) (labelAt t ns ne) _ (membersOf t rest) b e)) (none-fresh c (membersOf t inner)) i k m
-  new-in {c} b n e f (Sits.leaf-on {kind = kind} {ns = ns} {ne = ne} {from = from} {to = to} {rest = rest} i) k m =
+  new-in {c} b n e f (Sits.leaf-here {ns = ns} {ne = ne} {rest = rest}) k codes s m =
+      fresh-not (nameOf t ns ne) (labelAt t ns ne) _ (membersOf t rest) b (c .beside) f ns (n .0) k codes (decode-spelled s) m
+  new-in {c} b n e f (Sits.node-here {ns = ns} {ne = ne} {rest = rest}) k codes s m =
+      fresh-not (nameOf t ns ne) (labelAt t ns ne) _ (membersOf t rest) b (c .beside) f ns (n .0) k codes (decode-spelled s) m
+  new-in b n e f (Sits.into {b = c} {ns = ns} {ne = ne} {inner = inner} {rest = rest} i) k codes s m =
+      new-in c (n .1) (box-distinct c (membersOf t inner) (distinct-first (nameOf t ns ne) (labelAt t ns ne) _ (membersOf t rest) b e)) (none-fresh c (membersOf t inner)) i k codes s m
+  new-in {c} b n e f (Sits.leaf-on {kind = kind} {ns = ns} {ne = ne} {from = from} {to = to} {rest = rest} i) k codes s m =
       new-in b (n .1) (distinct-rest (nameOf t ns ne) (labelAt t ns ne) _ (membersOf t rest) b e)
-      (fresh-on (nameOf t ns ne) (labelAt t ns ne) _ (membersOf t rest) b (c .beside) (leaf kind ns ne from to T.none) (λ name x. leaf-named x) e f) i k m
-  new-in {c} b n e f (Sits.node-on {b = o} {ns = ns} {ne = ne} {from = from} {to = to} {inner = inner} {rest = rest} i) k m =
+      (fresh-on (nameOf t ns ne) (labelAt t ns ne) _ (membersOf t rest) b (c .beside) (leaf kind ns ne from to T.none) (λ codes x. leaf-named x) e f) i k codes s m
+  new-in {c} b n e f (Sits.node-on {b = o} {ns = ns} {ne = ne} {from = from} {to = to} {inner = inner} {rest = rest} i) k codes s m =
       new-in b (n .2) (distinct-rest (nameOf t ns ne) (labelAt t ns ne) _ (membersOf t rest) b e)
-      (fresh-on (nameOf t ns ne) (labelAt t ns ne) _ (membersOf t rest) b (c .beside) (node o ns ne from to inner T.none) (λ name x. node-named x) e f) i k m
+      (fresh-on (nameOf t ns ne) (labelAt t ns ne) _ (membersOf t rest) b (c .beside) (node o ns ne from to inner T.none) (λ codes x. node-named x) e f) i k codes s m
 
   -- ---- the theorem ----
 

@@ -96,7 +96,7 @@ module _ (t : List ℕ) where
       ∙ says-unnamed d (membersOf t (join (treeOf e 0 0 to) g))
       ∙ ap (says d [] []) (said e 0 0 to g (at-behind 44 v s r w to a refl) ∙ says-unnamed e (membersOf t g))
 
-doc-members : (t : List ℕ) (f : Forest) → docOf t f ≡ firstDoc (membersOf t f)
+pub doc-members : (t : List ℕ) (f : Forest) → docOf t f ≡ firstDoc (membersOf t f)
 unfolding docOf membersOf
 doc-members t none = refl
 doc-members t (leaf kind ns ne from to rest) = refl
