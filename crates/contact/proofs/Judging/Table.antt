@@ -1,7 +1,8 @@
 -- The kinds of types, and the one table:
 --     fits-test     the test of a kind decides `Suits`
 --     typed         the type that the table gives to a name is that of the one line with the name, or `any` where there is none
---     line-of       .. and so each line of a type's table has its own name
+--     one-line      each line of a type's table has its own name
+--     line-of       .. and so the type of a line is the one that the table gives to its name
 --     table-test    the test of a kind against a name's type
 -- Assumes nothing.
 use Prim.Native.Nat.{ℕ}
@@ -120,12 +121,12 @@ not-among n (j ∷ js) e k i s =
     let h = told (both (unless (bytes-same (j .spelling) n)) (itself (unlike n js))) e in
     ⊎-elim (λ (q : k ≡ j). h .0 (ap (λ (x : Known). x .spelling) (sym q) ∙ s)) (λ i′. not-among n js (h .1) k i′ s) (cases i)
 
-one-line : (ks : List Known) → apart ks ≡ true → (k j : Known) → In k ks → In j ks → k .spelling ≡ j .spelling → k ≡ j
+one-among : (ks : List Known) → apart ks ≡ true → (k j : Known) → In k ks → In j ks → k .spelling ≡ j .spelling → k ≡ j
 unfolding apart
-one-line [] e k j i i′ s = absurd (not-nil i)
-one-line (l ∷ ls) e k j i i′ s =
+one-among [] e k j i i′ s = absurd (not-nil i)
+one-among (l ∷ ls) e k j i i′ s =
     let ok = told (both (itself (unlike (l .spelling) ls)) (itself (apart ls))) e in
-    go (ok .0) (one-line ls (ok .1) k j) (cases i) (cases i′)
+    go (ok .0) (one-among ls (ok .1) k j) (cases i) (cases i′)
   where
     go : unlike (l .spelling) ls ≡ true → (In k ls → In j ls → k .spelling ≡ j .spelling → k ≡ j) → (k ≡ l) ⊎ In k ls → (j ≡ l) ⊎ In j ls → k ≡ j
     go un further (inl p) (inl q) = p ∙ sym q
@@ -133,8 +134,11 @@ one-line (l ∷ ls) e k j i i′ s =
     go un further (inr p) (inl q) = absurd (not-among (l .spelling) ls un k p (s ∙ ap (λ (x : Known). x .spelling) q))
     go un further (inr p) (inr q) = further p q s
 
+pub one-line : (o : ObjectType) (k j : Known) → In k (properties o) → In j (properties o) → k .spelling ≡ j .spelling → k ≡ j
+one-line o = one-among (properties o) (names-apart o)
+
 pub line-of : (o : ObjectType) {n : Name} {ty : Ty} → Typed (properties o) n ty → (k : Known) → In k (properties o) → k .spelling ≡ n → ty ≡ k .type
-line-of o (line j i e) k i′ e′ = ap (λ (x : Known). x .type) (one-line (properties o) (names-apart o) j k i i′ (e ∙ sym e′))
+line-of o (line j i e) k i′ e′ = ap (λ (x : Known). x .type) (one-line o j k i i′ (e ∙ sym e′))
 line-of o (no-line f) k i e = absurd (f k i e)
 
 -- a name's kind by the table: that of its line, if it has one
