@@ -1,11 +1,13 @@
 -- `Judging` (specs/Judging.antt) holds: the theorems of judging put together.
 --     SimpleValues, Times      the tests of single values
+--     Signatures               the table of types is what the signatures say
 --     Table, BetweenMembers    kinds and types by the table; the rules between members
 --     Rows, Breaches    the number of one row; the first breach of a card
 -- Assumes nothing.
 pub mod SimpleValues
 pub mod Times
 pub mod Table
+pub mod Signatures
 pub mod BetweenMembers
 pub mod Rows
 pub mod Breaches
@@ -39,6 +41,7 @@ use Rattle.contact.specs.declared.Verdict.{Verdict}
 use Rattle.contact.specs.declared.Verdict.the-variants.{Passed, Failed}
 use Rattle.contact.proofs.Judging.SimpleValues.{id-test, count-test}
 use Rattle.contact.proofs.Judging.Times.{leap-test, day-test, time-test}
+use Rattle.contact.proofs.Judging.Signatures.{as-signed}
 use Rattle.contact.proofs.Judging.BetweenMembers.{between-test}
 use Rattle.contact.proofs.Judging.Breaches.{broken-row, Least, unbroken, at-first, first-breach}
 
@@ -180,6 +183,7 @@ one-answer a b e = sym (answer-back a) ∙ ap verdictOn e ∙ answer-back b
 
 pub judging : Judging
 judging = record {
+  types = as-signed;
   ids = λ n. iff (id-test n);
   counts = λ low high token. iff (count-test low high token);
   leap-years = λ y. iff (leap-test y);

@@ -24,6 +24,9 @@ pub data Suits : Ty → (kind : ℕ) → Type 0 where
   typed : {o : ObjectType} → Suits (objectOf o) 7
   map : {keys : Keys} {ty : Ty} → Suits (mapOf keys ty) 7
 
--- a kind that the table asks of the property of that name in an object of that type; of an unknown one any kind
-abbrev pub Tabled : ObjectType → Name → (kind : ℕ) → Type 0
-Tabled o n kind = (k : Known) → In k (properties o) → k .spelling ≡ n → Suits (k .type) kind
+-- a kind that the table asks of the property of that name in an object of that type: the name has a line, and the kind suits the line's type
+pub record Tabled (o : ObjectType) (n : Name) (kind : ℕ) : Type 0 where
+  pub line : Known
+  pub listed : In line (properties o)
+  pub named : line .spelling ≡ n
+  pub suits : Suits (line .type) kind

@@ -8,7 +8,7 @@ use Rattle.laws.specs.Each.{Each, Some, Neighbours}
 use Rattle.text.specs.Text.{bytes}
 use Rattle.text.specs.Strings.{contentOf}
 use Rattle.text.specs.Doc.{Name, Doc, scalar, object, Members, empty, member, kindOf, below}
-use Rattle.contact.specs.Schema.{ObjectType, card, name, address}
+use Rattle.contact.specs.Schema.{ObjectType, card, name, nameComponent, address, addressComponent}
 use Rattle.contact.specs.AskedKinds.{Tabled}
 
 -- ---- members
@@ -18,7 +18,7 @@ pub data HasMember : Members → Name → Doc → Type 0 where
   here : {n : Name} {label : List ℕ} {d : Doc} {ms : Members} → HasMember (member n label d ms) n d
   later : {m n : Name} {label : List ℕ} {d e : Doc} {ms : Members} → ¬ (m ≡ n) → HasMember ms n d → HasMember (member m label e ms) n d
 
--- a member that counts: its kind is the one that the table asks, for a member of the wrong kind counts as absent
+-- a member that counts: the table has it, and its kind is the one that the table asks, for a member of the wrong kind counts as absent
 pub record Counts (o : ObjectType) (ms : Members) (n : String) (d : Doc) : Type 0 where
   pub has : HasMember ms (bytes n) d
   pub suits : Tabled o (bytes n) (kindOf d)
@@ -37,9 +37,9 @@ Unordered o ms = (d : Doc) → Counts o ms "isOrdered" d → ¬ (kindOf d ≡ 3)
 
 -- ---- separators
 
--- an entry whose `kind` is the String "separator"; an entry without a String `kind` isn't one
-pub data Separator : Doc → Type 0 where
-  separator : {ms : Members} {kind : Doc} → HasMember ms (bytes "kind") kind → IsString "separator" kind → Separator (object ms)
+-- an entry of that type whose `kind` is the String "separator"; an entry without a String `kind` isn't one
+pub data Separator (o : ObjectType) : Doc → Type 0 where
+  separator : {ms : Members} {kind : Doc} → Counts o ms "kind" kind → IsString "separator" kind → Separator o (object ms)
 
 -- the entries of a list
 unfoldable pub elements : Members → List Doc
@@ -52,26 +52,26 @@ elements (member n label d ms) = d ∷ elements ms
 pub data BreaksCard (ms : Members) : Type 0 where
   no-group : {d : Doc} → Counts card ms "members" d → ((k : Doc) → Counts card ms "kind" k → ¬ IsString "group" k) → BreaksCard ms
 
--- Name and Address
-pub data BreaksSeparators (o : ObjectType) (ms : Members) : Type 0 where
+-- Name and Address, and the type of their entries
+pub data BreaksSeparators (o entry : ObjectType) (ms : Members) : Type 0 where
   -- two separator entries stand in a row
-  in-a-row : {list : Doc} → Counts o ms "components" list → Neighbours Separator (elements (below list)) → BreaksSeparators o ms
+  in-a-row : {list : Doc} → Counts o ms "components" list → Neighbours (Separator entry) (elements (below list)) → BreaksSeparators o entry ms
   -- a separator entry, without true `isOrdered`
-  unordered : {list : Doc} → Counts o ms "components" list → Some Separator (elements (below list)) → Unordered o ms → BreaksSeparators o ms
+  unordered : {list : Doc} → Counts o ms "components" list → Some (Separator entry) (elements (below list)) → Unordered o ms → BreaksSeparators o entry ms
   -- `defaultSeparator` without true `isOrdered`, or without `components`
-  default-unordered : {d : Doc} → Counts o ms "defaultSeparator" d → Unordered o ms → BreaksSeparators o ms
-  default-alone : {d : Doc} → Counts o ms "defaultSeparator" d → Absent o ms "components" → BreaksSeparators o ms
+  default-unordered : {d : Doc} → Counts o ms "defaultSeparator" d → Unordered o ms → BreaksSeparators o entry ms
+  default-alone : {d : Doc} → Counts o ms "defaultSeparator" d → Absent o ms "components" → BreaksSeparators o entry ms
 
 -- Name
 pub data BreaksName (ms : Members) : Type 0 where
   -- neither `full` nor `components` is there
   nameless : Absent name ms "full" → Absent name ms "components" → BreaksName ms
   -- a list is there, and has no entry that isn't a separator
-  only-separators : {list : Doc} → Counts name ms "components" list → Each Separator (elements (below list)) → BreaksName ms
-  separators : BreaksSeparators name ms → BreaksName ms
+  only-separators : {list : Doc} → Counts name ms "components" list → Each (Separator nameComponent) (elements (below list)) → BreaksName ms
+  separators : BreaksSeparators name nameComponent ms → BreaksName ms
 
 -- by the type; an Address may have neither `full` nor `components`, and the entry that isn't a separator isn't asked of it (house ruling)
 pub data BreaksBetween : ObjectType → Members → Type 0 where
   of-card : {ms : Members} → BreaksCard ms → BreaksBetween card ms
   of-name : {ms : Members} → BreaksName ms → BreaksBetween name ms
-  of-address : {ms : Members} → BreaksSeparators address ms → BreaksBetween address ms
+  of-address : {ms : Members} → BreaksSeparators address addressComponent ms → BreaksBetween address ms

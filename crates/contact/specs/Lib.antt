@@ -1,5 +1,6 @@
 -- What a card must keep: the table of types, and each rule in words. In comments 01 is the rules paper.
 pub mod Schema
+pub mod Signatures
 pub mod AskedKinds
 pub mod SimpleValues
 pub mod BetweenMembers

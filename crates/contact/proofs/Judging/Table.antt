@@ -1,12 +1,13 @@
 -- The kinds of types, and the one table:
 --     fits-test     the test of a kind decides `Suits`
 --     typed         the type that the table gives to a name is that of the one line with the name, or `any` where there is none
---     line-of       .. and so each line of a type's table has its own name
---     table-test    the test of a kind against a name's type
+--     one-line      each line of a type's table has its own name
+--     line-of       .. and so the type of a line is the one that the table gives to its name
+--     table-test    the test of a kind against the type of a name that the table has
 -- Assumes nothing.
 use Prim.Native.Nat.{ℕ}
 use mathlib.Core.Path.{_≡_, refl, sym, ap, subst, _∙_}
-use mathlib.Core.Bool.{Bool, true, cond, not, _&&_}
+use mathlib.Core.Bool.{Bool, true, false, cond, not, _&&_, true≢false}
 use mathlib.Core.List.{List, [], _∷_, List·Memᴰ as In, List·Memᴰ·head as head, List·Memᴰ·tail as tail, List·Memᴰ·not-nil as not-nil, List·Memᴰ·cases-cons as cases}
 use mathlib.Core.Logic.{_⊎_, inl, inr, ⊎-elim}
 use Rattle.laws.specs.Order.{orderOf, same}
@@ -120,12 +121,12 @@ not-among n (j ∷ js) e k i s =
     let h = told (both (unless (bytes-same (j .spelling) n)) (itself (unlike n js))) e in
     ⊎-elim (λ (q : k ≡ j). h .0 (ap (λ (x : Known). x .spelling) (sym q) ∙ s)) (λ i′. not-among n js (h .1) k i′ s) (cases i)
 
-one-line : (ks : List Known) → apart ks ≡ true → (k j : Known) → In k ks → In j ks → k .spelling ≡ j .spelling → k ≡ j
+one-among : (ks : List Known) → apart ks ≡ true → (k j : Known) → In k ks → In j ks → k .spelling ≡ j .spelling → k ≡ j
 unfolding apart
-one-line [] e k j i i′ s = absurd (not-nil i)
-one-line (l ∷ ls) e k j i i′ s =
+one-among [] e k j i i′ s = absurd (not-nil i)
+one-among (l ∷ ls) e k j i i′ s =
     let ok = told (both (itself (unlike (l .spelling) ls)) (itself (apart ls))) e in
-    go (ok .0) (one-line ls (ok .1) k j) (cases i) (cases i′)
+    go (ok .0) (one-among ls (ok .1) k j) (cases i) (cases i′)
   where
     go : unlike (l .spelling) ls ≡ true → (In k ls → In j ls → k .spelling ≡ j .spelling → k ≡ j) → (k ≡ l) ⊎ In k ls → (j ≡ l) ⊎ In j ls → k ≡ j
     go un further (inl p) (inl q) = p ∙ sym q
@@ -133,14 +134,33 @@ one-line (l ∷ ls) e k j i i′ s =
     go un further (inr p) (inl q) = absurd (not-among (l .spelling) ls un k p (s ∙ ap (λ (x : Known). x .spelling) q))
     go un further (inr p) (inr q) = further p q s
 
+pub one-line : (o : ObjectType) (k j : Known) → In k (properties o) → In j (properties o) → k .spelling ≡ j .spelling → k ≡ j
+one-line o = one-among (properties o) (names-apart o)
+
 pub line-of : (o : ObjectType) {n : Name} {ty : Ty} → Typed (properties o) n ty → (k : Known) → In k (properties o) → k .spelling ≡ n → ty ≡ k .type
-line-of o (line j i e) k i′ e′ = ap (λ (x : Known). x .type) (one-line (properties o) (names-apart o) j k i i′ (e ∙ sym e′))
+line-of o (line j i e) k i′ e′ = ap (λ (x : Known). x .type) (one-line o j k i i′ (e ∙ sym e′))
 line-of o (no-line f) k i e = absurd (f k i e)
 
--- a name's kind by the table: that of its line, if it has one
-pub table-test : (o : ObjectType) (n : Name) (kind : ℕ) → Decides (Tabled o n kind) (fits (typeIn (properties o) n) kind)
-table-test o n kind = go (type-in (properties o) n)
+-- a type of which something is asked: that of a name without a line isn't one
+abbrev pub asked-of : Ty → Bool
+asked-of any = false
+asked-of (simple l) = true
+asked-of (objectOf o) = true
+asked-of (listOf ty) = true
+asked-of (mapOf keys ty) = true
+
+-- the table has a line for the name
+abbrev pub InTable : ObjectType → Name → Type 0
+InTable o n = asked-of (typeIn (properties o) n) ≡ true
+
+-- the kind of a name that the table has
+pub table-test : (o : ObjectType) (n : Name) → InTable o n → (kind : ℕ) → Decides (Tabled o n kind) (fits (typeIn (properties o) n) kind)
+table-test o n known kind = go known (type-in (properties o) n)
   where
-    go : {ty : Ty} → Typed (properties o) n ty → Decides (Tabled o n kind) (fits ty kind)
-    go (line k i e) = swap (λ s j i′ e′. subst (λ (ty : Ty). Suits ty kind) (line-of o (line k i e) j i′ e′) s) (λ f. f k i e) (fits-test (k .type) kind)
-    go (no-line f) = holds (λ k i e. absurd (f k i e))
+    go : {ty : Ty} → asked-of ty ≡ true → Typed (properties o) n ty → Decides (Tabled o n kind) (fits ty kind)
+    go g (line k i e) =
+        swap
+        (λ s. record { line = k; listed = i; named = e; suits = s })
+        (λ t. subst (λ (ty : Ty). Suits ty kind) (sym (line-of o (line k i e) (t .line) (t .listed) (t .named))) (t .suits))
+        (fits-test (k .type) kind)
+    go g (no-line f) = absurd (true≢false (sym g))

@@ -1,0 +1,200 @@
+-- The known properties of each object type a second time: as signatures in the notation of RFC 9553 (1.3.2 and 1.3.3), written out type by type as its
+-- sections 1.5 and 2 give them, and a reader of that notation. `AsSigned` says that the table (Schema.antt) is what the signatures say;
+-- proofs/Judging/Signatures.antt proves it.
+-- Assumes nothing: these are definitions.
+use Prim.Native.Nat.{ℕ}
+use Prim.Native.String.{String}
+use mathlib.Core.Path.{_≡_}
+use mathlib.Core.List.{List, [], _∷_, map, List·Memᴰ as In}
+use mathlib.Core.Bool.{Bool, true, false, cond}
+use mathlib.Core.Option.{Option, none, some, bind, Option·map, Option·elim}
+use lib.ListN.{length, take, drop}
+use Rattle.laws.specs.Order.{same}
+use Rattle.text.specs.Text.{bytes}
+use Rattle.contact.specs.Schema.{ObjectType, card, name, nameComponent, address, addressComponent, emailAddress, phone, anyString, exactly, flag, yes, count, time, Keys, free, ids, Ty, any, simple, objectOf, listOf, mapOf, Known, properties, typeIn}
+use Rattle.contact.specs.Values.{valueFrom}
+
+-- ---- the signatures
+
+-- Name: type (attribute). After the attribute may stand the one content of a String, or the bounds of an UnsignedInt, which the RFC gives in prose.
+unfoldable pub signatures : ObjectType → List String
+signatures card =
+    "@type: String (mandatory; \"Card\")"
+    ∷ "version: String (mandatory; \"1.0\")"
+    ∷ "uid: String (mandatory)"
+    ∷ "created: UTCDateTime (optional)"
+    ∷ "updated: UTCDateTime (optional)"
+    ∷ "kind: String (optional)"
+    ∷ "language: String (optional)"
+    ∷ "prodId: String (optional)"
+    ∷ "members: String[Boolean] (optional)"
+    ∷ "name: Name (optional)"
+    ∷ "emails: Id[EmailAddress] (optional)"
+    ∷ "phones: Id[Phone] (optional)"
+    ∷ "addresses: Id[Address] (optional)"
+    ∷ "localizations: String[PatchObject] (optional)"
+    ∷ []
+signatures name =
+    "@type: String (optional; \"Name\")"
+    ∷ "components: NameComponent[] (optional)"
+    ∷ "sortAs: String[String] (optional)"
+    ∷ "isOrdered: Boolean (optional)"
+    ∷ "defaultSeparator: String (optional)"
+    ∷ "full: String (optional)"
+    ∷ "phoneticScript: String (optional)"
+    ∷ "phoneticSystem: String (optional)"
+    ∷ []
+signatures nameComponent =
+    "@type: String (optional; \"NameComponent\")"
+    ∷ "value: String (mandatory)"
+    ∷ "kind: String (mandatory)"
+    ∷ "phonetic: String (optional)"
+    ∷ []
+signatures address =
+    "@type: String (optional; \"Address\")"
+    ∷ "components: AddressComponent[] (optional)"
+    ∷ "countryCode: String (optional)"
+    ∷ "coordinates: String (optional)"
+    ∷ "timeZone: String (optional)"
+    ∷ "contexts: String[Boolean] (optional)"
+    ∷ "pref: UnsignedInt (optional; 1 to 100)"
+    ∷ "isOrdered: Boolean (optional)"
+    ∷ "defaultSeparator: String (optional)"
+    ∷ "full: String (optional)"
+    ∷ "phoneticScript: String (optional)"
+    ∷ "phoneticSystem: String (optional)"
+    ∷ []
+signatures addressComponent =
+    "@type: String (optional; \"AddressComponent\")"
+    ∷ "value: String (mandatory)"
+    ∷ "kind: String (mandatory)"
+    ∷ "phonetic: String (optional)"
+    ∷ []
+signatures emailAddress =
+    "@type: String (optional; \"EmailAddress\")"
+    ∷ "address: String (mandatory)"
+    ∷ "contexts: String[Boolean] (optional)"
+    ∷ "pref: UnsignedInt (optional; 1 to 100)"
+    ∷ "label: String (optional)"
+    ∷ []
+signatures phone =
+    "@type: String (optional; \"Phone\")"
+    ∷ "number: String (mandatory)"
+    ∷ "features: String[Boolean] (optional)"
+    ∷ "contexts: String[Boolean] (optional)"
+    ∷ "pref: UnsignedInt (optional; 1 to 100)"
+    ∷ "label: String (optional)"
+    ∷ []
+
+-- ---- words
+
+-- what each object type is called
+unfoldable pub typeName : ObjectType → String
+typeName card = "Card"
+typeName name = "Name"
+typeName nameComponent = "NameComponent"
+typeName address = "Address"
+typeName addressComponent = "AddressComponent"
+typeName emailAddress = "EmailAddress"
+typeName phone = "Phone"
+
+-- a word, and what it stands for
+pub record Word (A : Type 0) : Type 0 where
+  pub spelling : String
+  pub means : A
+
+-- a word of that spelling
+abbrev pub stands : {A : Type 0} → String → A → Word A
+stands s a = record { spelling = s; means = a }
+
+-- the types of values by themselves; a PatchObject is a String[*]
+unfoldable pub typeWords : List (Word Ty)
+typeWords =
+    stands "String" (simple anyString)
+    ∷ stands "Boolean" (simple flag)
+    ∷ stands "UnsignedInt" (simple (count 0 9007199254740991))
+    ∷ stands "UTCDateTime" (simple time)
+    ∷ stands "PatchObject" (mapOf free any)
+    ∷ map (λ o. stands (typeName o) (objectOf o)) (card ∷ name ∷ nameComponent ∷ address ∷ addressComponent ∷ emailAddress ∷ phone ∷ [])
+
+-- those of the values of an object: a Boolean there is true, as the RFC says of each String[Boolean] above
+abbrev pub valueWords : List (Word Ty)
+valueWords = stands "Boolean" (simple yes) ∷ typeWords
+
+-- the types of keys
+abbrev pub keyWords : List (Word Keys)
+keyWords = stands "String" free ∷ stands "Id" ids ∷ []
+
+-- must the property be there?
+abbrev pub attributes : List (Word Bool)
+attributes = stands "mandatory" true ∷ stands "optional" false ∷ []
+
+-- what a text stands for, if it is a word of the list
+unfoldable pub meaning : {A : Type 0} → List (Word A) → List ℕ → Option A
+meaning [] t = none
+meaning (w ∷ ws) t = let more = meaning ws t in cond (same (bytes (w .spelling)) t) (some (w .means)) more
+
+-- ---- the reader
+
+-- what stands before a mark, and what after it
+pub record Halves : Type 0 where
+  pub before : List ℕ
+  pub after : List ℕ
+
+-- a text in two, at the first place where the mark stands
+unfoldable pub cut : (mark : String) → List ℕ → Option Halves
+cut mark [] = none
+cut mark (b ∷ bs) =
+    let n = length (bytes mark) in
+    let here : Option Halves = some (record { before = []; after = drop n (b ∷ bs) }) in
+    let later : Option Halves = Option·map (λ (h : Halves). record { before = b ∷ h .before; after = h .after }) (cut mark bs) in
+    cond (same (take n (b ∷ bs)) (bytes mark)) here later
+
+-- a text up to the first such mark, which ends it
+unfoldable pub upTo : (mark : String) → List ℕ → Option (List ℕ)
+upTo mark t = bind (cut mark t) (λ h. cond (same (h .after) []) (some (h .before)) none)
+
+-- A[] or A[B], cut at the first bracket
+unfoldable pub bracketed : Halves → Option Ty
+bracketed h =
+    bind (upTo "]" (h .after)) (λ inside.
+    cond (same inside [])
+    (Option·map listOf (meaning typeWords (h .before)))
+    (bind (meaning keyWords (h .before)) (λ keys. Option·map (mapOf keys) (meaning valueWords inside))))
+
+-- a type without a note
+unfoldable pub typeOf : List ℕ → Option Ty
+typeOf t = Option·elim (cut "[" t) (meaning typeWords t) bracketed
+
+-- a type with a note: the content of a String, or the bounds of an UnsignedInt
+unfoldable pub noted : (type note : List ℕ) → Option Ty
+noted type note =
+    cond (same type (bytes "String"))
+    (bind (cut "\"" note) (λ h. Option·map (λ content. simple (exactly content)) (upTo "\"" (h .after))))
+    (cond (same type (bytes "UnsignedInt"))
+    (Option·map (λ h. simple (count (valueFrom 0 (h .before)) (valueFrom 0 (h .after)))) (cut " to " note))
+    none)
+
+-- a property of that name, of that type if it is one, with that attribute
+unfoldable pub line : (spelling : List ℕ) → Option Ty → (attribute : List ℕ) → Option Known
+line n type attribute = bind type (λ ty. Option·map (λ must. record { spelling = n; type = ty; mandatory = must }) (meaning attributes attribute))
+
+-- the line of the table that a signature stands for
+unfoldable pub parsed : String → Option Known
+parsed s =
+    bind (cut ": " (bytes s)) (λ n.
+    bind (cut " (" (n .after)) (λ t.
+    bind (upTo ")" (t .after)) (λ inside.
+    let plain = line (n .before) (typeOf (t .before)) inside in
+    Option·elim (cut "; " inside) plain (λ a. line (n .before) (noted (t .before) (a .after)) (a .before)))))
+
+-- ---- the statement
+
+-- the table is what the signatures say
+pub record AsSigned : Type 0 where
+  -- line by line, for each object type
+  pub lines : (o : ObjectType) → map parsed (signatures o) ≡ map some (properties o)
+  -- `@type` is the type's own name
+  pub own-name : (o : ObjectType) → typeIn (properties o) (bytes "@type") ≡ simple (exactly (bytes (typeName o)))
+  -- a name has one line
+  pub one-line : (o : ObjectType) (k j : Known) → In k (properties o) → In j (properties o) → k .spelling ≡ j .spelling → k ≡ j
