@@ -19,6 +19,7 @@ use Rattle.laws.specs.Lists.{filled}
 use Rattle.text.specs.Limits.{Limits, rowWords, base}
 use Rattle.text.specs.Tree.{Forest, size, rowsOf}
 use Rattle.text.specs.Reader.{Read, good, bad}
+use Rattle.text.specs.Grammar.{rootOf}
 use Rattle.text.specs.declared.Paper.{Paper}
 use Rattle.text.specs.Whole.{wholeOf, sheetOf, tableOf}
 use Rattle.text.specs.Doc.{Name, docOf}
@@ -33,8 +34,8 @@ use Rattle.contact.proofs.Patching.Together.{patching}
 use Rattle.contact.proofs.Patching.Contract.{one-outcome, one-order, output-fits}
 use Rattle.contact.proofs.Patching.Readback.{readback}
 use Rattle.contact.proofs.Demands.Sheet.{OnLine, on-line, text-line, card-line, local-line}
-use Rattle.contact.proofs.Demands.Reading.{card-passed, read-passes, read-rows, read-describes, read-long, read-fault, read-short, judge-unread, judge-passes, judge-rows, judge-offends, judge-offender}
-use Rattle.contact.proofs.Demands.AnyOrder.{order-card, order-number}
+use Rattle.contact.proofs.Demands.Reading.{read-documents, card-passed, read-passes, read-rows, read-describes, read-long, read-fault, read-short, judge-unread, judge-passes, judge-rows, judge-offends, judge-offender}
+use Rattle.contact.proofs.Demands.AnyOrder.{reordered-only, order-card, order-number}
 use Rattle.contact.proofs.Demands.Localizing.{of-doc, card-written, localize-own, localize-patched, localize-accepted, localize-would, localize-refused, localize-room, localize-inner}
 
 -- ---- demand 1
@@ -98,6 +99,7 @@ module _ (L : Limits) (unique : L .unique ≡ true) (six : L .words ≡ rowWords
     reading-and-judging = record {
       accepts = λ t words. read-passes L words t;
       rows = λ t words. read-rows L words t;
+      documents = λ t words. read-documents L words t;
       describe = λ t words. read-describes L words t;
       too-long = λ t words. read-long L words t;
       first-fault = λ t within words. read-fault L words t within;
@@ -110,12 +112,16 @@ module _ (L : Limits) (unique : L .unique ≡ true) (six : L .words ≡ rowWords
     };
     localizing = record {
       own = λ t lang words room. localize-own L unique words room t lang;
-      order-judged = λ t u lang words f g r s o. order-number L words t u lang f g r s o;
-      any-order = λ t u lang words room f g c r o.
-          let d = order-card L words t u lang f g c r o in
-          let e = patching L words room .order-of-texts t u lang f g (card-passed L words t f c) (card-passed L words u g d) o in rw e;
-      any-order-allowed = λ t u lang words room f g c r o a b x y n m.
-          let d = order-card L words t u lang f g c r o in one-order t u f g (card-passed L words t f c) (card-passed L words u g d) o;
+      order-judged = λ t u lang words f r o. order-number L words t u lang f r o;
+      any-order = λ t u lang words room f c o.
+          let g = rootOf (o .derives) in
+          let d = order-card L words t u lang f c o in
+          let only = reordered-only L words t u lang f (c .readable) o in
+          let e = patching L words room .order-of-texts t u lang f g (card-passed L words t f c) (card-passed L words u g d) only in rw e;
+      any-order-allowed = λ t u lang words room f c o a b x y n m.
+          let g = rootOf (o .derives) in
+          let d = order-card L words t u lang f c o in
+          one-order t u f g (card-passed L words t f c) (card-passed L words u g d) (reordered-only L words t u lang f (c .readable) o);
       patched = λ t lang words room f c. localize-patched L unique words room t lang f (card-passed L words t f c);
       accepted = λ t lang words room f c. localize-accepted L unique words room t lang f (card-passed L words t f c);
       would-be = λ t lang words room f c. localize-would L unique words room t lang f (card-passed L words t f c);

@@ -20,6 +20,8 @@ use Rattle.text.specs.Whole.{wholeOf, sheetOf, tableOf}
 use Rattle.text.specs.Text.{bytes}
 use Rattle.text.specs.Doc.{Name, Doc, Members, docOf}
 use Rattle.text.specs.Distinct.{Distinct}
+use Rattle.text.specs.Grammar.{JsonText, rootOf}
+use Rattle.text.specs.Telling.{Tells}
 use Rattle.text.specs.Meaning.{Accepts}
 use Rattle.text.specs.Fault.{FirstFault}
 use Rattle.text.specs.Promised.{Filled}
@@ -84,10 +86,12 @@ pub record Readable (L : Limits) (words : ℕ) (t : List ℕ) (f : Forest) : Typ
   pub accepts : Accepts L t f
   pub enough : L .words * size f ≤ words
 
--- the same, and what it says keeps the listed rules
+-- the same, and the document that it says keeps the listed rules
 pub record CardText (L : Limits) (words : ℕ) (t : List ℕ) (f : Forest) : Type 0 where
   pub readable : Readable L words t f
-  pub keeps : Keeps (docOf t f)
+  pub document : Doc
+  pub says : Tells t f document
+  pub keeps : Keeps document
 
 -- t would be accepted, but it has n values, and a table of so many words has fewer whole rows
 pub record RowsShort (L : Limits) (words : ℕ) (t : List ℕ) (n : ℕ) : Type 0 where
@@ -111,6 +115,8 @@ pub record ReadingAndJudging (L : Limits) (serve : Call → Left) : Type 0 where
   -- it leaves the rows of that text's tree, one for each value
   pub rows : (t : List ℕ) (words : ℕ) (f : Forest) → Readable L words t f
       → serve (read t words) ≡ leaves (numbers 0 (size f) 0) (filled words (rowsOf f)) []
+  -- the document of a text that is read is what it says, white space or not: names and strings by what they spell, the rest as written, in its order
+  pub documents : (t : List ℕ) (words : ℕ) (f : Forest) → Readable L words t f → (d : Doc) → Tells t f d ↔ (d ≡ docOf t f)
   -- and these describe the text: the tree stands in the table and lies in the text
   pub describe : (t : List ℕ) (words : ℕ) (f : Forest) → Readable L words t f → Filled L t (serve (read t words) .table) (size f) f
   -- any other text is refused: by 1 if it is too long
@@ -166,21 +172,29 @@ pub record WouldBe (L : Limits) (words : ℕ) (t : List ℕ) (f : Forest) (ms : 
   -- and its text says it: it is read back so, or refused for its depth alone
   pub writes : WrittenCard L words t f (patchedDoc (docOf t f) ms)
 
+-- u is a JSON text of as many bytes as a text may have, white space as it likes, and says the document d but for the order of the language's entries
+pub record Reordering (L : Limits) (lang : Name) (d : Doc) (u : List ℕ) : Type 0 where
+  pub derives : JsonText u
+  pub document : Doc
+  pub says : Tells u (rootOf derives) document
+  pub order : OrderOnly lang d document
+  pub short : length u ≤ L .bytes
+
 -- demand 3, of localizing a text
 pub record Localizing (L : Limits) (serve : Call → Left) : Type 0 where
   -- the card's own refusal comes first
   pub own : (t : List ℕ) (lang : Name) (words room : ℕ) → ¬ Passes serve (judge t words)
       → serve (localize t lang words room) .answer ≡ serve (judge t words) .answer
-  -- The entries of the PatchObject in any order, white space aside. Of two texts that are read and differ so, both pass or both are refused by one
-  -- number;
-  pub order-judged : (t u : List ℕ) (lang : Name) (words : ℕ) (f g : Forest) → Readable L words t f → Readable L words u g
-      → OrderOnly lang (docOf t f) (docOf u g) → serve (judge t words) .answer .number ≡ serve (judge u words) .answer .number
-  -- and where one passes, both have the same answer, table and output, refusals too
-  pub any-order : (t u : List ℕ) (lang : Name) (words room : ℕ) (f g : Forest) → CardText L words t f → Readable L words u g
-      → OrderOnly lang (docOf t f) (docOf u g) → serve (localize t lang words room) ≡ serve (localize u lang words room)
+  -- The entries of the PatchObject in any order, white space aside: of a text that is read and one that differs from it so, both pass or both are
+  -- refused by one number;
+  pub order-judged : (t u : List ℕ) (lang : Name) (words : ℕ) (f : Forest) → Readable L words t f → Reordering L lang (docOf t f) u
+      → serve (judge t words) .answer .number ≡ serve (judge u words) .answer .number
+  -- and where the one passes, both have the same answer, table and output, refusals too
+  pub any-order : (t u : List ℕ) (lang : Name) (words room : ℕ) (f : Forest) → CardText L words t f → Reordering L lang (docOf t f) u
+      → serve (localize t lang words room) ≡ serve (localize u lang words room)
   -- the same of what the contract allows: also the answer itself, with 28's inner place
-  pub any-order-allowed : (t u : List ℕ) (lang : Name) (words room : ℕ) (f g : Forest) → CardText L words t f → Readable L words u g
-      → OrderOnly lang (docOf t f) (docOf u g) → (a b : Localized) (x y o q : List ℕ)
+  pub any-order-allowed : (t u : List ℕ) (lang : Name) (words room : ℕ) (f : Forest) → CardText L words t f → Reordering L lang (docOf t f) u
+      → (a b : Localized) (x y o q : List ℕ)
       → Localizes L words room t lang a x o → Localizes L words room u lang b y q → (a ≡ b) × (x ≡ y) × (o ≡ q)
   -- all patches or none: what is accepted is patched by all entries, as the set-or-remove definition says, and is judged as a whole
   pub patched : (t : List ℕ) (lang : Name) (words room : ℕ) (f : Forest) → CardText L words t f → Passes serve (localize t lang words room)

@@ -17,10 +17,10 @@ use Rattle.laws.proofs.Splits.{part-there, there-part, length-part}
 use Rattle.text.specs.Limits.{Limits}
 use Rattle.text.specs.Strings.{decode, nameOf, contentOf}
 use Rattle.text.specs.Spelling.{utf8s}
-use Rattle.text.specs.Tree.{Bracket, square, curly, Forest, node}
+use Rattle.text.specs.Tree.{Bracket, square, curly, Forest, node, size}
 use Rattle.text.specs.Reader.{good}
 use Rattle.text.specs.Whole.{readOf}
-use Rattle.text.specs.Grammar.{JsonText, rootOf}
+use Rattle.text.specs.Grammar.{JsonText, rootOf, depthOf}
 use Rattle.text.specs.Seats.{Head, Seat, Sits}
 use Rattle.text.specs.Placed.{Quoted, NameIn, TokenIn, Placed}
 use Rattle.text.specs.Meaning.{DistinctNames, Accepts}
@@ -162,6 +162,13 @@ one-telling t f d e h k = told-doc t f d h ∙ sym (told-doc t f e k)
 pub tells-iff : (L : Limits) (t : List ℕ) (f : Forest) (to : ℕ) → readOf L t ≡ good f to → (d : Doc) → Tells t f d ↔ (d ≡ docOf t f)
 tells-iff L t f to e d = (told-doc t f d, λ h. rw h (tells-doc L t f to e))
 
+-- the document has as many values as the tree, and is as deep
+pub told-size : {t : List ℕ} {f : Forest} {d : Doc} → Tells t f d → size f ≡ countOf d
+told-size {t} {f} (tells h) = root-count t f (sym (told-members t h))
+
+pub told-depth : {t : List ℕ} {f : Forest} {d : Doc} → Tells t f d → depthOf f ≡ depthIn d
+told-depth {t} {f} (tells h) = root-depth t f (sym (told-members t h))
+
 -- ---- a text that says a document within the limits is accepted ----
 
 module _ (t : List ℕ) where
@@ -206,6 +213,6 @@ told-accepted L t j d (tells h) u short shallow few =
       names = λ c s i. told-spelt t h i .name;
       distinct = λ e. told-distinct t j d h (u e);
       short = short;
-      shallow = omega (arith, root-depth t (rootOf j) (sym (told-members t h)));
-      few = omega (arith, root-count t (rootOf j) (sym (told-members t h)));
+      shallow = omega (arith, told-depth (tells h));
+      few = omega (arith, told-size (tells h));
     }

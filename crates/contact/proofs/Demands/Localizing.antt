@@ -36,6 +36,7 @@ use Rattle.contact.proofs.Patching.Distinct.{distinct-start, find-disti
 use Rattle.contact.proofs.Patching.Fine.{Fine, fine}
 use Rattle.contact.proofs.Patching.Together.{start-left, patched-so, patching}
 use Rattle.contact.proofs.Patching.Readback.{readback}
+use Rattle.contact.proofs.Demands.Reading.{card-text}
 use Rattle.contact.proofs.Demands.Sheet.{line-of, local-line, local-some, Late, early, late-short, late-inner, late, same-number, same-second}
 
 module _ (L : Limits) (unique : L .unique ≡ true) (words room : ℕ) (t : List ℕ) (lang : Name) where
@@ -60,7 +61,7 @@ module _ (L : Limits) (unique : L .unique ≡ true) (words room : ℕ) (t : List
     card-written text g e back =
         let a = patching L words room .accepted (docOf t f) lang text g .0 (of-doc (done text g) e) in
         let (to, whole, keeps) = judging .accepted L words text g .0 (a .reads) in
-        record { readable = record { accepts = accepts L text g .0 back; enough = whole-good L words text g to whole .room }; keeps = keeps }
+        card-text L words text g (record { accepts = accepts L text g .0 back; enough = whole-good L words text g to whole .room }) keeps
 
     -- names are distinct in a card that is read, and so in its PatchObject
     distinct-card : Distinct (docOf t f)

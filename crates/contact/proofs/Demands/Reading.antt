@@ -18,6 +18,8 @@ use Rattle.text.specs.Seats.{top}
 use Rattle.text.specs.declared.Paper.{Paper}
 use Rattle.text.specs.Sheet.{numbers, refused}
 use Rattle.text.specs.Whole.{readOf, fitOf, wholeOf, sheetOf, tableOf}
+use Rattle.text.specs.Doc.{Doc, docOf}
+use Rattle.text.specs.Telling.{Tells}
 use Rattle.text.specs.Meaning.{Accepts}
 use Rattle.text.specs.Promised.{Filled}
 use Rattle.text.specs.Fault.{FaultAt, grammar, violated, FirstFault}
@@ -31,7 +33,9 @@ use Rattle.text.proofs.Grammar.Rules.{wrong-number, breaks-wrong}
 use Rattle.text.proofs.Grammar.Wholes.{root-told, read-inside}
 use Rattle.text.proofs.Grammar.Accepted.{accepts, accepts-whole}
 use Rattle.text.proofs.Grammar.Refused.{refuses, too-long}
+use Rattle.text.proofs.Telling.{tells-iff}
 use Rattle.contact.specs.Verdict.{refusedCard, Judged, passed, failed, judgedRead, judgedOf, sheetOfJudged, tableOfJudged, paperOfVerdict}
+use Rattle.contact.specs.Breaches.{Keeps}
 use Rattle.contact.specs.Judging.{Says, unread, passes, breaks-first}
 use Rattle.contact.specs.Services.{read, judge, leaves, served}
 use Rattle.contact.specs.Demands.{Passes, Within, Readable, CardText, RowsShort, Offends}
@@ -159,8 +163,21 @@ module _ (L : Limits) (words : ℕ) (t : List ℕ) where
       go (bad r) e = rw e
       go (good f to) e = absurd (not (rw e))
 
+  -- what a text that is read says is its document
+  pub read-documents : (f : Forest) → Readable L words t f → (d : Doc) → Tells t f d ↔ (d ≡ docOf t f)
+  read-documents f r = tells-iff L t f (length t) (accepts L t f .1 (r .accepts))
+
+  pub document-told : (f : Forest) → Readable L words t f → Tells t f (docOf t f)
+  document-told f r = read-documents f r (docOf t f) .1 refl
+
+  pub card-text : (f : Forest) → Readable L words t f → Keeps (docOf t f) → CardText L words t f
+  card-text f r k = record { readable = r; document = docOf t f; says = document-told f r; keeps = k }
+
+  pub card-keeps : (f : Forest) → CardText L words t f → Keeps (docOf t f)
+  card-keeps f c = subst Keeps (read-documents f (c .readable) (c .document) .0 (c .says)) (c .keeps)
+
   pub card-passed : (f : Forest) → CardText L words t f → judgedOf L words t ≡ passed f
-  card-passed f c = judging .accepted L words t f .1 (length t, readable-good f (c .readable), c .keeps)
+  card-passed f c = judging .accepted L words t f .1 (length t, readable-good f (c .readable), card-keeps f c)
 
   pub judge-passes : Passes (served L) (judge t words) ↔ ((f : Forest) × CardText L words t f)
   unfolding served sheetOfJudged paperOfVerdict
@@ -170,7 +187,7 @@ module _ (L : Limits) (words : ℕ) (t : List ℕ) where
       go (failed r) k e = absurd (omega (arith, card-some (refusedCard r .number) (line-of (card-line r))))
       go (passed f) k e =
           let (to, whole, keeps) = judging .accepted L words t f .0 k in
-          (f, record { readable = good-readable f to whole; keeps = keeps })
+          (f, card-text f (good-readable f to whole) keeps)
 
   pub judge-rows : (f : Forest) → CardText L words t f → served L (judge t words) ≡ served L (read t words)
   unfolding served sheetOf tableOf sheetOfJudged paperOfVerdict tableOfJudged
