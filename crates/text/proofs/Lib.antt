@@ -14,6 +14,7 @@ pub mod Outcomes
 pub mod Promise
 pub mod Stores
 pub mod Grammar
+pub mod Rows
 pub mod NewNames
 pub mod Labels
 pub mod Readback

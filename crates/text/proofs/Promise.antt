@@ -162,6 +162,11 @@ whole-good L words t f to e = go (readOf L t) refl e
     go (bad r) h q = let z : _≡_ {A = ℕ} 0 1 = cc in absurd (omega arith)
     go (good g end) h q = fit g end h (ltb words (L .words * size g)) refl q
 
+-- what reading refuses is refused so whatever the table's room: 7 comes after all others
+pub whole-bad : (L : Limits) (words : ℕ) (t : List ℕ) (r : Refusal) → readOf L t ≡ bad r → wholeOf L words t ≡ bad r
+unfolding wholeOf fitOf
+whole-bad L words t r e = rw e
+
 -- an answer and a table that meet reading's contract
 module _ (L : Limits) (words : ℕ) (t table : List ℕ) (is : table ≡ tableOf words (wholeOf L words t)) where
   -- accepted: the tree, and what is promised of it

@@ -7,7 +7,7 @@ use Rattle.laws.specs.Lists.{partOf}
 use Rattle.text.specs.Spelling.{Spells}
 use Rattle.text.specs.Tree.{Bracket, bracketKind, Forest, none, leaf, node, size, join}
 
--- a value without what is inside it: may it hold others (is it an array or an object)? and the first five words of its row
+-- a value without what is inside it: may it hold others (is it an array or an object)? and the six words of its row
 pub record Head : Type 0 where
   pub holds : Bool
   pub kind : ℕ
@@ -15,14 +15,15 @@ pub record Head : Type 0 where
   pub ne : ℕ
   pub from : ℕ
   pub to : ℕ
+  pub below : ℕ
 
 -- of a value that holds no others
 abbrev pub leafHead : (kind ns ne from to : ℕ) → Head
-leafHead kind ns ne from to = record { holds = false; kind = kind; ns = ns; ne = ne; from = from; to = to }
+leafHead kind ns ne from to = record { holds = false; kind = kind; ns = ns; ne = ne; from = from; to = to; below = 0 }
 
--- of an array or an object
-abbrev pub nodeHead : (b : Bracket) (ns ne from to : ℕ) → Head
-nodeHead b ns ne from to = record { holds = true; kind = bracketKind b; ns = ns; ne = ne; from = from; to = to }
+-- of an array or an object that holds so many
+abbrev pub nodeHead : (b : Bracket) (ns ne from to below : ℕ) → Head
+nodeHead b ns ne from to below = record { holds = true; kind = bracketKind b; ns = ns; ne = ne; from = from; to = to; below = below }
 
 -- where a value stands
 pub record Seat : Type 0 where
@@ -48,7 +49,7 @@ behind c f = record { inside = c .inside; after = c .after + size f; beside = jo
 -- `Sits c f d h`: if the first of the values f stands at c, then the value h, which is one of them or inside one of them, stands at d
 pub data Sits : Seat → Forest → Seat → Head → Type 0 where
   leaf-here : {c : Seat} {kind ns ne from to : ℕ} {rest : Forest} → Sits c (leaf kind ns ne from to rest) c (leafHead kind ns ne from to)
-  node-here : {c : Seat} {b : Bracket} {ns ne from to : ℕ} {inner rest : Forest} → Sits c (node b ns ne from to inner rest) c (nodeHead b ns ne from to)
+  node-here : {c : Seat} {b : Bracket} {ns ne from to : ℕ} {inner rest : Forest} → Sits c (node b ns ne from to inner rest) c (nodeHead b ns ne from to (size inner))
   into : {c d : Seat} {h : Head} {b : Bracket} {ns ne from to : ℕ} {inner rest : Forest} → Sits (under c) inner d h → Sits c (node b ns ne from to inner rest) d h
   leaf-on : {c d : Seat} {h : Head} {kind ns ne from to : ℕ} {rest : Forest}
       → Sits (behind c (leaf kind ns ne from to none)) rest d h → Sits c (leaf kind ns ne from to rest) d h

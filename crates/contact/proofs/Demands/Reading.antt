@@ -26,7 +26,7 @@ use Rattle.text.specs.Fault.{FaultAt, grammar, violated, FirstFault}
 use Rattle.text.specs.declared.Refusal.{Refusal}
 use Rattle.text.specs.declared.Refusal.the-variants.{TooLong, Grammar, Character, Repeated, Deep, Many, Small}
 use Rattle.text.proofs.Induction.{read-accepted}
-use Rattle.text.proofs.Promise.{filled-stands, promised, whole-good}
+use Rattle.text.proofs.Promise.{filled-stands, promised, whole-good, whole-bad}
 use Rattle.text.proofs.Grammar.Stands.{by-order}
 use Rattle.text.proofs.Grammar.Sound.{Parsed}
 use Rattle.text.proofs.Grammar.Rules.{wrong-number, breaks-wrong}
@@ -46,10 +46,6 @@ module _ (L : Limits) (words : ℕ) (t : List ℕ) where
   pub readable-good : (f : Forest) → Readable L words t f → wholeOf L words t ≡ good f (length t)
   unfolding wholeOf fitOf
   readable-good f r = rw (accepts L t f .1 (r .accepts), le-ltb words (L .words * size f) (r .enough))
-
-  whole-bad : (r : Refusal) → readOf L t ≡ bad r → wholeOf L words t ≡ bad r
-  unfolding wholeOf fitOf
-  whole-bad r e = rw e
 
   read-accepts : (f : Forest) (to : ℕ) → readOf L t ≡ good f to → Accepts L t f
   read-accepts f to e = accepts-whole L t f to e .0
@@ -137,7 +133,7 @@ module _ (L : Limits) (words : ℕ) (t : List ℕ) where
       go R (fits f to r) e = absurd (omega (arith, same-number e))
 
       back : FirstFault L t n p → sheetOf (wholeOf L words t) ≡ numbers n p 0
-      back h = let r = refuses L t within n p .1 h in rw (whole-bad (r .refusal) (r .answer)) (r .sheet)
+      back h = let r = refuses L t within n p .1 h in rw (whole-bad L words t (r .refusal) (r .answer)) (r .sheet)
 
   pub read-short : (n : ℕ) → (served L (read t words) .answer ≡ numbers 7 n 0) ↔ RowsShort L words t n
   unfolding served sheetOf refused wholeOf fitOf

@@ -97,8 +97,8 @@ pub record Firstly (c : Seat) (f : Forest) (ns : ℕ) : Type 0 where
 pub firstly : {w : List ℕ} (c : Seat) (d : Is value w) (ns ne at : ℕ) → Firstly c (treeOf d ns ne at) ns
 unfolding treeOf
 firstly c (simple {w} k l) ns ne at = record { head = leafHead (simpleKind k) ns ne at (at + length w); there = Sits.leaf-here; name = refl }
-firstly c (empty {s} b p) ns ne at = record { head = nodeHead b ns ne at (at + length s + 2); there = Sits.node-here; name = refl }
-firstly c (full {s} {w} b p d) ns ne at = record { head = nodeHead b ns ne at (at + length s + length w + 2); there = Sits.node-here; name = refl }
+firstly c (empty {s} b p) ns ne at = record { head = nodeHead b ns ne at (at + length s + 2) (size none); there = Sits.node-here; name = refl }
+firstly c (full {s} {w} b p d) ns ne at = record { head = nodeHead b ns ne at (at + length s + length w + 2) (size (treeOf d 0 0 (at + 1 + length s))); there = Sits.node-here; name = refl }
 
 -- ---- first bytes ----
 

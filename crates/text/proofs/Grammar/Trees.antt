@@ -1,7 +1,7 @@
 -- Laws of trees and of where values stand in them:
 --     join-assoc, size-join, depth-join       values and then others
 --     in-left, in-right, in-join              where a value stands among some values and then others
---     in-deep, in-few, in-none                it stands no deeper and after no more values than there are, and nothing stands among no values
+--     in-deep, in-few, in-from, in-none       it stands no deeper and after no more values than there are, and nothing stands among no values
 -- Assumes nothing.
 use mathlib.Core.Path.{_≡_, refl, sym, ap, subst}
 use mathlib.Core.Bool.{true, false}
@@ -102,7 +102,7 @@ in-few (Sits.into i) = omega (arith, in-few i)
 in-few (Sits.leaf-on i) = omega (arith, in-few i)
 in-few (Sits.node-on i) = omega (arith, in-few i)
 
-in-from : {c d : Seat} {h : Head} {f : Forest} → Sits c f d h → c .after ≤ d .after
+pub in-from : {c d : Seat} {h : Head} {f : Forest} → Sits c f d h → c .after ≤ d .after
 in-from Sits.leaf-here = omega arith
 in-from Sits.node-here = omega arith
 in-from (Sits.into i) = omega (arith, in-from i)
