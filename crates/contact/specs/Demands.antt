@@ -24,7 +24,7 @@ use Rattle.text.specs.Meaning.{Accepts}
 use Rattle.text.specs.Fault.{FirstFault}
 use Rattle.text.specs.Promised.{Filled}
 use Rattle.text.specs.declared.Reading.{Reading}
-use Rattle.contact.specs.Patch.{Entry, entriesOf, run}
+use Rattle.contact.specs.Patch.{Entry, run}
 use Rattle.contact.specs.Localize.{refusedLocal, start, patchedDoc}
 use Rattle.contact.specs.Breaches.{Keeps, FirstBreach}
 use Rattle.contact.specs.Judging.{Judges}
@@ -150,7 +150,7 @@ pub record Localization (L : Limits) (serve : Call → Left) (words room : ℕ) 
   -- and is a card itself: the whole result was judged
   pub card : CardText L words text tree
   -- names are distinct in a card that is read: so the end of the steps, in any order, differs from the written card in the order of members only
-  pub one-by-one : (fs : List Entry) → Perm (entriesOf (back .members)) fs
+  pub one-by-one : (fs : List Entry) → Perm (patched-card .entries) fs
       → (end : Doc) × (run fs (start (docOf t f)) ≡ some end) × Reordered end (docOf text tree)
   pub distinct : Distinct (docOf text tree)
   -- no white space outside strings: no text that is read, under any limits, and says the same card is shorter

@@ -9,16 +9,16 @@ use Rattle.laws.specs.Sorting.{Perm}
 use Rattle.text.specs.Limits.{Limits}
 use Rattle.text.specs.Text.{bytes}
 use Rattle.text.specs.Tree.{Forest}
-use Rattle.text.specs.Doc.{Name, Doc, object, Members, empty, member, property, docOf, kindOf}
+use Rattle.text.specs.Doc.{Name, Doc, object, Members, empty, member, property, docOf}
 use Rattle.text.specs.Distinct.{Distinct, DistinctMembers}
 use Rattle.text.specs.Writing.{written}
 use Rattle.contact.specs.Verdict.{passed, failed, judgedOf}
 use Rattle.contact.specs.Pointer.{Pointer, last, pointerOf, firstPart, lastPart, find}
 use Rattle.contact.specs.PointerText.{PointerText}
-use Rattle.contact.specs.Patch.{Change, Entry, entriesOf, run}
+use Rattle.contact.specs.Patch.{Change, Entry, run}
 use Rattle.contact.specs.Localize.{refusedLocal, done, denied, start, localizedDoc, localizedOf}
 use Rattle.contact.specs.Likeness.{SameDoc, Reordered}
-use Rattle.contact.specs.Entries.{HasEntry, labelOf, valued, Clear, Shuffled, Laid, NotOver, LaidAt}
+use Rattle.contact.specs.Entries.{Asked, HasEntry, valued, Clear, Shuffled, Laid, NotOver, LaidAt}
 use Rattle.contact.specs.Conditions.{LooseTilde, PatchOf, Smallest, Accepted}
 use Rattle.contact.specs.declared.CardRefusal.{CardRefusal}
 use Rattle.contact.specs.declared.LocalRefusal.{LocalRefusal}
@@ -51,29 +51,23 @@ pub record RunsTo (es : List Entry) (d e : Doc) : Type 0 where
   pub reached : run es d ≡ some end
   pub alike : SameDoc end e
 
--- one of the members has this name and this value
-pub data HasValue (key : Name) (v : Doc) : Members → Type 0 where
-  first : {label : List ℕ} {ms : Members} → HasValue key v (member key label v ms)
-  later : {n : Name} {label : List ℕ} {d : Doc} {ms : Members} → HasValue key v ms → HasValue key v (member n label d ms)
-
 -- x is what the entries of a PatchObject with the members ms say of the card d without its localizations
 pub record Patched (d : Doc) (ms : Members) (x : Doc) : Type 0 where
+  -- what the PatchObject asks for
+  pub entries : List Entry
+  pub asked : Asked ms entries
   -- set or removed one at a time, in any order; where names are distinct, the end and x differ in the order of members only
-  pub one-by-one : (fs : List Entry) → Perm (entriesOf ms) fs → RunsTo fs d x
-  pub reordered : Distinct d → DistinctMembers ms → (fs : List Entry) (π : Perm (entriesOf ms) fs) → Reordered (one-by-one fs π .end) x
+  pub one-by-one : (fs : List Entry) → Perm entries fs → RunsTo fs d x
+  pub reordered : Distinct d → DistinctMembers ms → (fs : List Entry) (π : Perm entries fs) → Reordered (one-by-one fs π .end) x
   -- names stay distinct
   pub distinct : Distinct d → DistinctMembers ms → Distinct x
   -- each entry has its way: what its pointer finds is the value that it sets, under the name as it was written, or nothing
-  pub effects : (p : Pointer) (c : Change) → HasEntry p c (entriesOf ms) → find p x ≡ valued (lastPart p) c (find p d)
-  -- the same, said of the PatchObject itself: a key writes a pointer; its value is found there, under the name as it was written; null leaves nothing there
-  pub sets : (key : Name) (v : Doc) (p : Pointer) → HasValue key v ms → PointerText key p → ¬ (kindOf v ≡ 1)
-      → find p x ≡ some (property (labelOf (lastPart p) (find p d)) v)
-  pub removes : (key : Name) (v : Doc) (p : Pointer) → HasValue key v ms → PointerText key p → kindOf v ≡ 1 → find p x ≡ none
+  pub effects : (p : Pointer) (c : Change) → HasEntry p c entries → find p x ≡ valued (lastPart p) c (find p d)
   -- a property that no pointer names, enters or covers: its name as written and its value
-  pub keeps : (p : Pointer) → Clear p (entriesOf ms) → find p x ≡ find p d
+  pub keeps : (p : Pointer) → Clear p entries → find p x ≡ find p d
   -- members keep their places, and added ones follow in ascending order of name: in the card itself, and in each object that is not replaced as a whole
   pub root : (os : Members) → d ≡ object os → (ns : Members) × (x ≡ object ns) × Laid os os ns
-  pub below : (p : Pointer) (label : List ℕ) (os : Members) → NotOver p (entriesOf ms) → find p d ≡ some (property label (object os)) → LaidAt p label os x
+  pub below : (p : Pointer) (label : List ℕ) (os : Members) → NotOver p entries → find p d ≡ some (property label (object os)) → LaidAt p label os x
 
 -- the members but those of the name n, in their order and as they were
 pub data LeftOut (n : Name) : Members → Members → Type 0 where

@@ -21,8 +21,8 @@ use Rattle.text.proofs.Promise.{whole-good, promised}
 use Rattle.text.proofs.Readback.Documents.{text-shorter}
 use Rattle.text.proofs.Grammar.Accepted.{accepts}
 use Rattle.contact.specs.Verdict.{Judged, passed, failed, judgedOf, sheetOfJudged, paperOfVerdict}
-use Rattle.contact.specs.Patch.{Entry, entriesOf, run}
-use Rattle.contact.specs.Localize.{refusedLocal, Outcome, done, denied, start, patchAt, patchedDoc, localizedDoc, localizedOf, sheetOfOutcome, tableOfOutcome, outputOfOutcome, answerOfOutcome, paperOfLocalized}
+use Rattle.contact.specs.Patch.{Entry, run}
+use Rattle.contact.specs.Localize.{refusedLocal, Outcome, done, denied, start, patchAt, localizedDoc, localizedOf, sheetOfOutcome, tableOfOutcome, outputOfOutcome, answerOfOutcome, paperOfLocalized}
 use Rattle.contact.specs.Conditions.{PatchOf, BrokenCondition, Smallest}
 use Rattle.contact.specs.Likeness.{Reordered}
 use Rattle.contact.specs.Patching.{Patched}
@@ -74,7 +74,7 @@ module _ (L : Limits) (unique : L .unique ≡ true) (words room : ℕ) (t : List
         let h : Fine (docOf t f) ms = fine L words room (docOf t f) lang ms patch u in
         record {
           starting = start-left (docOf t f) lang ms patch;
-          patched = patched-so L words room (start (docOf t f)) ms (h .noClash) (h .parents);
+          patched = patched-so L words room (start (docOf t f)) ms (h .noneLoose) (h .noClash) (h .parents);
           writes = readback L words room unique .written-card t f lang ms pass patch u;
         }
 
@@ -87,15 +87,12 @@ module _ (L : Limits) (unique : L .unique ≡ true) (words room : ℕ) (t : List
           let u = patching L words room .accepted (docOf t f) lang text g .0 (of-doc (done text g) e) .unbroken in
           rw (rows .says) (localize-would ms (rows .patch) (λ m q l. u m q) .patched)
 
-      steps : outcome ≡ done text g → (fs : List Entry) → Perm (entriesOf ms) fs
-          → (end : Doc) × (run fs (start (docOf t f)) ≡ some end) × Reordered end (docOf text g)
-      steps e fs π =
-          let u = patching L words room .accepted (docOf t f) lang text g .0 (of-doc (done text g) e) .unbroken in
-          let h : Fine (docOf t f) ms = fine L words room (docOf t f) lang ms (rows .patch) (λ m q l. u m q) in
-          let p : Patched (start (docOf t f)) ms (patchedDoc (docOf t f) ms) = patched-so L words room (start (docOf t f)) ms (h .noClash) (h .parents) in
+      steps : (x : Doc) (p : Patched (start (docOf t f)) ms x) (fs : List Entry) → Perm (p .entries) fs
+          → (end : Doc) × (run fs (start (docOf t f)) ≡ some end) × Reordered end x
+      steps x p fs π =
           let inside = find-distinct (patchAt lang) (docOf t f) (property (rows .patch .label) (object ms)) distinct-card (rows .patch .stands) in
           let r = p .one-by-one fs π in
-          (r .end, r .reached, rw (rows .says) (p .reordered (distinct-start (docOf t f) distinct-card) inside fs π))
+          (r .end, r .reached, p .reordered (distinct-start (docOf t f) distinct-card) inside fs π)
 
       shortest : (M : Limits) (u : List ℕ) (h : Forest) → Accepts M u h → docOf u h ≡ docOf text g → length text ≤ length u
       shortest M u h a e =
@@ -116,7 +113,7 @@ module _ (L : Limits) (unique : L .unique ≡ true) (words room : ℕ) (t : List
           back = back;
           patched-card = patched-card text g back e;
           card = card-written text g e (rows .reads);
-          one-by-one = steps text g back e;
+          one-by-one = steps text g back (docOf text g) (patched-card text g back e);
           distinct = promised L text g (length text) (rows .reads) .distinct unique;
           compact = shortest text g back;
         }
