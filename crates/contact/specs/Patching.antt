@@ -11,15 +11,13 @@ use Rattle.text.specs.Text.{bytes}
 use Rattle.text.specs.Tree.{Forest}
 use Rattle.text.specs.Doc.{Name, Doc, object, Members, empty, member, property, docOf}
 use Rattle.text.specs.Distinct.{Distinct, DistinctMembers}
-use Rattle.text.specs.Writing.{written}
 use Rattle.contact.specs.Verdict.{passed, failed, judgedOf}
-use Rattle.contact.specs.Pointer.{Pointer, last, pointerOf, firstPart, lastPart, find}
-use Rattle.contact.specs.PointerText.{PointerText}
+use Rattle.contact.specs.Pointer.{Pointer, last, firstPart, lastPart, find}
 use Rattle.contact.specs.Patch.{Change, Entry, run}
-use Rattle.contact.specs.Localize.{refusedLocal, done, denied, start, localizedDoc, localizedOf}
+use Rattle.contact.specs.Localize.{refusedLocal, done, denied, start, patchedDoc, localizedDoc, localizedOf}
 use Rattle.contact.specs.Likeness.{SameDoc, Reordered}
 use Rattle.contact.specs.Entries.{Asked, HasEntry, valued, Clear, Shuffled, Laid, NotOver, LaidAt}
-use Rattle.contact.specs.Conditions.{LooseTilde, PatchOf, Smallest, Accepted}
+use Rattle.contact.specs.Conditions.{PatchOf, Applicable, Smallest, Accepted}
 use Rattle.contact.specs.declared.CardRefusal.{CardRefusal}
 use Rattle.contact.specs.declared.LocalRefusal.{LocalRefusal}
 use Rattle.contact.specs.declared.LocalRefusal.the-variants.{Given}
@@ -79,18 +77,15 @@ pub data LeftOut (n : Name) : Members → Members → Type 0 where
 pub data LeftOutOf (n : Name) : Doc → Doc → Type 0 where
   leftOut : {ms rest : Members} → LeftOut n ms rest → LeftOutOf n (object ms) (object rest)
 
--- what was written is the text of a card that is patched so
-pub record PatchedText (card : Doc) (lang : Name) (text : List ℕ) : Type 0 where
-  pub members : Members
-  pub patch : PatchOf card lang members
-  pub result : Doc
-  pub writes : text ≡ written result
-  pub patched : Patched (start card) members result
-  -- where the starting point is the card but for its localizations: its other members in their order, so what else a pointer finds is found there
+-- x is the card as a PatchObject with the members ms leaves it
+pub record PatchedCard (card : Doc) (ms : Members) (x : Doc) : Type 0 where
+  -- the starting point is the card but for its localizations: its other members in their order, so what else a pointer finds is found there
   pub starting : LeftOutOf (bytes "localizations") card (start card)
   pub started : (p : Pointer) → firstPart p ≢ bytes "localizations" → find p (start card) ≡ find p card
-  -- which has no localizations: the card had none at the start, and no entry sets them
-  pub unlocalized : find (last (bytes "localizations")) result ≡ none
+  -- from there it is patched
+  pub from-start : Patched (start card) ms x
+  -- and has no localizations: there were none at the start, and no entry sets them
+  pub unlocalized : find (last (bytes "localizations")) x ≡ none
 
 -- ---- all of it
 
@@ -112,8 +107,6 @@ module _ (L : Limits) (words room : ℕ) where
         → (localizedDoc L words room card lang ≡ denied r) ↔ Smallest L words room card lang (refusedLocal r .number) r
     pub accepted : (card : Doc) (lang : Name) (text : List ℕ) (f : Forest)
         → (localizedDoc L words room card lang ≡ done text f) ↔ Accepted L words room card lang text f
-    -- the keys: each that has no loose `~` writes one pointer, the one that `pointerOf` finds, and any other writes none
-    pub keys : (key : Name) (p : Pointer) → PointerText key p ↔ ((¬ LooseTilde key) × (p ≡ pointerOf key))
-    -- what an accepted localization has written
-    pub written-so : (card : Doc) (lang : Name) (text : List ℕ) (f : Forest) → localizedDoc L words room card lang ≡ done text f
-        → PatchedText card lang text
+    -- what is written, or would be but for 27 and 28, is the patched card
+    pub patched : (card : Doc) (lang : Name) (ms : Members) → PatchOf card lang ms → Applicable L words room card lang
+        → PatchedCard card ms (patchedDoc card ms)

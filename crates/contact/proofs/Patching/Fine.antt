@@ -2,7 +2,7 @@
 -- Assumes nothing.
 use mathlib.Core.Path.{_≡_}
 use mathlib.Core.Bool.{false}
-use Prim.Native.Nat.{ℕ, _<_}
+use Prim.Native.Nat.{ℕ}
 use native.Mathlib.Omega.{arith}
 use Rattle.laws.proofs.Bools.{byTest}
 use Rattle.text.specs.Limits.{Limits}
@@ -10,8 +10,7 @@ use Rattle.text.specs.Doc.{Name, Doc, Members}
 use Rattle.contact.specs.Patch.{entriesOf, anyOwn, anyClash, anyWalk, isInArray, isNoObject}
 use Rattle.contact.specs.Localize.{start}
 use Rattle.contact.specs.Entries.{NoClash, ParentsThere}
-use Rattle.contact.specs.Conditions.{LooseTilde, HasKey, PatchOf, BrokenCondition, badKey, ownLocalizations, clashing, enteringArray, losingWay}
-use Rattle.contact.specs.declared.LocalRefusal.{LocalRefusal}
+use Rattle.contact.specs.Conditions.{LooseTilde, HasKey, PatchOf, Applicable, badKey, ownLocalizations, clashing, enteringArray, losingWay}
 use Rattle.contact.specs.declared.LocalRefusal.the-variants.{BadKey, OwnLocalizations, Clash, InArray, NoObject}
 use Rattle.contact.proofs.Patching.Apart.{from-anyClash, from-anyWalk}
 use Rattle.contact.proofs.Patching.Found.{own-found, array-found, lost-found, clash-found}
@@ -23,7 +22,7 @@ pub record Fine (card : Doc) (ms : Members) : Type 0 where
   pub parents : ParentsThere (entriesOf ms) (start card)
 
 module _ (L : Limits) (words room : ℕ) (card : Doc) (lang : Name) (ms : Members) (patch : PatchOf card lang ms)
-    (unbroken : (m : ℕ) (q : LocalRefusal) → m < 27 → ¬ BrokenCondition L words room card lang m q) where
+    (unbroken : Applicable L words room card lang) where
   no-array : anyWalk isInArray (entriesOf ms) (start card) ≡ false
   no-array =
       byTest (anyWalk isInArray (entriesOf ms) (start card))

@@ -18,11 +18,10 @@ use Rattle.text.specs.Doc.{Name, Doc, object, Members, empty, member, Property,
 use Rattle.contact.specs.Verdict.{passed, judgedOf}
 use Rattle.contact.specs.Pointer.{last, badTilde, find, within, Pointer, down, firstPart}
 use Rattle.contact.specs.Patch.{Entry, entriesOf, anyBadKey, anyClash, isInArray, isNoObject, without, applied, entry, added, kept, anyOwn}
-use Rattle.contact.specs.Localize.{done, start, byEntries, inPatch, withPatch, localizedDoc, localizedOf, patchedDoc}
+use Rattle.contact.specs.Localize.{start, byEntries, inPatch, withPatch, localizedDoc, localizedOf, patchedDoc}
 use Rattle.contact.specs.Entries.{Shuffled, asIs, keepFirst, swapFirst, andOn, NoClash, ParentsThere, Apart, ApartFrom}
-use Rattle.contact.specs.Conditions.{LooseTilde, HasKey, PatchOf, Accepted}
-use Rattle.contact.specs.Patching.{Rearranged, rearranged, AtMember, thisOne, laterOne, InMember, inMember, OrderOnly, RunsTo, Patched, LeftOut, noMore, goes, stays, LeftOutOf, leftOut, PatchedText, Patching}
-use Rattle.contact.proofs.Patching.Pointers.{key-iff}
+use Rattle.contact.specs.Conditions.{LooseTilde, HasKey, PatchOf, Applicable}
+use Rattle.contact.specs.Patching.{Rearranged, rearranged, AtMember, thisOne, laterOne, InMember, inMember, OrderOnly, RunsTo, Patched, LeftOut, noMore, goes, stays, LeftOutOf, leftOut, PatchedCard, Patching}
 use Rattle.contact.proofs.Patching.Asked.{asked-of}
 use Rattle.contact.proofs.Patching.Names.{same-no, same-yes, byName}
 use Rattle.contact.proofs.Patching.Order.{any-order}
@@ -109,7 +108,7 @@ start-members n (member m label d ms) =
     (λ ne. simp (same-no ne) (stays ne (start-members n ms)))
 
 -- a card with a PatchObject is an object
-pub start-left : (card : Doc) (lang : Name) (ms : Members) → PatchOf card lang ms → LeftOutOf localizations card (start card)
+start-left : (card : Doc) (lang : Name) (ms : Members) → PatchOf card lang ms → LeftOutOf localizations card (start card)
 start-left (scalar k t) lang ms p = absurd (Option·none-ne-some _ (p .stands))
 start-left (array xs) lang ms p = absurd (Option·none-ne-some _ (p .stands))
 start-left (object os) lang ms p = leftOut (start-members localizations os)
@@ -151,10 +150,10 @@ module _ (L : Limits) (words room : ℕ) where
   order-of-texts t u lang f g p q x =
       passed-so L words room t lang f p ∙ card-order (docOf t f) (docOf u g) lang x ∙ sym (passed-so L words room u lang g q)
 
-  -- ---- what an accepted localization has written
+  -- ---- the patched card
 
   -- entries of which no condition is broken
-  pub patched-so : (d : Doc) (ms : Members) → ((key : Name) → HasKey key ms → ¬ LooseTilde key) → NoClash (entriesOf ms) → ParentsThere (entriesOf ms) d
+  patched-so : (d : Doc) (ms : Members) → ((key : Name) → HasKey key ms → ¬ LooseTilde key) → NoClash (entriesOf ms) → ParentsThere (entriesOf ms) d
       → Patched d ms (applied d (entriesOf ms))
   patched-so d ms nl nc pt =
       let es : List Entry = entriesOf ms in
@@ -177,21 +176,14 @@ module _ (L : Limits) (words room : ℕ) where
         below = λ p label os h e. laid-below p d es label os nc h e;
       }
 
-  written-so : (card : Doc) (lang : Name) (text : List ℕ) (f : Forest) → localizedDoc L words room card lang ≡ done text f → PatchedText card lang text
-  written-so card lang text f e =
-      let a : Accepted L words room card lang text f = accepted-iff L words room card lang text f .0 e in
-      let h : Fine card (a .members) = fine L words room card lang (a .members) (a .patch) (λ m q l. a .unbroken m q) in
+  patched-card : (card : Doc) (lang : Name) (ms : Members) → PatchOf card lang ms → Applicable L words room card lang → PatchedCard card ms (patchedDoc card ms)
+  patched-card card lang ms patch u =
+      let h : Fine card ms = fine L words room card lang ms patch u in
       record {
-        members = a .members;
-        patch = a .patch;
-        result = patchedDoc card (a .members);
-        writes = a .writes;
-        patched = patched-so (start card) (a .members) (h .noneLoose) (h .noClash) (h .parents);
-        starting = start-left card lang (a .members) (a .patch);
+        starting = start-left card lang ms patch;
         started = start-else card;
-        unlocalized =
-            untouched (last localizations) (start card) (entriesOf (a .members)) (h .noClash) (own-apart (entriesOf (a .members)) (h .noneOwn))
-            ∙ start-has-none card;
+        from-start = patched-so (start card) ms (h .noneLoose) (h .noClash) (h .parents);
+        unlocalized = untouched (last localizations) (start card) (entriesOf ms) (h .noClash) (own-apart (entriesOf ms) (h .noneOwn)) ∙ start-has-none card;
       }
 
   pub patching : Patching L words room
@@ -202,6 +194,5 @@ module _ (L : Limits) (words room : ℕ) where
     order-of-texts = order-of-texts;
     refused = λ card lang. refused-iff L words room card lang;
     accepted = λ card lang. accepted-iff L words room card lang;
-    keys = λ key. key-iff key;
-    written-so = written-so;
+    patched = patched-card;
   }
