@@ -113,6 +113,31 @@ start-left (scalar k t) lang ms p = absurd (Option·none-ne-some _ (p .stands))
 start-left (array xs) lang ms p = absurd (Option·none-ne-some _ (p .stands))
 start-left (object os) lang ms p = leftOut (start-members localizations os)
 
+-- ---- entries of which no condition is broken
+
+patched-so : (d : Doc) (ms : Members) → ((key : Name) → HasKey key ms → ¬ LooseTilde key) → NoClash (entriesOf ms) → ParentsThere (entriesOf ms) d
+    → Patched d ms (applied d (entriesOf ms))
+patched-so d ms nl nc pt =
+    let es : List Entry = entriesOf ms in
+    let x : Doc = applied d es in
+    let runs : (fs : List Entry) → Perm es fs → RunsTo fs d x = λ fs π. in-any-order es fs d π nc pt in
+    record {
+      entries = es;
+      asked = asked-of ms nl;
+      one-by-one = runs;
+      reordered = λ h k fs π.
+          let v : DistinctValues es = entries-values ms k in
+          same-reordered (runs fs π .end) x
+          (distinct-run fs d (runs fs π .end) (perm-values π v) h (runs fs π .reached))
+          (distinct-applied d es nc v h)
+          (runs fs π .alike);
+      distinct = λ h k. distinct-applied d es nc (entries-values ms k) h;
+      effects = λ p c h. effect p c d es nc pt h;
+      keeps = λ p h. untouched p d es nc (clear-apart p es h);
+      root = λ os e. (kept os es (added os es), ap (λ (y : Doc). applied y es) e, laid-root os es nc);
+      below = λ p label os h e. laid-below p d es label os nc h e;
+    }
+
 module _ (L : Limits) (words room : ℕ) where
   -- the tests come out the same; and if no two pointers clash, so does the document
   entries-order : (d : Doc) (ms ns : Members) → Shuffled ms ns
@@ -151,30 +176,6 @@ module _ (L : Limits) (words room : ℕ) where
       passed-so L words room t lang f p ∙ card-order (docOf t f) (docOf u g) lang x ∙ sym (passed-so L words room u lang g q)
 
   -- ---- the patched card
-
-  -- entries of which no condition is broken
-  patched-so : (d : Doc) (ms : Members) → ((key : Name) → HasKey key ms → ¬ LooseTilde key) → NoClash (entriesOf ms) → ParentsThere (entriesOf ms) d
-      → Patched d ms (applied d (entriesOf ms))
-  patched-so d ms nl nc pt =
-      let es : List Entry = entriesOf ms in
-      let x : Doc = applied d es in
-      let runs : (fs : List Entry) → Perm es fs → RunsTo fs d x = λ fs π. in-any-order es fs d π nc pt in
-      record {
-        entries = es;
-        asked = asked-of ms nl;
-        one-by-one = runs;
-        reordered = λ h k fs π.
-            let v : DistinctValues es = entries-values ms k in
-            same-reordered (runs fs π .end) x
-            (distinct-run fs d (runs fs π .end) (perm-values π v) h (runs fs π .reached))
-            (distinct-applied d es nc v h)
-            (runs fs π .alike);
-        distinct = λ h k. distinct-applied d es nc (entries-values ms k) h;
-        effects = λ p c h. effect p c d es nc pt h;
-        keeps = λ p h. untouched p d es nc (clear-apart p es h);
-        root = λ os e. (kept os es (added os es), ap (λ (y : Doc). applied y es) e, laid-root os es nc);
-        below = λ p label os h e. laid-below p d es label os nc h e;
-      }
 
   patched-card : (card : Doc) (lang : Name) (ms : Members) → PatchOf card lang ms → Applicable L words room card lang → PatchedCard card ms (patchedDoc card ms)
   patched-card card lang ms patch u =
