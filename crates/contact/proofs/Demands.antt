@@ -30,6 +30,8 @@ use Rattle.contact.specs.Localize.{Outcome, done, denied, localizedOf, s
 use Rattle.contact.specs.Services.{Call, read, judge, localize, wordsOf, roomOf, leaves, served}
 use Rattle.contact.specs.Demands.{Lines, Ends, acceptance, refusal, Demands}
 use Rattle.contact.proofs.Judging.{judging}
+use Rattle.contact.proofs.Patching.Pointers.{key-iff}
+use Rattle.contact.proofs.Patching.Asked.{one-asking}
 use Rattle.contact.proofs.Patching.Together.{patching}
 use Rattle.contact.proofs.Patching.Contract.{one-outcome, one-order, output-fits}
 use Rattle.contact.proofs.Patching.Readback.{readback}
@@ -75,8 +77,9 @@ module _ (L : Limits) (unique : L .unique ≡ true) (six : L .words ≡ rowWords
           → Ends (localize t lang words room) (leaves (sheetOfOutcome o) (tableOfOutcome words o) (outputOfOutcome room o))
       go (denied r) e = refused-ends (localize t lang words room) (local-line r)
       go (done text g) e =
-          let (f, pass, rows) = readback L words room unique .accepted t lang text g e in
-          let c = card-written L unique words room t lang f pass text g e (rows .reads) in
+          let (f, pass) = readback L words room unique .card-text t lang text g e in
+          let a = patching L words room .accepted (docOf t f) lang text g .0 (of-doc L unique words room t lang f pass (done text g) e) in
+          let c = card-written L unique words room t lang f pass text g a in
           acceptance (rowsOf g) text (size g) (rows-length g) (rows-fit words g (c .readable .enough))
           (output-fits L words room (docOf t f) lang text g (of-doc L unique words room t lang f pass (done text g) e))
 
@@ -124,8 +127,10 @@ module _ (L : Limits) (unique : L .unique ≡ true) (six : L .words ≡ rowWords
           one-order t u f g (card-passed L words t f c) (card-passed L words u g d) (reordered-only L words t u lang f (c .readable) o);
       patched = λ t lang words room f c. localize-patched L unique words room t lang f (card-passed L words t f c);
       accepted = λ t lang words room f c. localize-accepted L unique words room t lang f (card-passed L words t f c);
-      would-be = λ t lang words room f c. localize-would L unique words room t lang f (card-passed L words t f c);
       refused = λ t lang words room f c. localize-refused L unique words room t lang f (card-passed L words t f c);
+      keys = λ key. key-iff key;
+      asking = λ ms es fs x y. one-asking x y;
+      would-be = λ t lang words room f c. localize-would L unique words room t lang f (card-passed L words t f c);
       room-enough = λ t lang words room. localize-room L unique words room t lang;
       inner = λ t lang words room. localize-inner L unique words room t lang;
     };

@@ -1,6 +1,7 @@
 -- How a localization is applied, over documents: each file says what it proves. Assumes nothing.
 pub mod Names
 pub mod Pointers
+pub mod Asked
 pub mod Seek
 pub mod Applied
 pub mod Entries

@@ -87,6 +87,10 @@ module _ (L : Limits) (words room : ℕ) (card : Doc) (lang : Name) where
     unfit : {ms : Members} {r : CardRefusal} → PatchOf card lang ms
         → judgedOf L words (written (patchedDoc card ms)) ≡ failed r → BrokenCondition 28 (Inner r)
 
+  -- none of 21 to 26 is broken: so the entries can be applied
+  abbrev pub Applicable : Type 0
+  Applicable = (m : ℕ) (q : LocalRefusal) → m < 27 → ¬ BrokenCondition m q
+
   -- the refusal of the smallest number whose condition is broken
   pub record Smallest (number : ℕ) (r : LocalRefusal) : Type 0 where
     pub broken : BrokenCondition number r

@@ -17,7 +17,6 @@ use Rattle.text.specs.Limits.{Limits, rowWords}
 use Rattle.text.specs.Tree.{Forest, size, rowsOf, startsOf}
 use Rattle.text.specs.Sheet.{numbers, paper}
 use Rattle.text.specs.Whole.{wholeOf, sheetOf, tableOf}
-use Rattle.text.specs.Text.{bytes}
 use Rattle.text.specs.Doc.{Name, Doc, Members, docOf}
 use Rattle.text.specs.Distinct.{Distinct}
 use Rattle.text.specs.Grammar.{JsonText, rootOf}
@@ -26,13 +25,16 @@ use Rattle.text.specs.Meaning.{Accepts}
 use Rattle.text.specs.Fault.{FirstFault}
 use Rattle.text.specs.Promised.{Filled}
 use Rattle.text.specs.declared.Reading.{Reading}
-use Rattle.contact.specs.Patch.{Entry, entriesOf, run}
+use Rattle.contact.specs.Pointer.{Pointer, pointerOf}
+use Rattle.contact.specs.PointerText.{PointerText}
+use Rattle.contact.specs.Patch.{Entry, run}
 use Rattle.contact.specs.Localize.{refusedLocal, start, patchedDoc}
 use Rattle.contact.specs.Breaches.{Keeps, FirstBreach}
 use Rattle.contact.specs.Judging.{Judges}
-use Rattle.contact.specs.Conditions.{PatchOf, BrokenCondition, Smallest}
+use Rattle.contact.specs.Conditions.{LooseTilde, PatchOf, BrokenCondition, Applicable, Smallest}
 use Rattle.contact.specs.Likeness.{Reordered}
-use Rattle.contact.specs.Patching.{OrderOnly, Patched, LeftOutOf, PatchedText}
+use Rattle.contact.specs.Entries.{Asked}
+use Rattle.contact.specs.Patching.{OrderOnly, PatchedCard}
 use Rattle.contact.specs.Contract.{Localizes}
 use Rattle.contact.specs.Readback.{WrittenCard, PatchedRows}
 use Rattle.contact.specs.Services.{Call, read, judge, localize, wordsOf, roomOf, Left, leaves}
@@ -145,30 +147,29 @@ pub record Localization (L : Limits) (serve : Call → Left) (words room : ℕ) 
   pub tree : Forest
   -- the row count and the length are those of the written card
   pub left : serve (localize t lang words room) ≡ leaves (numbers 0 (size tree) (length text)) (filled words (rowsOf tree)) (filled room text)
-  -- Set or removed one at a time, in any order, from the card without its localizations, each entry finds its parent, and the end is the written card,
-  -- member order not counted. Each entry has its way; a property that no pointer names, enters or covers keeps its value; what is kept stays at its
-  -- place, and what is added follows in ascending order of name (`Patched`, specs/Patching.antt).
-  pub patched : PatchedText (docOf t f) lang text
-  -- the written text is read back as the patched card; it is no longer than t and has no more values
-  pub back : PatchedRows L t f lang text tree
-  -- all that is said of a patched card is true of what the written text says
-  pub patched-card : Patched (start (docOf t f)) (back .members) (docOf text tree)
+  -- the PatchObject of the language, which all that follows is about
+  pub members : Members
+  pub patch : PatchOf (docOf t f) lang members
+  -- the written text is read back as the card that the conditions speak of; it is no longer than t and has no more values
+  pub back : PatchedRows L t f members text tree
+  -- What it says is the patched card. From the card without its localizations each entry has its way; a property that no pointer names, enters or
+  -- covers keeps its value; what is kept stays at its place, and what is added follows in ascending order of name (`Patched`, specs/Patching.antt).
+  pub patched : PatchedCard (docOf t f) members (docOf text tree)
   -- and is a card itself: the whole result was judged
   pub card : CardText L words text tree
-  -- names are distinct in a card that is read: so the end of the steps, in any order, differs from the written card in the order of members only
-  pub one-by-one : (fs : List Entry) → Perm (entriesOf (back .members)) fs
+  -- Set or removed one at a time, in any order, each entry finds its parent, and the end is the written card but for the order of members: names are
+  -- distinct in a card that is read.
+  pub one-by-one : (fs : List Entry) → Perm (patched .from-start .entries) fs
       → (end : Doc) × (run fs (start (docOf t f)) ≡ some end) × Reordered end (docOf text tree)
   pub distinct : Distinct (docOf text tree)
   -- no white space outside strings: no text that is read, under any limits, and says the same card is shorter
   pub compact : (M : Limits) (u : List ℕ) (g : Forest) → Accepts M u g → docOf u g ≡ docOf text tree → length text ≤ length u
 
--- The card that the conditions speak of, whatever the answer is: what all entries of a PatchObject with the members ms say of the card text t, of which
--- f is the tree, if none of 22 to 26 is broken. So 27 and 28 are about the patched card and no other.
+-- The card that the conditions speak of, whatever the answer is: the card text t, of which f is the tree, as a PatchObject with the members ms leaves
+-- it if none of 21 to 26 is broken. So 27 and 28 are about the patched card and no other.
 pub record WouldBe (L : Limits) (words : ℕ) (t : List ℕ) (f : Forest) (ms : Members) : Type 0 where
-  -- the starting point is the card but for its localizations
-  pub starting : LeftOutOf (bytes "localizations") (docOf t f) (start (docOf t f))
   -- the card is patched, as the set-or-remove definition says
-  pub patched : Patched (start (docOf t f)) ms (patchedDoc (docOf t f) ms)
+  pub patched : PatchedCard (docOf t f) ms (patchedDoc (docOf t f) ms)
   -- and its text says it: it is read back so, or refused for its depth alone
   pub writes : WrittenCard L words t f (patchedDoc (docOf t f) ms)
 
@@ -202,13 +203,17 @@ pub record Localizing (L : Limits) (serve : Call → Left) : Type 0 where
   -- it is accepted exactly when none of the conditions 21 to 28 is broken
   pub accepted : (t : List ℕ) (lang : Name) (words room : ℕ) (f : Forest) → CardText L words t f
       → Passes serve (localize t lang words room) ↔ ((n : ℕ) (r : LocalRefusal) → ¬ BrokenCondition L words room (docOf t f) lang n r)
-  -- what 27 and 28 speak of
-  pub would-be : (t : List ℕ) (lang : Name) (words room : ℕ) (f : Forest) → CardText L words t f → (ms : Members) → PatchOf (docOf t f) lang ms
-      → ((n : ℕ) (r : LocalRefusal) → n < 27 → ¬ BrokenCondition L words room (docOf t f) lang n r) → WouldBe L words t f ms
   -- and else refused by the broken condition of smallest number
   pub refused : (t : List ℕ) (lang : Name) (words room : ℕ) (f : Forest) → CardText L words t f → (n second : ℕ) → 0 < n
       → (serve (localize t lang words room) .answer ≡ numbers n second 0)
       ↔ ((r : LocalRefusal) × (refusedLocal r ≡ numbers n second 0) × Smallest L words room (docOf t f) lang n r)
+  -- the conditions speak of the pointers that keys write: each key that has no loose `~` writes one, and any other writes none
+  pub keys : (key : Name) (p : Pointer) → PointerText key p ↔ ((¬ LooseTilde key) × (p ≡ pointerOf key))
+  -- so a PatchObject asks for one list of entries: those that a patched card (`Patched`) is about
+  pub asking : (ms : Members) (es fs : List Entry) → Asked ms es → Asked ms fs → es ≡ fs
+  -- 27 and 28, which come up if none of 21 to 26 is broken, speak of the patched card
+  pub would-be : (t : List ℕ) (lang : Name) (words room : ℕ) (f : Forest) → CardText L words t f → (ms : Members) → PatchOf (docOf t f) lang ms
+      → Applicable L words room (docOf t f) lang → WouldBe L words t f ms
   -- an output as long as the card's text always has room
   pub room-enough : (t : List ℕ) (lang : Name) (words room needed : ℕ) → serve (localize t lang words room) .answer ≡ numbers 27 needed 0
       → (room < needed) × (needed ≤ length t)

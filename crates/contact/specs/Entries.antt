@@ -1,4 +1,5 @@
--- What the theorems on localizing say of entries and pointers: prefixes, what a pointer names, enters or covers, entries in another order.
+-- What the theorems on localizing say of entries and pointers: prefixes, what a pointer names, enters or covers, the entries that a PatchObject asks for,
+-- entries in another order.
 -- Assumes nothing: these are definitions.
 use Prim.Native.Nat.{ℕ}
 use mathlib.Core.Path.{_≡_}
@@ -7,9 +8,10 @@ use mathlib.Core.Bool.{true}
 use mathlib.Core.List.{List, [], _∷_, _++_}
 use mathlib.Core.Option.{Option, none, some}
 use Rattle.laws.specs.Order.{before}
-use Rattle.text.specs.Doc.{Name, Doc, object, Members, empty, member, Property, property, seek}
+use Rattle.text.specs.Doc.{Name, Doc, scalar, object, Members, empty, member, Property, property, seek, kindOf}
 use Rattle.text.specs.Writing.{spelled}
 use Rattle.contact.specs.Pointer.{Pointer, last, down, parts, find}
+use Rattle.contact.specs.PointerText.{PointerText}
 use Rattle.contact.specs.Patch.{Change, remove, set, Entry, entry, arrives, walk}
 
 -- ---- pointers
@@ -48,6 +50,17 @@ ApartFrom p [] = Unit {0}
 ApartFrom p (entry q c ∷ es) = Apart p q × ApartFrom p es
 
 -- ---- entries
+
+-- what a value of a PatchObject asks of the property that its key names: null removes it, any other value sets it
+pub data Asks : Doc → Change → Type 0 where
+  removes : {token : List ℕ} → Asks (scalar 1 token) remove
+  sets : {v : Doc} → ¬ (kindOf v ≡ 1) → Asks v (set v)
+
+-- the entries of a PatchObject with these members, in their order: each key writes a pointer, each value asks for a change
+pub data Asked : Members → List Entry → Type 0 where
+  noKey : Asked empty []
+  oneKey : {key : Name} {label : List ℕ} {v : Doc} {ms : Members} {p : Pointer} {c : Change} {es : List Entry}
+      → PointerText key p → Asks v c → Asked ms es → Asked (member key label v ms) (entry p c ∷ es)
 
 -- no pointer of two entries is a prefix of the other's
 abbrev pub NoClash : List Entry → Type 0

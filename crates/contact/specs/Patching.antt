@@ -9,17 +9,15 @@ use Rattle.laws.specs.Sorting.{Perm}
 use Rattle.text.specs.Limits.{Limits}
 use Rattle.text.specs.Text.{bytes}
 use Rattle.text.specs.Tree.{Forest}
-use Rattle.text.specs.Doc.{Name, Doc, object, Members, empty, member, property, docOf, kindOf}
+use Rattle.text.specs.Doc.{Name, Doc, object, Members, empty, member, property, docOf}
 use Rattle.text.specs.Distinct.{Distinct, DistinctMembers}
-use Rattle.text.specs.Writing.{written}
 use Rattle.contact.specs.Verdict.{passed, failed, judgedOf}
-use Rattle.contact.specs.Pointer.{Pointer, last, pointerOf, firstPart, lastPart, find}
-use Rattle.contact.specs.PointerText.{PointerText}
-use Rattle.contact.specs.Patch.{Change, Entry, entriesOf, run}
-use Rattle.contact.specs.Localize.{refusedLocal, done, denied, start, localizedDoc, localizedOf}
+use Rattle.contact.specs.Pointer.{Pointer, last, firstPart, lastPart, find}
+use Rattle.contact.specs.Patch.{Change, Entry, run}
+use Rattle.contact.specs.Localize.{refusedLocal, done, denied, start, patchedDoc, localizedDoc, localizedOf}
 use Rattle.contact.specs.Likeness.{SameDoc, Reordered}
-use Rattle.contact.specs.Entries.{HasEntry, labelOf, valued, Clear, Shuffled, Laid, NotOver, LaidAt}
-use Rattle.contact.specs.Conditions.{LooseTilde, PatchOf, Smallest, Accepted}
+use Rattle.contact.specs.Entries.{Asked, HasEntry, valued, Clear, Shuffled, Laid, NotOver, LaidAt}
+use Rattle.contact.specs.Conditions.{PatchOf, Applicable, Smallest, Accepted}
 use Rattle.contact.specs.declared.CardRefusal.{CardRefusal}
 use Rattle.contact.specs.declared.LocalRefusal.{LocalRefusal}
 use Rattle.contact.specs.declared.LocalRefusal.the-variants.{Given}
@@ -51,29 +49,23 @@ pub record RunsTo (es : List Entry) (d e : Doc) : Type 0 where
   pub reached : run es d ≡ some end
   pub alike : SameDoc end e
 
--- one of the members has this name and this value
-pub data HasValue (key : Name) (v : Doc) : Members → Type 0 where
-  first : {label : List ℕ} {ms : Members} → HasValue key v (member key label v ms)
-  later : {n : Name} {label : List ℕ} {d : Doc} {ms : Members} → HasValue key v ms → HasValue key v (member n label d ms)
-
 -- x is what the entries of a PatchObject with the members ms say of the card d without its localizations
 pub record Patched (d : Doc) (ms : Members) (x : Doc) : Type 0 where
+  -- what the PatchObject asks for
+  pub entries : List Entry
+  pub asked : Asked ms entries
   -- set or removed one at a time, in any order; where names are distinct, the end and x differ in the order of members only
-  pub one-by-one : (fs : List Entry) → Perm (entriesOf ms) fs → RunsTo fs d x
-  pub reordered : Distinct d → DistinctMembers ms → (fs : List Entry) (π : Perm (entriesOf ms) fs) → Reordered (one-by-one fs π .end) x
+  pub one-by-one : (fs : List Entry) → Perm entries fs → RunsTo fs d x
+  pub reordered : Distinct d → DistinctMembers ms → (fs : List Entry) (π : Perm entries fs) → Reordered (one-by-one fs π .end) x
   -- names stay distinct
   pub distinct : Distinct d → DistinctMembers ms → Distinct x
   -- each entry has its way: what its pointer finds is the value that it sets, under the name as it was written, or nothing
-  pub effects : (p : Pointer) (c : Change) → HasEntry p c (entriesOf ms) → find p x ≡ valued (lastPart p) c (find p d)
-  -- the same, said of the PatchObject itself: a key writes a pointer; its value is found there, under the name as it was written; null leaves nothing there
-  pub sets : (key : Name) (v : Doc) (p : Pointer) → HasValue key v ms → PointerText key p → ¬ (kindOf v ≡ 1)
-      → find p x ≡ some (property (labelOf (lastPart p) (find p d)) v)
-  pub removes : (key : Name) (v : Doc) (p : Pointer) → HasValue key v ms → PointerText key p → kindOf v ≡ 1 → find p x ≡ none
+  pub effects : (p : Pointer) (c : Change) → HasEntry p c entries → find p x ≡ valued (lastPart p) c (find p d)
   -- a property that no pointer names, enters or covers: its name as written and its value
-  pub keeps : (p : Pointer) → Clear p (entriesOf ms) → find p x ≡ find p d
+  pub keeps : (p : Pointer) → Clear p entries → find p x ≡ find p d
   -- members keep their places, and added ones follow in ascending order of name: in the card itself, and in each object that is not replaced as a whole
   pub root : (os : Members) → d ≡ object os → (ns : Members) × (x ≡ object ns) × Laid os os ns
-  pub below : (p : Pointer) (label : List ℕ) (os : Members) → NotOver p (entriesOf ms) → find p d ≡ some (property label (object os)) → LaidAt p label os x
+  pub below : (p : Pointer) (label : List ℕ) (os : Members) → NotOver p entries → find p d ≡ some (property label (object os)) → LaidAt p label os x
 
 -- the members but those of the name n, in their order and as they were
 pub data LeftOut (n : Name) : Members → Members → Type 0 where
@@ -85,18 +77,15 @@ pub data LeftOut (n : Name) : Members → Members → Type 0 where
 pub data LeftOutOf (n : Name) : Doc → Doc → Type 0 where
   leftOut : {ms rest : Members} → LeftOut n ms rest → LeftOutOf n (object ms) (object rest)
 
--- what was written is the text of a card that is patched so
-pub record PatchedText (card : Doc) (lang : Name) (text : List ℕ) : Type 0 where
-  pub members : Members
-  pub patch : PatchOf card lang members
-  pub result : Doc
-  pub writes : text ≡ written result
-  pub patched : Patched (start card) members result
-  -- where the starting point is the card but for its localizations: its other members in their order, so what else a pointer finds is found there
+-- x is the card as a PatchObject with the members ms leaves it
+pub record PatchedCard (card : Doc) (ms : Members) (x : Doc) : Type 0 where
+  -- the starting point is the card but for its localizations: its other members in their order, so what else a pointer finds is found there
   pub starting : LeftOutOf (bytes "localizations") card (start card)
   pub started : (p : Pointer) → firstPart p ≢ bytes "localizations" → find p (start card) ≡ find p card
-  -- which has no localizations: the card had none at the start, and no entry sets them
-  pub unlocalized : find (last (bytes "localizations")) result ≡ none
+  -- from there it is patched
+  pub from-start : Patched (start card) ms x
+  -- and has no localizations: there were none at the start, and no entry sets them
+  pub unlocalized : find (last (bytes "localizations")) x ≡ none
 
 -- ---- all of it
 
@@ -118,8 +107,6 @@ module _ (L : Limits) (words room : ℕ) where
         → (localizedDoc L words room card lang ≡ denied r) ↔ Smallest L words room card lang (refusedLocal r .number) r
     pub accepted : (card : Doc) (lang : Name) (text : List ℕ) (f : Forest)
         → (localizedDoc L words room card lang ≡ done text f) ↔ Accepted L words room card lang text f
-    -- the keys: each that has no loose `~` writes one pointer, the one that `pointerOf` finds, and any other writes none
-    pub keys : (key : Name) (p : Pointer) → PointerText key p ↔ ((¬ LooseTilde key) × (p ≡ pointerOf key))
-    -- what an accepted localization has written
-    pub written-so : (card : Doc) (lang : Name) (text : List ℕ) (f : Forest) → localizedDoc L words room card lang ≡ done text f
-        → PatchedText card lang text
+    -- what is written, or would be but for 27 and 28, is the patched card
+    pub patched : (card : Doc) (lang : Name) (ms : Members) → PatchOf card lang ms → Applicable L words room card lang
+        → PatchedCard card ms (patchedDoc card ms)

@@ -10,9 +10,7 @@ use lib.ListN.{length}
 use Rattle.laws.specs.Sorting.{Perm}
 use Rattle.text.specs.Limits.{Limits}
 use Rattle.text.specs.Tree.{Forest}
-use Rattle.text.specs.Reader.{good}
 use Rattle.text.specs.Sheet.{numbers}
-use Rattle.text.specs.Whole.{readOf}
 use Rattle.text.specs.Doc.{Name, Doc, object, Members, property, docOf}
 use Rattle.text.specs.Distinct.{Distinct}
 use Rattle.text.specs.Meaning.{Accepts}
@@ -21,11 +19,11 @@ use Rattle.text.proofs.Promise.{whole-good, promised}
 use Rattle.text.proofs.Readback.Documents.{text-shorter}
 use Rattle.text.proofs.Grammar.Accepted.{accepts}
 use Rattle.contact.specs.Verdict.{Judged, passed, failed, judgedOf, sheetOfJudged, paperOfVerdict}
-use Rattle.contact.specs.Patch.{Entry, entriesOf, run}
-use Rattle.contact.specs.Localize.{refusedLocal, Outcome, done, denied, start, patchAt, patchedDoc, localizedDoc, localizedOf, sheetOfOutcome, tableOfOutcome, outputOfOutcome, answerOfOutcome, paperOfLocalized}
-use Rattle.contact.specs.Conditions.{PatchOf, BrokenCondition, Smallest}
+use Rattle.contact.specs.Patch.{Entry, run}
+use Rattle.contact.specs.Localize.{refusedLocal, Outcome, done, denied, start, patchAt, localizedDoc, localizedOf, sheetOfOutcome, tableOfOutcome, outputOfOutcome, answerOfOutcome, paperOfLocalized}
+use Rattle.contact.specs.Conditions.{PatchOf, BrokenCondition, Applicable, Smallest, Accepted}
 use Rattle.contact.specs.Likeness.{Reordered}
-use Rattle.contact.specs.Patching.{Patched}
+use Rattle.contact.specs.Patching.{Patched, PatchedCard}
 use Rattle.contact.specs.Readback.{PatchedRows}
 use Rattle.contact.specs.Services.{judge, localize, served}
 use Rattle.contact.specs.Demands.{Passes, Within, CardText, WouldBe, Localization}
@@ -33,8 +31,7 @@ use Rattle.contact.specs.declared.LocalRefusal.{LocalRefusal}
 use Rattle.contact.proofs.Judging.{judging}
 use Rattle.contact.proofs.Patching.Public.{passed-so, failed-so}
 use Rattle.contact.proofs.Patching.Distinct.{distinct-start, find-distinct}
-use Rattle.contact.proofs.Patching.Fine.{Fine, fine}
-use Rattle.contact.proofs.Patching.Together.{start-left, patched-so, patching}
+use Rattle.contact.proofs.Patching.Together.{patching}
 use Rattle.contact.proofs.Patching.Readback.{readback}
 use Rattle.contact.proofs.Demands.Reading.{card-text}
 use Rattle.contact.proofs.Demands.Sheet.{line-of, local-line, local-some, Late, early, late-short, late-inner, late, same-number, same-second}
@@ -57,9 +54,9 @@ module _ (L : Limits) (unique : L .unique ≡ true) (words room : ℕ) (t : List
     of-doc o e = sym (passed-so L words room t lang f pass) ∙ e
 
     -- the written text is a card
-    pub card-written : (text : List ℕ) (g : Forest) → outcome ≡ done text g → readOf L text ≡ good g (length text) → CardText L words text g
-    card-written text g e back =
-        let a = patching L words room .accepted (docOf t f) lang text g .0 (of-doc (done text g) e) in
+    pub card-written : (text : List ℕ) (g : Forest) → Accepted L words room (docOf t f) lang text g → CardText L words text g
+    card-written text g a =
+        let back = readback L words room unique .accepted t f lang text g pass a .reads in
         let (to, whole, keeps) = judging .accepted L words text g .0 (a .reads) in
         card-text L words text g (record { accepts = accepts L text g .0 back; enough = whole-good L words text g to whole .room }) keeps
 
@@ -70,56 +67,45 @@ module _ (L : Limits) (unique : L .unique ≡ true) (words room : ℕ) (t : List
         promised L t f to (whole-good L words t f to whole .read) .distinct unique
 
     pub localize-would : (ms : Members) → PatchOf (docOf t f) lang ms
-        → ((n : ℕ) (r : LocalRefusal) → n < 27 → ¬ BrokenCondition L words room (docOf t f) lang n r) → WouldBe L words t f ms
+        → Applicable L words room (docOf t f) lang → WouldBe L words t f ms
     localize-would ms patch u =
-        let h : Fine (docOf t f) ms = fine L words room (docOf t f) lang ms patch u in
         record {
-          starting = start-left (docOf t f) lang ms patch;
-          patched = patched-so L words room (start (docOf t f)) ms (h .noClash) (h .parents);
+          patched = patching L words room .patched (docOf t f) lang ms patch u;
           writes = readback L words room unique .written-card t f lang ms pass patch u;
         }
 
-    module _ (text : List ℕ) (g : Forest) (rows : PatchedRows L t f lang text g) where
-      abbrev ms : Members
-      ms = rows .members
+    steps : (ms : Members) → PatchOf (docOf t f) lang ms → (x : Doc) (p : Patched (start (docOf t f)) ms x) (fs : List Entry) → Perm (p .entries) fs
+        → (end : Doc) × (run fs (start (docOf t f)) ≡ some end) × Reordered end x
+    steps ms patch x p fs π =
+        let inside = find-distinct (patchAt lang) (docOf t f) (property (patch .label) (object ms)) distinct-card (patch .stands) in
+        let r = p .one-by-one fs π in
+        (r .end, r .reached, p .reordered (distinct-start (docOf t f) distinct-card) inside fs π)
 
-      patched-card : outcome ≡ done text g → Patched (start (docOf t f)) ms (docOf text g)
-      patched-card e =
-          let u = patching L words room .accepted (docOf t f) lang text g .0 (of-doc (done text g) e) .unbroken in
-          rw (rows .says) (localize-would ms (rows .patch) (λ m q l. u m q) .patched)
-
-      steps : outcome ≡ done text g → (fs : List Entry) → Perm (entriesOf ms) fs
-          → (end : Doc) × (run fs (start (docOf t f)) ≡ some end) × Reordered end (docOf text g)
-      steps e fs π =
-          let u = patching L words room .accepted (docOf t f) lang text g .0 (of-doc (done text g) e) .unbroken in
-          let h : Fine (docOf t f) ms = fine L words room (docOf t f) lang ms (rows .patch) (λ m q l. u m q) in
-          let p : Patched (start (docOf t f)) ms (patchedDoc (docOf t f) ms) = patched-so L words room (start (docOf t f)) ms (h .noClash) (h .parents) in
-          let inside = find-distinct (patchAt lang) (docOf t f) (property (rows .patch .label) (object ms)) distinct-card (rows .patch .stands) in
-          let r = p .one-by-one fs π in
-          (r .end, r .reached, rw (rows .says) (p .reordered (distinct-start (docOf t f) distinct-card) inside fs π))
-
-      shortest : (M : Limits) (u : List ℕ) (h : Forest) → Accepts M u h → docOf u h ≡ docOf text g → length text ≤ length u
-      shortest M u h a e =
-          let same = ap (λ (d : Doc). length (written d)) (e ∙ rows .says) in
-          omega (arith, text-shorter M u h (length u) (accepts M u h .1 a), same, ap length (rows .writes))
+    shortest : (text : List ℕ) (g : Forest) (ms : Members) → PatchedRows L t f ms text g
+        → (M : Limits) (u : List ℕ) (h : Forest) → Accepts M u h → docOf u h ≡ docOf text g → length text ≤ length u
+    shortest text g ms rows M u h a e =
+        let same = ap (λ (d : Doc). length (written d)) (e ∙ rows .says) in
+        omega (arith, text-shorter M u h (length u) (accepts M u h .1 a), same, ap length (rows .writes))
 
     localization : (text : List ℕ) (g : Forest) → outcome ≡ done text g → Localization L (served L) words room t f lang
     unfolding served sheetOfOutcome paperOfLocalized answerOfOutcome tableOfOutcome outputOfOutcome
     localization text g e =
-        let (h, k, rows) = readback L words room unique .accepted t lang text g e in
-        let tree : h ≡ f = cc in
-        let back : PatchedRows L t f lang text g = rw tree at rows in
+        let a : Accepted L words room (docOf t f) lang text g = patching L words room .accepted (docOf t f) lang text g .0 (of-doc (done text g) e) in
+        let back : PatchedRows L t f (a .members) text g = readback L words room unique .accepted t f lang text g pass a in
+        let patched : PatchedCard (docOf t f) (a .members) (docOf text g) =
+        rw (back .says) (patching L words room .patched (docOf t f) lang (a .members) (a .patch) (λ m q l. a .unbroken m q)) in
         record {
           text = text;
           tree = g;
           left = rw e;
-          patched = patching L words room .written-so (docOf t f) lang text g (of-doc (done text g) e);
+          members = a .members;
+          patch = a .patch;
           back = back;
-          patched-card = patched-card text g back e;
-          card = card-written text g e (rows .reads);
-          one-by-one = steps text g back e;
-          distinct = promised L text g (length text) (rows .reads) .distinct unique;
-          compact = shortest text g back;
+          patched = patched;
+          card = card-written text g a;
+          one-by-one = steps (a .members) (a .patch) (docOf text g) (patched .from-start);
+          distinct = promised L text g (length text) (back .reads) .distinct unique;
+          compact = shortest text g (a .members) back;
         }
 
     pub localize-patched : Passes (served L) (localize t lang words room) → Localization L (served L) words room t f lang

@@ -1,8 +1,8 @@
--- Entries of which no condition from 23 to 26 is broken: `fine`.
+-- A PatchObject of which no condition from 22 to 26 is broken: `fine`.
 -- Assumes nothing.
 use mathlib.Core.Path.{_≡_}
 use mathlib.Core.Bool.{false}
-use Prim.Native.Nat.{ℕ, _<_}
+use Prim.Native.Nat.{ℕ}
 use native.Mathlib.Omega.{arith}
 use Rattle.laws.proofs.Bools.{byTest}
 use Rattle.text.specs.Limits.{Limits}
@@ -10,19 +10,19 @@ use Rattle.text.specs.Doc.{Name, Doc, Members}
 use Rattle.contact.specs.Patch.{entriesOf, anyOwn, anyClash, anyWalk, isInArray, isNoObject}
 use Rattle.contact.specs.Localize.{start}
 use Rattle.contact.specs.Entries.{NoClash, ParentsThere}
-use Rattle.contact.specs.Conditions.{PatchOf, BrokenCondition, ownLocalizations, clashing, enteringArray, losingWay}
-use Rattle.contact.specs.declared.LocalRefusal.{LocalRefusal}
-use Rattle.contact.specs.declared.LocalRefusal.the-variants.{OwnLocalizations, Clash, InArray, NoObject}
+use Rattle.contact.specs.Conditions.{LooseTilde, HasKey, PatchOf, Applicable, badKey, ownLocalizations, clashing, enteringArray, losingWay}
+use Rattle.contact.specs.declared.LocalRefusal.the-variants.{BadKey, OwnLocalizations, Clash, InArray, NoObject}
 use Rattle.contact.proofs.Patching.Apart.{from-anyClash, from-anyWalk}
 use Rattle.contact.proofs.Patching.Found.{own-found, array-found, lost-found, clash-found}
 
 pub record Fine (card : Doc) (ms : Members) : Type 0 where
+  pub noneLoose : (key : Name) → HasKey key ms → ¬ LooseTilde key
   pub noneOwn : anyOwn (entriesOf ms) ≡ false
   pub noClash : NoClash (entriesOf ms)
   pub parents : ParentsThere (entriesOf ms) (start card)
 
 module _ (L : Limits) (words room : ℕ) (card : Doc) (lang : Name) (ms : Members) (patch : PatchOf card lang ms)
-    (unbroken : (m : ℕ) (q : LocalRefusal) → m < 27 → ¬ BrokenCondition L words room card lang m q) where
+    (unbroken : Applicable L words room card lang) where
   no-array : anyWalk isInArray (entriesOf ms) (start card) ≡ false
   no-array =
       byTest (anyWalk isInArray (entriesOf ms) (start card))
@@ -37,6 +37,7 @@ module _ (L : Limits) (words room : ℕ) (card : Doc) (lang : Name) (ms : Member
 
   pub fine : Fine card ms
   fine = record {
+    noneLoose = λ key there loose. unbroken 22 BadKey (omega arith) (badKey patch there loose);
     noneOwn = byTest (anyOwn (entriesOf ms))
         (λ b. let r = own-found ms b in absurd (unbroken 23 OwnLocalizations (omega arith) (ownLocalizations patch (r .there) (r .so))))
         (λ b. b);

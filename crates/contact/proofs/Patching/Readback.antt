@@ -25,15 +25,14 @@ use Rattle.text.proofs.Readback.Documents.{text-shorter}
 use Rattle.contact.specs.Judge.{Breach, nothing, found, cardBreach}
 use Rattle.contact.specs.Verdict.{refusedFault, refusedCard, Judged, passed, failed, faultOf, byBreach, judgedRead, judgedOf}
 use Rattle.contact.specs.Localize.{Outcome, refusedLocal, done, denied, localizedOf, patchedDoc}
-use Rattle.contact.specs.Conditions.{PatchOf, BrokenCondition, short, Smallest, Accepted}
+use Rattle.contact.specs.Conditions.{PatchOf, BrokenCondition, Applicable, short, Smallest, Accepted}
 use Rattle.contact.specs.Readback.{WrittenCard, PatchedRows, OnlyInner, deep, fault, Readback}
 use Rattle.contact.specs.declared.CardFault.the-variants.{Kind, Missing, Value, Rule}
 use Rattle.contact.specs.declared.CardRefusal.{CardRefusal}
 use Rattle.contact.specs.declared.CardRefusal.the-variants.{Text, Card}
-use Rattle.contact.specs.declared.LocalRefusal.{LocalRefusal}
 use Rattle.contact.specs.declared.LocalRefusal.the-variants.{Given, Short, Inner}
 use Rattle.contact.proofs.Judging.{judging}
-use Rattle.contact.proofs.Patching.Refused.{refused-iff, accepted-iff}
+use Rattle.contact.proofs.Patching.Refused.{refused-iff}
 use Rattle.contact.proofs.Patching.Public.{passed-so, failed-so}
 use Rattle.contact.proofs.Patching.Fine.{Fine, fine}
 use Rattle.contact.proofs.Patching.Again.{Modest, InnerOf, modest, inner-modest}
@@ -121,21 +120,18 @@ module _ (L : Limits) (words room : ℕ) (unique : L .unique ≡ true) where
     abbrev card : Doc
     card = docOf t f
 
-    card-written : (ms : Members) → PatchOf card lang ms → ((m : ℕ) (q : LocalRefusal) → m < 27 → ¬ BrokenCondition L words room card lang m q)
-        → WrittenCard L words t f (patchedDoc card ms)
+    card-written : (ms : Members) → PatchOf card lang ms → Applicable L words room card lang → WrittenCard L words t f (patchedDoc card ms)
     card-written ms patch u =
         let h : Fine card ms = fine L words room card lang ms patch u in
         modest-written L words t f pass (patchedDoc card ms) (modest L words t f unique pass lang ms patch (h .noClash) (h .parents))
 
-    rows-promised : (ms : Members) → PatchOf card lang ms → WrittenCard L words t f (patchedDoc card ms) → (g : Forest)
-        → judgedOf L words (written (patchedDoc card ms)) ≡ passed g → PatchedRows L t f lang (written (patchedDoc card ms)) g
-    rows-promised ms patch w g e =
+    rows-promised : (ms : Members) → WrittenCard L words t f (patchedDoc card ms) → (g : Forest)
+        → judgedOf L words (written (patchedDoc card ms)) ≡ passed g → PatchedRows L t f ms (written (patchedDoc card ms)) g
+    rows-promised ms w g e =
         let b = w .back in
         let tree : g ≡ rootOf (b .derives) = passed-tree w g e in
         let count = ap size tree ∙ b .count in
         record {
-          members = ms;
-          patch = patch;
           writes = refl;
           derives = b .derives;
           tree = tree;
@@ -146,12 +142,10 @@ module _ (L : Limits) (words room : ℕ) (unique : L .unique ≡ true) where
           fewer = omega (arith, w .fewer);
         }
 
-    accepted-rows : (text : List ℕ) (g : Forest) → localizedOf L words room t lang ≡ done text g → PatchedRows L t f lang text g
-    accepted-rows text g e =
-        let a : Accepted L words room card lang text g = accepted-iff L words room card lang text g .0 (sym (passed-so L words room t lang f pass) ∙ e) in
+    accepted-rows : (text : List ℕ) (g : Forest) (a : Accepted L words room card lang text g) → PatchedRows L t f (a .members) text g
+    accepted-rows text g a =
         let w = card-written (a .members) (a .patch) (λ m q l. a .unbroken m q) in
-        subst (λ (u : List ℕ). PatchedRows L t f lang u g) (sym (a .writes))
-        (rows-promised (a .members) (a .patch) w g (subst (λ (u : List ℕ). judgedOf L words u ≡ passed g) (a .writes) (a .reads)))
+        rw (a .writes) (rows-promised (a .members) w g (rw (a .writes) at (a .reads)))
 
     never-longer : (n : ℕ) → localizedOf L words room t lang ≡ denied (Short n) → (room < n) × (n ≤ length t)
     never-longer n e =
@@ -174,9 +168,8 @@ module _ (L : Limits) (words room : ℕ) (unique : L .unique ≡ true) where
   pub readback : Readback L words room
   readback = record {
     written-card = λ t f lang ms pass patch u. card-written t f lang pass ms patch u;
-    accepted = λ t lang text g e.
-        let (f, pass) = passed-text t lang (done text g) e (λ r z. let n : _≡_ {A = ℕ} 0 1 = cc in omega arith) in
-        (f, pass, accepted-rows t f lang pass text g e);
+    card-text = λ t lang text g e. passed-text t lang (done text g) e (λ r z. let n : _≡_ {A = ℕ} 0 1 = cc in omega arith);
+    accepted = λ t f lang text g pass. accepted-rows t f lang pass text g;
     enough = λ t lang n e.
         let (f, pass) = passed-text t lang (denied (Short n)) e (λ r z. let k : _≡_ {A = ℕ} 0 1 = cc in omega arith) in
         never-longer t f lang pass n e;

@@ -14,18 +14,15 @@ use Rattle.laws.specs.Order.{same}
 use Rattle.text.specs.Limits.{Limits}
 use Rattle.text.specs.Text.{bytes}
 use Rattle.text.specs.Tree.{Forest}
-use Rattle.text.specs.Doc.{Name, Doc, object, Members, empty, member, Property, property, seek, docOf, scalar, array, kindOf}
+use Rattle.text.specs.Doc.{Name, Doc, object, Members, empty, member, Property, property, seek, docOf, scalar, array}
 use Rattle.contact.specs.Verdict.{passed, judgedOf}
-use Rattle.contact.specs.Pointer.{last, badTilde, find, within, Pointer, down, firstPart, lastPart, pointerOf}
-use Rattle.contact.specs.PointerText.{PointerText}
-use borrow.Author.Tests.{ne-eqb}
-use native.Mathlib.Omega.{arith}
-use Rattle.contact.specs.Patch.{Change, remove, set, changeOf, Entry, entriesOf, anyBadKey, anyClash, isInArray, isNoObject, without, applied, entry, added, kept, anyOwn}
-use Rattle.contact.specs.Localize.{done, start, byEntries, inPatch, withPatch, localizedDoc, localizedOf, patchedDoc}
-use Rattle.contact.specs.Entries.{Shuffled, asIs, keepFirst, swapFirst, andOn, NoClash, ParentsThere, Apart, ApartFrom, HasEntry, now, past, valued}
-use Rattle.contact.specs.Conditions.{PatchOf, Accepted}
-use Rattle.contact.specs.Patching.{Rearranged, rearranged, AtMember, thisOne, laterOne, InMember, inMember, OrderOnly, RunsTo, HasValue, first, later, Patched, LeftOut, noMore, goes, stays, LeftOutOf, leftOut, PatchedText, Patching}
-use Rattle.contact.proofs.Patching.Pointers.{key-iff}
+use Rattle.contact.specs.Pointer.{last, badTilde, find, within, Pointer, down, firstPart}
+use Rattle.contact.specs.Patch.{Entry, entriesOf, anyBadKey, anyClash, isInArray, isNoObject, without, applied, entry, added, kept, anyOwn}
+use Rattle.contact.specs.Localize.{start, byEntries, inPatch, withPatch, localizedDoc, localizedOf, patchedDoc}
+use Rattle.contact.specs.Entries.{Shuffled, asIs, keepFirst, swapFirst, andOn, NoClash, ParentsThere, Apart, ApartFrom}
+use Rattle.contact.specs.Conditions.{LooseTilde, HasKey, PatchOf, Applicable}
+use Rattle.contact.specs.Patching.{Rearranged, rearranged, AtMember, thisOne, laterOne, InMember, inMember, OrderOnly, RunsTo, Patched, LeftOut, noMore, goes, stays, LeftOutOf, leftOut, PatchedCard, Patching}
+use Rattle.contact.proofs.Patching.Asked.{asked-of}
 use Rattle.contact.proofs.Patching.Names.{same-no, same-yes, byName}
 use Rattle.contact.proofs.Patching.Order.{any-order}
 use Rattle.contact.proofs.Patching.Untouched.{untouched}
@@ -111,33 +108,35 @@ start-members n (member m label d ms) =
     (λ ne. simp (same-no ne) (stays ne (start-members n ms)))
 
 -- a card with a PatchObject is an object
-pub start-left : (card : Doc) (lang : Name) (ms : Members) → PatchOf card lang ms → LeftOutOf localizations card (start card)
+start-left : (card : Doc) (lang : Name) (ms : Members) → PatchOf card lang ms → LeftOutOf localizations card (start card)
 start-left (scalar k t) lang ms p = absurd (Option·none-ne-some _ (p .stands))
 start-left (array xs) lang ms p = absurd (Option·none-ne-some _ (p .stands))
 start-left (object os) lang ms p = leftOut (start-members localizations os)
 
--- ---- a member of the PatchObject is an entry
+-- ---- entries of which no condition is broken
 
-has-entry : {key : Name} {v : Doc} {ms : Members} → HasValue key v ms → HasEntry (pointerOf key) (changeOf v) (entriesOf ms)
-has-entry first = now
-has-entry (later h) = past (has-entry h)
-
-change-set : (v : Doc) → ¬ (kindOf v ≡ 1) → changeOf v ≡ set v
-change-set (scalar kind token) h = rw (ne-eqb kind 1 h) refl
-change-set (array xs) h = refl
-change-set (object ms) h = refl
-
-change-null : (v : Doc) → kindOf v ≡ 1 → changeOf v ≡ remove
-change-null (scalar kind token) h = rw h refl
-change-null (array xs) h = absurd (omega arith)
-change-null (object ms) h = absurd (omega arith)
-
-module _ (d : Doc) (ms : Members) (nc : NoClash (entriesOf ms)) (pt : ParentsThere (entriesOf ms) d) where
-  has-way : (key : Name) (v : Doc) (p : Pointer) → HasValue key v ms → PointerText key p
-      → find p (applied d (entriesOf ms)) ≡ valued (lastPart p) (changeOf v) (find p d)
-  has-way key v p h w =
-      let e : p ≡ pointerOf key = key-iff key p .0 w .1 in
-      rw e (effect (pointerOf key) (changeOf v) d (entriesOf ms) nc pt (has-entry h))
+patched-so : (d : Doc) (ms : Members) → ((key : Name) → HasKey key ms → ¬ LooseTilde key) → NoClash (entriesOf ms) → ParentsThere (entriesOf ms) d
+    → Patched d ms (applied d (entriesOf ms))
+patched-so d ms nl nc pt =
+    let es : List Entry = entriesOf ms in
+    let x : Doc = applied d es in
+    let runs : (fs : List Entry) → Perm es fs → RunsTo fs d x = λ fs π. in-any-order es fs d π nc pt in
+    record {
+      entries = es;
+      asked = asked-of ms nl;
+      one-by-one = runs;
+      reordered = λ h k fs π.
+          let v : DistinctValues es = entries-values ms k in
+          same-reordered (runs fs π .end) x
+          (distinct-run fs d (runs fs π .end) (perm-values π v) h (runs fs π .reached))
+          (distinct-applied d es nc v h)
+          (runs fs π .alike);
+      distinct = λ h k. distinct-applied d es nc (entries-values ms k) h;
+      effects = λ p c h. effect p c d es nc pt h;
+      keeps = λ p h. untouched p d es nc (clear-apart p es h);
+      root = λ os e. (kept os es (added os es), ap (λ (y : Doc). applied y es) e, laid-root os es nc);
+      below = λ p label os h e. laid-below p d es label os nc h e;
+    }
 
 module _ (L : Limits) (words room : ℕ) where
   -- the tests come out the same; and if no two pointers clash, so does the document
@@ -176,46 +175,16 @@ module _ (L : Limits) (words room : ℕ) where
   order-of-texts t u lang f g p q x =
       passed-so L words room t lang f p ∙ card-order (docOf t f) (docOf u g) lang x ∙ sym (passed-so L words room u lang g q)
 
-  -- ---- what an accepted localization has written
+  -- ---- the patched card
 
-  -- entries of which no condition is broken
-  pub patched-so : (d : Doc) (ms : Members) → NoClash (entriesOf ms) → ParentsThere (entriesOf ms) d → Patched d ms (applied d (entriesOf ms))
-  patched-so d ms nc pt =
-      let es : List Entry = entriesOf ms in
-      let x : Doc = applied d es in
-      let runs : (fs : List Entry) → Perm es fs → RunsTo fs d x = λ fs π. in-any-order es fs d π nc pt in
+  patched-card : (card : Doc) (lang : Name) (ms : Members) → PatchOf card lang ms → Applicable L words room card lang → PatchedCard card ms (patchedDoc card ms)
+  patched-card card lang ms patch u =
+      let h : Fine card ms = fine L words room card lang ms patch u in
       record {
-        one-by-one = runs;
-        reordered = λ h k fs π.
-            let v : DistinctValues es = entries-values ms k in
-            same-reordered (runs fs π .end) x
-            (distinct-run fs d (runs fs π .end) (perm-values π v) h (runs fs π .reached))
-            (distinct-applied d es nc v h)
-            (runs fs π .alike);
-        distinct = λ h k. distinct-applied d es nc (entries-values ms k) h;
-        effects = λ p c h. effect p c d es nc pt h;
-        sets = λ key v p h w k. has-way d ms nc pt key v p h w ∙ ap (λ (c : Change). valued (lastPart p) c (find p d)) (change-set v k);
-        removes = λ key v p h w k. has-way d ms nc pt key v p h w ∙ ap (λ (c : Change). valued (lastPart p) c (find p d)) (change-null v k);
-        keeps = λ p h. untouched p d es nc (clear-apart p es h);
-        root = λ os e. (kept os es (added os es), ap (λ (y : Doc). applied y es) e, laid-root os es nc);
-        below = λ p label os h e. laid-below p d es label os nc h e;
-      }
-
-  written-so : (card : Doc) (lang : Name) (text : List ℕ) (f : Forest) → localizedDoc L words room card lang ≡ done text f → PatchedText card lang text
-  written-so card lang text f e =
-      let a : Accepted L words room card lang text f = accepted-iff L words room card lang text f .0 e in
-      let h : Fine card (a .members) = fine L words room card lang (a .members) (a .patch) (λ m q l. a .unbroken m q) in
-      record {
-        members = a .members;
-        patch = a .patch;
-        result = patchedDoc card (a .members);
-        writes = a .writes;
-        patched = patched-so (start card) (a .members) (h .noClash) (h .parents);
-        starting = start-left card lang (a .members) (a .patch);
+        starting = start-left card lang ms patch;
         started = start-else card;
-        unlocalized =
-            untouched (last localizations) (start card) (entriesOf (a .members)) (h .noClash) (own-apart (entriesOf (a .members)) (h .noneOwn))
-            ∙ start-has-none card;
+        from-start = patched-so (start card) ms (h .noneLoose) (h .noClash) (h .parents);
+        unlocalized = untouched (last localizations) (start card) (entriesOf ms) (h .noClash) (own-apart (entriesOf ms) (h .noneOwn)) ∙ start-has-none card;
       }
 
   pub patching : Patching L words room
@@ -226,6 +195,5 @@ module _ (L : Limits) (words room : ℕ) where
     order-of-texts = order-of-texts;
     refused = λ card lang. refused-iff L words room card lang;
     accepted = λ card lang. accepted-iff L words room card lang;
-    keys = λ key. key-iff key;
-    written-so = written-so;
+    patched = patched-card;
   }
