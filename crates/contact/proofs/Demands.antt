@@ -30,13 +30,14 @@ use Rattle.contact.specs.Localize.{Outcome, done, denied, localizedOf, s
 use Rattle.contact.specs.Services.{Call, read, judge, localize, wordsOf, roomOf, leaves, served}
 use Rattle.contact.specs.Demands.{Lines, Ends, acceptance, refusal, Demands}
 use Rattle.contact.proofs.Judging.{judging}
+use Rattle.contact.proofs.Judging.Signatures.{as-signed}
 use Rattle.contact.proofs.Patching.Pointers.{key-iff}
 use Rattle.contact.proofs.Patching.Asked.{one-asking}
 use Rattle.contact.proofs.Patching.Together.{patching}
 use Rattle.contact.proofs.Patching.Contract.{one-outcome, one-order, output-fits}
 use Rattle.contact.proofs.Patching.Readback.{readback}
 use Rattle.contact.proofs.Demands.Sheet.{OnLine, on-line, text-line, card-line, local-line}
-use Rattle.contact.proofs.Demands.Reading.{read-documents, card-passed, read-passes, read-rows, read-describes, read-long, read-fault, read-short, judge-unread, judge-passes, judge-rows, judge-offends, judge-offender}
+use Rattle.contact.proofs.Demands.Reading.{read-documents, card-passed, read-passes, read-rows, read-describes, read-words, read-long, read-fault, read-short, judge-unread, judge-passes, judge-rows, judge-offends}
 use Rattle.contact.proofs.Demands.AnyOrder.{reordered-only, order-card, order-number}
 use Rattle.contact.proofs.Demands.Localizing.{of-doc, card-written, localize-own, localize-patched, localize-accepted, localize-would, localize-refused, localize-room, localize-inner}
 
@@ -102,8 +103,9 @@ module _ (L : Limits) (unique : L .unique ≡ true) (six : L .words ≡ rowWords
     reading-and-judging = record {
       accepts = λ t words. read-passes L words t;
       rows = λ t words. read-rows L words t;
-      documents = λ t words. read-documents L words t;
       describe = λ t words. read-describes L words t;
+      each-row = λ t words. read-words L words t;
+      documents = λ t words. read-documents L words t;
       too-long = λ t words. read-long L words t;
       first-fault = λ t within words. read-fault L words t within;
       rows-short = λ t words. read-short L words t;
@@ -111,7 +113,7 @@ module _ (L : Limits) (unique : L .unique ≡ true) (six : L .words ≡ rowWords
       passes = λ t words. judge-passes L words t;
       card-rows = λ t words. judge-rows L words t;
       offends = λ t words. judge-offends L words t;
-      offender = λ t words. judge-offender L words t;
+      signed = as-signed;
     };
     localizing = record {
       own = λ t lang words room. localize-own L unique words room t lang;

@@ -41,7 +41,6 @@ use Rattle.contact.specs.declared.Verdict.{Verdict}
 use Rattle.contact.specs.declared.Verdict.the-variants.{Passed, Failed}
 use Rattle.contact.proofs.Judging.SimpleValues.{id-test, count-test}
 use Rattle.contact.proofs.Judging.Times.{leap-test, day-test, time-test}
-use Rattle.contact.proofs.Judging.Signatures.{as-signed}
 use Rattle.contact.proofs.Judging.BetweenMembers.{between-test}
 use Rattle.contact.proofs.Judging.Breaches.{broken-row, Least, unbroken, at-first, first-breach}
 
@@ -183,7 +182,6 @@ one-answer a b e = sym (answer-back a) ∙ ap verdictOn e ∙ answer-back b
 
 pub judging : Judging
 judging = record {
-  types = as-signed;
   ids = λ n. iff (id-test n);
   counts = λ low high token. iff (count-test low high token);
   leap-years = λ y. iff (leap-test y);

@@ -10,11 +10,13 @@ use mathlib.Core.Path.{_≡_}
 use mathlib.Core.Logic.{_⊎_, _↔_}
 use mathlib.Core.List.{List, []}
 use mathlib.Core.Option.{some}
-use lib.ListN.{length, getD, replicate}
+use lib.ListN.{length, replicate}
 use Rattle.laws.specs.Lists.{filled}
 use Rattle.laws.specs.Sorting.{Perm}
 use Rattle.text.specs.Limits.{Limits, rowWords}
-use Rattle.text.specs.Tree.{Forest, size, rowsOf, startsOf}
+use Rattle.text.specs.Tree.{Forest, size, rowsOf}
+use Rattle.text.specs.Seats.{Head, Seat, top, Sits}
+use Rattle.text.specs.Standing.{RowAt}
 use Rattle.text.specs.Sheet.{numbers, paper}
 use Rattle.text.specs.Whole.{wholeOf, sheetOf, tableOf}
 use Rattle.text.specs.Doc.{Name, Doc, Members, docOf}
@@ -29,6 +31,7 @@ use Rattle.contact.specs.Pointer.{Pointer, pointerOf}
 use Rattle.contact.specs.PointerText.{PointerText}
 use Rattle.contact.specs.Patch.{Entry, run}
 use Rattle.contact.specs.Localize.{refusedLocal, start, patchedDoc}
+use Rattle.contact.specs.Signatures.{AsSigned}
 use Rattle.contact.specs.Breaches.{Keeps, FirstBreach}
 use Rattle.contact.specs.Judging.{Judges}
 use Rattle.contact.specs.Conditions.{LooseTilde, PatchOf, BrokenCondition, Applicable, Smallest}
@@ -102,13 +105,17 @@ pub record RowsShort (L : Limits) (words : ℕ) (t : List ℕ) (n : ℕ) : Type 
   pub short : words < L .words * size tree
   pub needed : n ≡ size tree
 
--- t is read, the rule of number n is the first that it breaks as a card, and p is where the value of that row starts
+-- t is read, the rule of number n is the first that the document that it says breaks, on the row of one of its values, and p is where that value starts
 pub record Offends (L : Limits) (words : ℕ) (t : List ℕ) (n p : ℕ) : Type 0 where
   pub tree : Forest
   pub readable : Readable L words t tree
-  pub row : ℕ
-  pub first : FirstBreach (docOf t tree) row n
-  pub place : p ≡ getD (startsOf tree) row 0
+  pub document : Doc
+  pub says : Tells t tree document
+  pub seat : Seat
+  pub offender : Head
+  pub stands : Sits top tree seat offender
+  pub first : FirstBreach document (seat .after) n
+  pub place : p ≡ offender .from
 
 -- demand 2, of reading and judging a text
 pub record ReadingAndJudging (L : Limits) (serve : Call → Left) : Type 0 where
@@ -117,10 +124,13 @@ pub record ReadingAndJudging (L : Limits) (serve : Call → Left) : Type 0 where
   -- it leaves the rows of that text's tree, one for each value
   pub rows : (t : List ℕ) (words : ℕ) (f : Forest) → Readable L words t f
       → serve (read t words) ≡ leaves (numbers 0 (size f) 0) (filled words (rowsOf f)) []
-  -- the document of a text that is read is what it says, white space or not: names and strings by what they spell, the rest as written, in its order
-  pub documents : (t : List ℕ) (words : ℕ) (f : Forest) → Readable L words t f → (d : Doc) → Tells t f d ↔ (d ≡ docOf t f)
   -- and these describe the text: the tree stands in the table and lies in the text
   pub describe : (t : List ℕ) (words : ℕ) (f : Forest) → Readable L words t f → Filled L t (serve (read t words) .table) (size f) f
+  -- word by word: the row of each value has its kind, where its name and the value itself start and end, and how many values are below it
+  pub each-row : (t : List ℕ) (words : ℕ) (f : Forest) → Readable L words t f → (d : Seat) (h : Head) → Sits top f d h
+      → RowAt (serve (read t words) .table) (d .after) h
+  -- the document of a text that is read is what it says, white space or not: names and strings by what they spell, the rest as written, in its order
+  pub documents : (t : List ℕ) (words : ℕ) (f : Forest) → Readable L words t f → (d : Doc) → Tells t f d ↔ (d ≡ docOf t f)
   -- any other text is refused: by 1 if it is too long
   pub too-long : (t : List ℕ) (words second : ℕ) → (serve (read t words) .answer ≡ numbers 1 second 0) ↔ ((L .bytes < length t) × (second ≡ 0))
   -- else by 2 to 6 if it has such a fault, by the one of smallest place and then of smallest number
@@ -136,8 +146,8 @@ pub record ReadingAndJudging (L : Limits) (serve : Call → Left) : Type 0 where
   -- otherwise the first offending place and its rule come back, of any text that is read
   pub offends : (t : List ℕ) (words n p : ℕ) → Passes serve (read t words) → 0 < n
       → (serve (judge t words) .answer ≡ numbers n p 0) ↔ Offends L words t n p
-  -- and the row of that place is one of the text's
-  pub offender : (t : List ℕ) (words n p : ℕ) (o : Offends L words t n p) → o .row < size (o .tree)
+  -- what types and properties the rules are about: the table is what the signatures of RFC 9553 say
+  pub signed : AsSigned
 
 -- ---- demand 3: localizing
 

@@ -16,7 +16,6 @@ use Rattle.text.specs.Whole.{wholeOf}
 use Rattle.text.specs.Doc.{Name, Doc, Members, docOf}
 use Rattle.text.specs.declared.Refusal.{Refusal}
 use Rattle.contact.specs.Schema.{ObjectType}
-use Rattle.contact.specs.Signatures.{AsSigned}
 use Rattle.contact.specs.Values.{isId, isCount}
 use Rattle.contact.specs.Dates.{isLeap, isDay, isTime}
 use Rattle.contact.specs.Rules.{breaks}
@@ -45,8 +44,6 @@ pub record Judges (L : Limits) (text lent : List ℕ) (answer : Verdict) (left :
 
 -- all that is shown of judging
 pub record Judging : Type 0 where
-  -- the table of types is what the RFC's signatures say
-  pub types : AsSigned
   -- the tests of single values tell just what specs/SimpleValues.antt says
   pub ids : (n : Name) → (isId n ≡ true) ↔ Id n
   pub counts : (low high : ℕ) (token : List ℕ) → (isCount low high token ≡ true) ↔ UnsignedInt low high token

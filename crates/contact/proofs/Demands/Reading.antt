@@ -5,16 +5,17 @@ use native.Mathlib.Omega.{arith}
 use mathlib.Core.Path.{_≡_, refl, sym, ap, subst, _∙_}
 use mathlib.Core.Logic.{_↔_}
 use mathlib.Core.List.{List, []}
-use lib.ListN.{length}
+use lib.ListN.{length, getD}
 use borrow.Author.Tests.{lt-ltb, le-ltb}
 use Rattle.laws.specs.Lists.{filled}
 use Rattle.laws.proofs.Branches.{if-less}
 use Rattle.text.specs.Limits.{Limits}
 use Rattle.text.specs.Tokens.{skip}
-use Rattle.text.specs.Tree.{Forest, size, rowsOf}
+use Rattle.text.specs.Tree.{Forest, size, rowsOf, startsOf}
 use Rattle.text.specs.Reader.{Read, good, bad}
 use Rattle.text.specs.Grammar.{value}
-use Rattle.text.specs.Seats.{top}
+use Rattle.text.specs.Seats.{Head, Seat, top, Sits}
+use Rattle.text.specs.Standing.{RowAt}
 use Rattle.text.specs.declared.Paper.{Paper}
 use Rattle.text.specs.Sheet.{numbers, refused}
 use Rattle.text.specs.Whole.{readOf, fitOf, wholeOf, sheetOf, tableOf}
@@ -33,6 +34,7 @@ use Rattle.text.proofs.Grammar.Rules.{wrong-number, breaks-wrong}
 use Rattle.text.proofs.Grammar.Wholes.{root-told, read-inside}
 use Rattle.text.proofs.Grammar.Accepted.{accepts, accepts-whole}
 use Rattle.text.proofs.Grammar.Refused.{refuses, too-long}
+use Rattle.text.proofs.Rows.{row-at, row-filled, value-start}
 use Rattle.text.proofs.Telling.{tells-iff}
 use Rattle.contact.specs.Verdict.{refusedCard, Judged, passed, failed, judgedRead, judgedOf, sheetOfJudged, tableOfJudged, paperOfVerdict}
 use Rattle.contact.specs.Breaches.{Keeps}
@@ -102,6 +104,9 @@ module _ (L : Limits) (words : ℕ) (t : List ℕ) where
   pub read-describes : (f : Forest) → Readable L words t f → Filled L t (served L (read t words) .table) (size f) f
   read-describes f r =
       rw (read-rows f r) (record { promised = promised L t f (length t) (accepts L t f .1 (r .accepts)); stands = filled-stands words f })
+
+  pub read-words : (f : Forest) → Readable L words t f → (d : Seat) (h : Head) → Sits top f d h → RowAt (served L (read t words) .table) (d .after) h
+  read-words f r d h i = row-at (served L (read t words) .table) f (read-describes f r .stands .stands) d h i
 
   pub read-long : (second : ℕ) → (served L (read t words) .answer ≡ numbers 1 second 0) ↔ ((L .bytes < length t) × (second ≡ 0))
   unfolding served wholeOf fitOf sheetOf refused
@@ -197,11 +202,22 @@ module _ (L : Limits) (words : ℕ) (t : List ℕ) where
       go (unread {r = r} k) e = let z : sheetOf (bad r) .number ≡ 0 = rw k at reads in absurd (omega (arith, line-of (text-line r)))
       go (passes k h) e = absurd (omega (arith, same-number e))
       go (breaks-first {f = f} {to = to} {row = row} k h) e =
-          record { tree = f; readable = good-readable f to k; row = row; first = rw (same-number e) at h; place = sym (same-second e) }
+          let r = good-readable f to k in
+          let v = row-filled f row (judging .place L words t f to row _ k h) in
+          record {
+            tree = f;
+            readable = r;
+            document = docOf t f;
+            says = document-told f r;
+            seat = v .seat;
+            offender = v .head;
+            stands = v .there;
+            first = rw (v .row, ← same-number e) h;
+            place = sym (same-second e) ∙ ap (λ (i : ℕ). getD (startsOf f) i 0) (sym (v .row)) ∙ value-start f (v .there);
+          }
 
       back : Offends L words t n p → sheetOfJudged (judgedOf L words t) ≡ numbers n p 0
       back o =
-          sym (judging .answer L words t _ _ .1 (breaks-first (readable-good (o .tree) (o .readable)) (o .first)) .0) ∙ ap (λ (k : ℕ). numbers n k 0) (sym (o .place))
-
-  pub judge-offender : (n p : ℕ) (o : Offends L words t n p) → o .row < size (o .tree)
-  judge-offender n p o = judging .place L words t (o .tree) (length t) (o .row) n (readable-good (o .tree) (o .readable)) (o .first)
+          let is = read-documents (o .tree) (o .readable) (o .document) .0 (o .says) in
+          sym (judging .answer L words t _ _ .1 (breaks-first (readable-good (o .tree) (o .readable)) (rw is at (o .first))) .0)
+          ∙ ap (λ (k : ℕ). numbers n k 0) (value-start (o .tree) (o .stands) ∙ sym (o .place))
