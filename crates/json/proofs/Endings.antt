@@ -24,7 +24,7 @@ use Rattle.text.specs.declared.Refusal.the-variants.{TooLong, Grammar, Characte
 use Rattle.text.specs.declared.Reading.{Reading}
 use Rattle.text.specs.declared.Reading.the-variants.{Rows, Refused}
 use Rattle.text.proofs.Standing.{rows-length}
-use Rattle.text.proofs.Fewer.{NotMany, bad-whole, first-size, first-good, first-bad, many-small}
+use Rattle.text.proofs.Fewer.{NotMany, whole-bad, first-size, first-good, first-bad, many-small}
 use Rattle.json.specs.Parts.{upTo}
 use Rattle.json.specs.Answers.{Room, Ended, isMany, againOf, Whole}
 
@@ -79,7 +79,7 @@ module _ (words limit : ℕ) (t new : List ℕ) (room : Room words limit) where
 
   -- refused by a reading that takes as many values as 01 allows
   pub whole-all : limit ≡ base .values → (r : Refusal) → readOf (upTo limit) t ≡ bad r → wholeOf base words t ≡ bad r
-  whole-all e r b = bad-whole words t r (rw e at b)
+  whole-all e r b = whole-bad base words t r (rw e at b)
 
   -- refused for another reason than one value too many
   pub whole-other : (r : Refusal) → isMany r ≡ false → readOf (upTo limit) t ≡ bad r → wholeOf base words t ≡ bad r
@@ -92,7 +92,7 @@ module _ (words limit : ℕ) (t new : List ℕ) (room : Room words limit) where
     where
       go : (R : Read) → readOf base t ≡ R → Whole (wholeOf base words t) words new a
       go (good f to) q = rw (e, q) (many-small words t limit (room .few) (room .most l) p f to b q)
-      go (bad x) q = rw (e, q) (bad-whole words t x q)
+      go (bad x) q = rw (e, q) (whole-bad base words t x q)
   whole-again l TooLong m b a e = let z : _≡_ {A = ℕ} 0 1 = cc in absurd (omega arith)
   whole-again l (Grammar p) m b a e = let z : _≡_ {A = ℕ} 0 1 = cc in absurd (omega arith)
   whole-again l (Character p) m b a e = let z : _≡_ {A = ℕ} 0 1 = cc in absurd (omega arith)

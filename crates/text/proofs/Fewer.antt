@@ -4,7 +4,7 @@
 -- The answer for a table of so many words, from a reading with as many values as it has rows, v ≤ 2,048:
 --     first-good, first-size           what is accepted stands, and has room
 --     first-bad                        what is refused for another reason than one value too many stands
---     many-small, bad-whole            one value too many: 01's number of values decides, by a refusal that stands, or by 7
+--     many-small, whole-bad            one value too many: 01's number of values decides, by a refusal that stands, or by 7
 -- Assumes nothing.
 use Prim.Native.Nat.{ℕ, zero, suc, _+_, _-_, _*_, _≤_, _<_}
 use mathlib.Core.Path.{_≡_, sym, subst, _∙_}
@@ -299,13 +299,14 @@ module _ (L : Limits) (t : List ℕ) where
   unfolding readOf
   read-fewer v w le h = rw (le-ltb (L .bytes) (length t) h) (end-fewer t (value-fewer L t v w le (L .depth) 0 0 (skip t 0) 0))
 
+-- what reading refuses is refused so whatever the table's room: 7 comes after all others
+pub whole-bad : (L : Limits) (words : ℕ) (t : List ℕ) (r : Refusal) → readOf L t ≡ bad r → wholeOf L words t ≡ bad r
+unfolding wholeOf fitOf
+whole-bad L words t r e = rw e
+
 -- ---- a table of so many words: from a reading with v values to the whole answer, for 01's limits ----
 
 module _ (words : ℕ) (t : List ℕ) where
-  pub bad-whole : (r : Refusal) → readOf base t ≡ bad r → wholeOf base words t ≡ bad r
-  unfolding wholeOf fitOf
-  bad-whole r e = rw e
-
   pub good-whole : (f : Forest) (to : ℕ) → rowWords * size f ≤ words → readOf base t ≡ good f to → wholeOf base words t ≡ good f to
   unfolding wholeOf fitOf
   good-whole f to h e = rw (e, le-ltb words (rowWords * size f) h)
@@ -331,11 +332,11 @@ module _ (words : ℕ) (t : List ℕ) where
     -- what is refused for any reason but one value too many stands, whatever the table
     pub first-bad : (r : Refusal) → NotMany r → readOf (withValues base v) t ≡ bad r → wholeOf base words t ≡ bad r
     first-bad r m e = elim (decLe (length t) (base .bytes)) [
-      | yes h ↦ bad-whole r (bad-too r m (read-fewer base t v (base .values) few h) e)
-      | no h ↦ bad-whole r (long-text base t (omega arith) ∙ sym (long-text (withValues base v) t (omega arith)) ∙ e)
+      | yes h ↦ whole-bad base words t r (bad-too r m (read-fewer base t v (base .values) few h) e)
+      | no h ↦ whole-bad base words t r (long-text base t (omega arith) ∙ sym (long-text (withValues base v) t (omega arith)) ∙ e)
     ]
 
-    -- one value too many: the reading with 01's number of values decides; what it refuses stands (bad-whole), what it accepts does not fit
+    -- one value too many: the reading with 01's number of values decides; what it refuses stands (whole-bad), what it accepts does not fit
     pub many-small : words < rowWords * suc v → (p : ℕ) (f : Forest) (to : ℕ) → readOf (withValues base v) t ≡ bad (Many p) → readOf base t ≡ good f to
         → wholeOf base words t ≡ bad (Small (size f))
     many-small room p f to e g = elim (decLe (length t) (base .bytes)) [

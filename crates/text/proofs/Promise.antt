@@ -4,6 +4,7 @@
 --     rows-tree             after `Rows n` there is one tree of n values whose rows are the table's first n (`Filled`, specs/Promised.antt): one root,
 --                           that stands in the text (`Placed`, specs/Placed.antt), names distinct, limits kept
 --     refusal-is            after `Refused r` the definition refuses with r, and the table is zero
+--     whole-bad             what is refused of the text is refused whatever the table's room
 --     paper-unique, refused-unique, answer-is, same-outcome      the answer and the table are determined
 --
 -- The values that stand in a table from a row on, first value first (specs/Standing.antt, specs/Firsts.antt):
@@ -55,6 +56,7 @@ use Rattle.text.proofs.Induction.{read-accepted}
 use Rattle.text.proofs.Fewer.{value-fits}
 use Rattle.text.proofs.Placing.{placed-text, single-value}
 use Rattle.text.proofs.Documents.{distinct-names}
+pub use Rattle.text.proofs.Fewer.{whole-bad}
 pub use Rattle.text.proofs.Outcomes.{paper-unique, refused-unique, answerOf, answer-is, Outcome, same-outcome}
 pub use Rattle.text.proofs.Standing.{
   rows-length,
@@ -161,11 +163,6 @@ whole-good L words t f to e = go (readOf L t) refl e
     go : (r : Read) → readOf L t ≡ r → fitOf L words r ≡ good f to → Fits L words t f to
     go (bad r) h q = let z : _≡_ {A = ℕ} 0 1 = cc in absurd (omega arith)
     go (good g end) h q = fit g end h (ltb words (L .words * size g)) refl q
-
--- what reading refuses is refused so whatever the table's room: 7 comes after all others
-pub whole-bad : (L : Limits) (words : ℕ) (t : List ℕ) (r : Refusal) → readOf L t ≡ bad r → wholeOf L words t ≡ bad r
-unfolding wholeOf fitOf
-whole-bad L words t r e = rw e
 
 -- an answer and a table that meet reading's contract
 module _ (L : Limits) (words : ℕ) (t table : List ℕ) (is : table ≡ tableOf words (wholeOf L words t)) where

@@ -4,7 +4,7 @@ use borrow.Author.Needs.{needs}
 use Rattle.text.specs.Limits.{base}
 use Rattle.text.specs.Whole.{wholeOf}
 use Rattle.text.specs.declared.Refusal.the-variants.{TooLong}
-use Rattle.text.proofs.Fewer.{long-text, bad-whole}
+use Rattle.text.proofs.Fewer.{long-text, whole-bad}
 use Rattle.json.proofs.Endings.{paper-rows, paper-refused}
 use Rattle.json.proofs.read.read.Statement.{statement}
 use Rattle.json.proofs.read.read.Tie as tie
@@ -20,7 +20,7 @@ returns c =
     let a = c .before .before .before .before .before .before .before .args in
     let w = length (a .table .now) in
     paper-refused (wholeOf base w (a .text .now)) w (c .before .before .before .clear-words .last .0) TooLong
-    (bad-whole w (a .text .now) TooLong (long-text base (a .text .now) (c .if1 .taken))) (c .before .before .before .clear-words .ensures)
+    (whole-bad base w (a .text .now) TooLong (long-text base (a .text .now) (c .if1 .taken))) (c .before .before .before .clear-words .ensures)
 
 read-short-requires : tie.Need-read-short-requires
 read-short-requires c κs =
