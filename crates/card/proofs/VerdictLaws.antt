@@ -14,9 +14,8 @@ use Rattle.text.specs.Limits.{base}
 use Rattle.text.specs.Tree.{Forest, size, startsOf}
 use Rattle.text.specs.Firsts.{Kinds}
 use Rattle.text.specs.Doc.{docOf}
-use Rattle.text.specs.Sheet.{paper}
 use Rattle.text.specs.Reader.{good}
-use Rattle.text.specs.Whole.{wholeOf, sheetOf, tableOf}
+use Rattle.text.specs.Whole.{wholeOf, tableOf, Reads}
 use Rattle.text.specs.declared.Refusal.{Refusal}
 use Rattle.text.specs.declared.Reading.the-variants.{Rows, Refused}
 use Rattle.text.proofs.Promise.{placed-kinds, start-at, rows-tree, refusal-is}
@@ -46,17 +45,17 @@ module _ {t table : List ℕ} {n : ℕ} {f : Forest} (h : ReadInto t table n f) 
 
 -- ---- reading's answer ----
 
-pub read-into : (t lent table : List ℕ) (n : ℕ) → length table ≡ length lent → paper (Rows n) ≡ sheetOf (wholeOf base (length lent) t)
-    → table ≡ tableOf (length lent) (wholeOf base (length lent) t) → (f : Forest) × ReadInto t table n f
-read-into t lent table n l e is =
-    let r = rows-tree base (length lent) t table is n e in (
+pub read-into : (t lent table : List ℕ) (n : ℕ) → length table ≡ length lent → Reads base (length lent) t (Rows n) table
+    → (f : Forest) × ReadInto t table n f
+read-into t lent table n l h =
+    let r = rows-tree base (length lent) t table n h in (
       r .tree,
       record {
         filled = r .filled-by;
         count = r .count;
         end = r .end;
         whole = rw l (r .whole);
-        rows = is ∙ ap (tableOf (length lent)) (r .whole) ∙ ap (λ k. tableOf k (good (r .tree) (r .end))) (sym l);
+        rows = h .left ∙ ap (tableOf (length lent)) (r .whole) ∙ ap (λ k. tableOf k (good (r .tree) (r .end))) (sym l);
       },
     )
 
@@ -73,10 +72,9 @@ module _ (t lent new : List ℕ) where
   unfolding judgedOf judgedRead byBreach paperOfVerdict sheetOfJudged tableOfJudged
   fails f to row number r w e p q = record { answered = rw (p, w, e); table = rw (w, e, sub-zero) q }
 
-  pub text-refused : (r : Refusal) → paper (Refused r) ≡ sheetOf (wholeOf base (length lent) t)
-      → new ≡ tableOf (length lent) (wholeOf base (length lent) t) → Judges base t lent (Failed (Text r)) new
+  pub text-refused : (r : Refusal) → Reads base (length lent) t (Refused r) new → Judges base t lent (Failed (Text r)) new
   unfolding judgedOf judgedRead paperOfVerdict sheetOfJudged tableOfJudged tableOf
-  text-refused r e is = let x = refusal-is base (length lent) t new is r e in record { answered = rw (x .whole); table = rw (x .whole) (x .cleared) }
+  text-refused r h = let x = refusal-is base (length lent) t new r h in record { answered = rw (x .whole); table = rw (x .whole) (x .cleared) }
 
 pub rows-judged : (t lent old new : List ℕ) (n : ℕ) (f : Forest) (r : Verdict) → length old ≡ length lent → ReadInto t old n f
     → JudgedRows t old n f r new → Judges base t lent r new

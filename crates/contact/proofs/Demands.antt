@@ -11,7 +11,7 @@ pub mod AnyOrder
 use Prim.Native.Nat.{ℕ, _*_, _≤_}
 use native.Mathlib.Nat.{sub-zero}
 use native.Mathlib.Omega.{arith}
-use mathlib.Core.Path.{_≡_, refl, sym, _∙_}
+use mathlib.Core.Path.{_≡_, refl}
 use mathlib.Core.Bool.{true}
 use mathlib.Core.List.{List, []}
 use lib.ListN.{length}
@@ -23,7 +23,7 @@ use Rattle.text.specs.Grammar.{rootOf}
 use Rattle.text.specs.declared.Paper.{Paper}
 use Rattle.text.specs.Whole.{wholeOf, sheetOf, tableOf}
 use Rattle.text.specs.Doc.{Name, docOf}
-use Rattle.text.proofs.Outcomes.{paper-unique}
+use Rattle.text.proofs.Outcomes.{same-outcome}
 use Rattle.text.proofs.Promise.{rows-length, whole-good}
 use Rattle.contact.specs.Verdict.{Judged, passed, failed, judgedOf, sheetOfJudged, tableOfJudged, paperOfVerdict}
 use Rattle.contact.specs.Localize.{Outcome, done, denied, localizedOf, sheetOfOutcome, tableOfOutcome, outputOfOutcome, answerOfOutcome, paperOfLocalized}
@@ -96,7 +96,7 @@ module _ (L : Limits) (unique : L .unique ≡ true) (six : L .words ≡ rowWords
   demands = record {
     every-call = record {
       ends = all-ends;
-      one-reading = λ words t a b x y p q. (paper-unique a b (p .answered ∙ sym (q .answered)), p .left ∙ sym (q .left));
+      one-reading = same-outcome L;
       one-judging = judging .one-outcome L;
       one-localizing = λ words room t lang a b x y o q p r. one-outcome p r;
     };

@@ -17,8 +17,8 @@ use Rattle.text.specs.Limits.{Limits, rowWords}
 use Rattle.text.specs.Tree.{Forest, size, rowsOf}
 use Rattle.text.specs.Seats.{Head, Seat, top, Sits}
 use Rattle.text.specs.Standing.{RowAt}
-use Rattle.text.specs.Sheet.{numbers, paper}
-use Rattle.text.specs.Whole.{wholeOf, sheetOf, tableOf}
+use Rattle.text.specs.Sheet.{numbers}
+use Rattle.text.specs.Whole.{Reads}
 use Rattle.text.specs.Doc.{Name, Doc, Members, docOf}
 use Rattle.text.specs.Distinct.{Distinct}
 use Rattle.text.specs.Grammar.{JsonText, rootOf}
@@ -69,16 +69,11 @@ pub data Ends (c : Call) : Left → Type 0 where
   -- or with one numbered refusal of the sheet: every word and every byte that was lent is zero
   refusal : {number second : ℕ} → Lines c number → Ends c (leaves (numbers number second 0) (replicate (wordsOf c) 0) (replicate (roomOf c) 0))
 
--- what reading's contract allows as its answer and as what is left in a table of so many words; for the others `Judges` and `Localizes` say it
-pub record Reads (L : Limits) (words : ℕ) (t : List ℕ) (answer : Reading) (table : List ℕ) : Type 0 where
-  pub answered : paper answer ≡ sheetOf (wholeOf L words t)
-  pub left : table ≡ tableOf words (wholeOf L words t)
-
 -- demand 1, of every call
 pub record EveryCall (L : Limits) (serve : Call → Left) : Type 0 where
   -- whatever is lent, a call ends with acceptance or one numbered refusal; after a refusal all is zero, after acceptance all that is unused
   pub ends : (c : Call) → Ends c (serve c)
-  -- for every input, answer, table and output are determined: two outcomes that a contract allows are equal
+  -- for every input, answer, table and output are determined: two outcomes that a contract (`Reads`, `Judges`, `Localizes`) allows are equal
   pub one-reading : (words : ℕ) (t : List ℕ) (a b : Reading) (x y : List ℕ) → Reads L words t a x → Reads L words t b y → (a ≡ b) × (x ≡ y)
   pub one-judging : (t lent : List ℕ) (a b : Verdict) (x y : List ℕ) → Judges L t lent a x → Judges L t lent b y → (a ≡ b) × (x ≡ y)
   pub one-localizing : (words room : ℕ) (t : List ℕ) (lang : Name) (a b : Localized) (x y o q : List ℕ)

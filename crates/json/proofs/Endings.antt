@@ -17,7 +17,7 @@ use Rattle.text.specs.Limits.{base}
 use Rattle.text.specs.Tokens.{skip}
 use Rattle.text.specs.Tree.{Forest, rowsOf}
 use Rattle.text.specs.Reader.{Read, good, bad, valueAt}
-use Rattle.text.specs.Whole.{endOf, readOf, wholeOf, sheetOf, tableOf}
+use Rattle.text.specs.Whole.{endOf, readOf, wholeOf, sheetOf, tableOf, Reads}
 use Rattle.text.specs.Sheet.{paper}
 use Rattle.text.specs.declared.Refusal.{Refusal}
 use Rattle.text.specs.declared.Refusal.the-variants.{TooLong, Grammar, Character, Repeated, Deep, Many, Small}
@@ -103,12 +103,12 @@ module _ (words limit : ℕ) (t new : List ℕ) (room : Room words limit) where
 -- ---- the answer ----
 
 -- what is accepted, on paper
-pub paper-rows : (R : Read) (words : ℕ) (new : List ℕ) (n : ℕ) → Whole R words new (Rows n) → (paper (Rows n) ≡ sheetOf R) × (new ≡ tableOf words R)
+pub paper-rows : (words : ℕ) (t new : List ℕ) (n : ℕ) → Whole (wholeOf base words t) words new (Rows n) → Reads base words t (Rows n) new
 unfolding paper sheetOf
-paper-rows R words new n w = (rw (w .1 .1 .0, w .1 .1 .1 .0), w .1 .1 .1 .1)
+paper-rows words t new n w = record { answered = rw (w .1 .1 .0, w .1 .1 .1 .0); left = w .1 .1 .1 .1 }
 
 -- what is refused, on paper, with a cleared table
-pub paper-refused : (R : Read) (words : ℕ) (new : List ℕ) (r : Refusal) → R ≡ bad r → new ≡ replicate words 0
-    → (paper (Refused r) ≡ sheetOf R) × (new ≡ tableOf words R)
+pub paper-refused : (words : ℕ) (t new : List ℕ) (r : Refusal) → wholeOf base words t ≡ bad r → new ≡ replicate words 0
+    → Reads base words t (Refused r) new
 unfolding paper sheetOf tableOf
-paper-refused R words new r e c = (rw e, rw (e, c, sub-zero))
+paper-refused words t new r e c = record { answered = rw e; left = rw (e, c, sub-zero) }

@@ -13,15 +13,13 @@ ghost use mathlib.Core.Path.{_≡_};
 ghost use Prim.Native.Nat.{_≤_};
 ghost use lib.ListN.{length, replicate};
 ghost use Rattle.text.specs.Limits.{base};
-ghost use Rattle.text.specs.Sheet.{paper};
-ghost use Rattle.text.specs.Whole.{readOf, wholeOf, sheetOf, tableOf};
+ghost use Rattle.text.specs.Whole.{readOf, wholeOf, Reads};
 ghost use Rattle.json.specs.Parts.{upTo, Asks};
 ghost use Rattle.json.specs.Answers.{Room, Ended, isMany, againOf, Whole};
 
 // Reads a text: its rows and zeros after them, or the refusal and zeros alone.
 pub fn read(text: &[u8], table: &mut [u32]) -> Reading
-    ensures { λ r. ⌜ paper r ≡ sheetOf (wholeOf base (length (now (table .entry))) (now (text .entry))) ⌝ }
-    ensures { λ _. ⌜ now (table .exit) ≡ tableOf (length (now (table .entry))) (wholeOf base (length (now (table .entry))) (now (text .entry))) ⌝ }
+    ensures { λ r. ⌜ Reads base (length (now (table .entry))) (now (text .entry)) r (now (table .exit)) ⌝ }
 {
     clear_words(table);
     if BYTES < text.len() {

@@ -2,7 +2,7 @@
 -- allows for one text and one length of table are equal.
 --     paper-unique            two answers with the same numbers are one
 --     answer-is               the numbers of what reading a text gives determine the answer
---     same-outcome            two answers and tables that meet reading's contract are equal
+--     same-outcome            two answers and tables that meet reading's contract (`Reads`, specs/Whole.antt) are equal
 -- Assumes nothing.
 use Prim.Native.Nat.{ℕ}
 use mathlib.Core.Path.{_≡_, refl, sym, ap, _∙_}
@@ -14,7 +14,7 @@ use Rattle.text.specs.Tree.{size}
 use Rattle.text.specs.declared.Paper.{Paper}
 use Rattle.text.specs.Sheet.{refused, paper}
 use Rattle.text.specs.Reader.{Read, good, bad}
-use Rattle.text.specs.Whole.{wholeOf, sheetOf, tableOf}
+use Rattle.text.specs.Whole.{sheetOf, Reads}
 use Rattle.text.specs.declared.Refusal.{Refusal}
 use Rattle.text.specs.declared.Refusal.the-variants.{TooLong, Grammar, Character, Repeated, Deep, Many, Small}
 use Rattle.text.specs.declared.Reading.{Reading}
@@ -63,11 +63,6 @@ sheet-answer (bad r) = refl
 pub answer-is : (r : Reading) (R : Read) → paper r ≡ sheetOf R → r ≡ answerOf R
 answer-is r R e = paper-unique r (answerOf R) (e ∙ sheet-answer R)
 
--- what reading's contract says of its answer and of the whole table, for a text and a table of so many words
-module _ (L : Limits) (words : ℕ) (t : List ℕ) where
-  pub record Outcome (r : Reading) (table : List ℕ) : Type 0 where
-    pub answer : paper r ≡ sheetOf (wholeOf L words t)
-    pub leaves : table ≡ tableOf words (wholeOf L words t)
-
-  pub same-outcome : (r s : Reading) (table other : List ℕ) → Outcome r table → Outcome s other → (r ≡ s) × (table ≡ other)
-  same-outcome r s table other o p = (paper-unique r s (o .answer ∙ sym (p .answer)), o .leaves ∙ sym (p .leaves))
+pub same-outcome : (L : Limits) (words : ℕ) (t : List ℕ) (r s : Reading) (table other : List ℕ) → Reads L words t r table → Reads L words t s other
+    → (r ≡ s) × (table ≡ other)
+same-outcome L words t r s table other o p = (paper-unique r s (o .answered ∙ sym (p .answered)), o .left ∙ sym (p .left))

@@ -1,6 +1,6 @@
 -- The reading layer's promise: the one file on which the layers above rely. What is passed on here is all that they may ask of a text that was read.
 --
--- An answer and a table that meet reading's contract, `paper r ≡ sheetOf (wholeOf L words t)` and `table ≡ tableOf words (wholeOf L words t)`:
+-- An answer and a table that meet reading's contract (`Reads`, specs/Whole.antt):
 --     rows-tree             after `Rows n` there is one tree of n values whose rows are the table's first n (`Filled`, specs/Promised.antt): one root,
 --                           that stands in the text (`Placed`, specs/Placed.antt), names distinct, limits kept
 --     refusal-is            after `Refused r` the definition refuses with r, and the table is zero
@@ -47,8 +47,7 @@ use Rattle.text.specs.Tree.{Forest, size}
 use Rattle.text.specs.Promised.{Promised, Filled}
 use Rattle.text.specs.Reader.{Read, good, bad}
 use Rattle.text.specs.Tokens.{skip}
-use Rattle.text.specs.Whole.{readOf, fitOf, wholeOf, sheetOf, tableOf}
-use Rattle.text.specs.Sheet.{paper}
+use Rattle.text.specs.Whole.{readOf, fitOf, wholeOf, tableOf, Reads}
 use Rattle.text.specs.declared.Refusal.{Refusal}
 use Rattle.text.specs.declared.Refusal.the-variants.{Small}
 use Rattle.text.specs.declared.Reading.the-variants.{Rows, Refused}
@@ -57,7 +56,7 @@ use Rattle.text.proofs.Fewer.{value-fits}
 use Rattle.text.proofs.Placing.{placed-text, single-value}
 use Rattle.text.proofs.Documents.{distinct-names}
 pub use Rattle.text.proofs.Fewer.{whole-bad}
-pub use Rattle.text.proofs.Outcomes.{paper-unique, refused-unique, answerOf, answer-is, Outcome, same-outcome}
+pub use Rattle.text.proofs.Outcomes.{paper-unique, refused-unique, answerOf, answer-is, same-outcome}
 pub use Rattle.text.proofs.Standing.{
   rows-length,
   RowAt,
@@ -165,7 +164,7 @@ whole-good L words t f to e = go (readOf L t) refl e
     go (good g end) h q = fit g end h (ltb words (L .words * size g)) refl q
 
 -- an answer and a table that meet reading's contract
-module _ (L : Limits) (words : ℕ) (t table : List ℕ) (is : table ≡ tableOf words (wholeOf L words t)) where
+module _ (L : Limits) (words : ℕ) (t table : List ℕ) where
   -- accepted: the tree, and what is promised of it
   pub record Tabled (n : ℕ) : Type 0 where
     pub tree : Forest
@@ -175,8 +174,8 @@ module _ (L : Limits) (words : ℕ) (t table : List ℕ) (is : table ≡ tableOf
     pub room : L .words * n ≤ words
     pub filled-by : Filled L t table n tree
 
-  tabled : (f : Forest) (to : ℕ) → wholeOf L words t ≡ good f to → Tabled (size f)
-  tabled f to w =
+  tabled : (f : Forest) (to : ℕ) → table ≡ tableOf words (wholeOf L words t) → wholeOf L words t ≡ good f to → Tabled (size f)
+  tabled f to is w =
       let fits = whole-good L words t f to w in
       record {
         tree = f;
@@ -187,14 +186,14 @@ module _ (L : Limits) (words : ℕ) (t table : List ℕ) (is : table ≡ tableOf
         filled-by = record { promised = promised L t f to (fits .read); stands = table-stands words f to (is ∙ ap (tableOf words) w) };
       }
 
-  pub rows-tree : (n : ℕ) → paper (Rows n) ≡ sheetOf (wholeOf L words t) → Tabled n
-  rows-tree n e = go (wholeOf L words t) refl (answer-is (Rows n) (wholeOf L words t) e)
+  pub rows-tree : (n : ℕ) → Reads L words t (Rows n) table → Tabled n
+  rows-tree n h = go (wholeOf L words t) refl (answer-is (Rows n) (wholeOf L words t) (h .answered))
     where
       go : (r : Read) → wholeOf L words t ≡ r → Rows n ≡ answerOf (wholeOf L words t) → Tabled n
       go (good f to) w q =
           let answer : Rows n ≡ Rows (size f) = q ∙ ap answerOf w in
           let same : n ≡ size f = cc in
-          rw same (tabled f to w)
+          rw same (tabled f to (h .left) w)
       go (bad r) w q =
           let answer : Rows n ≡ Refused r = q ∙ ap answerOf w in
           let z : _≡_ {A = ℕ} 0 1 = cc in
@@ -205,9 +204,9 @@ module _ (L : Limits) (words : ℕ) (t table : List ℕ) (is : table ≡ tableOf
     pub whole : wholeOf L words t ≡ bad r
     pub cleared : table ≡ filled words []
 
-  pub refusal-is : (r : Refusal) → paper (Refused r) ≡ sheetOf (wholeOf L words t) → Refuses r
+  pub refusal-is : (r : Refusal) → Reads L words t (Refused r) table → Refuses r
   unfolding tableOf
-  refusal-is r e = go (wholeOf L words t) refl (answer-is (Refused r) (wholeOf L words t) e)
+  refusal-is r h = go (wholeOf L words t) refl (answer-is (Refused r) (wholeOf L words t) (h .answered))
     where
       go : (R : Read) → wholeOf L words t ≡ R → Refused r ≡ answerOf (wholeOf L words t) → Refuses r
       go (good f to) w q =
@@ -217,4 +216,4 @@ module _ (L : Limits) (words : ℕ) (t table : List ℕ) (is : table ≡ tableOf
       go (bad s) w q =
           let answer : Refused r ≡ Refused s = q ∙ ap answerOf w in
           let same : s ≡ r = cc in
-          record { whole = w ∙ ap bad same; cleared = is ∙ ap (tableOf words) w }
+          record { whole = w ∙ ap bad same; cleared = h .left ∙ ap (tableOf words) w }

@@ -1,6 +1,7 @@
--- What reading a whole text answers, and what it leaves in a lent table of so many words.
+-- What reading a whole text answers, and what it leaves in a lent table of so many words; at the end reading's contract, `Reads`.
 -- Assumes nothing: these are definitions.
 use Prim.Native.Nat.{ℕ, _*_}
+use mathlib.Core.Path.{_≡_}
 use mathlib.Core.List.{List, []}
 use mathlib.Core.Bool.{cond}
 use lib.ListN.{length}
@@ -11,8 +12,9 @@ use Rattle.text.specs.Tokens.{skip}
 use Rattle.text.specs.Tree.{size, rowsOf}
 use Rattle.text.specs.Reader.{Read, good, bad, valueAt}
 use Rattle.text.specs.declared.Paper.{Paper}
-use Rattle.text.specs.Sheet.{numbers, refused}
+use Rattle.text.specs.Sheet.{numbers, refused, paper}
 use Rattle.text.specs.declared.Refusal.the-variants.{TooLong, Grammar, Small}
+use Rattle.text.specs.declared.Reading.{Reading}
 
 -- a value with nothing but white space after it (8259: JSON-text = ws value ws)
 unfoldable pub endOf : List ℕ → Read → Read
@@ -44,3 +46,8 @@ sheetOf (bad r) = refused r
 unfoldable pub tableOf : (words : ℕ) → Read → List ℕ
 tableOf words (good f to) = filled words (rowsOf f)
 tableOf words (bad r) = filled words []
+
+-- what reading's contract says of an answer and of what is left in a table of so many words
+pub record Reads (L : Limits) (words : ℕ) (t : List ℕ) (answer : Reading) (table : List ℕ) : Type 0 where
+  pub answered : paper answer ≡ sheetOf (wholeOf L words t)
+  pub left : table ≡ tableOf words (wholeOf L words t)

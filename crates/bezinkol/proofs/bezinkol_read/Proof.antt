@@ -23,8 +23,8 @@ unfolding served
 returns c =
     let left = c .before .before .before .before .before .read .ensures in
     record {
-      answered = c .put-answer .ensures ∙ ap words (c .before .before .on-paper .ensures ∙ left .0);
-      rows = left .1;
+      answered = c .put-answer .ensures ∙ ap words (c .before .before .on-paper .ensures ∙ left .answered);
+      rows = left .left;
       bytes = refl;
     }
 

@@ -19,8 +19,7 @@ judge-rows-requires c κs =
     let a = c .before .before .before .before .before .before .before .before .before .before .args in
     let read = c .before .before .before .before .before .before .read in
     let n = c .before .before .n in
-    (read-into (now (a .text)) (now (a .table)) (read .last .1 .0) (n .given .0 .0) (read .kept .1 .0) (rw (n .given .1) at (read .ensures .0))
-    (read .ensures .1))
+    (read-into (now (a .text)) (now (a .table)) (read .last .1 .0) (n .given .0 .0) (read .kept .1 .0) (rw (n .given .1) at (read .ensures)))
 
 same-length : tie.Need-same-length
 same-length c = search needs
@@ -29,8 +28,7 @@ returns : tie.Need-returns
 returns c =
     let a = c .before .before .before .before .before .before .before .before .before .args in
     let read = c .before .before .before .before .before .read in
-    text-refused (now (a .text)) (now (a .table)) (read .last .1 .0) (c .before .r .given .0 .0) (rw (c .before .r .given .1) at (read .ensures .0))
-    (read .ensures .1)
+    text-refused (now (a .text)) (now (a .table)) (read .last .1 .0) (c .before .r .given .0 .0) (rw (c .before .r .given .1) at (read .ensures))
 
 same-length-2 : tie.Need-same-length-2
 same-length-2 c = search needs
@@ -44,7 +42,7 @@ returns-2 c =
     let n = c .before .before .before .before .before .n in
     let judge-rows = c .before .before .judge-rows in
     let (f, h) =
-    (read-into text table (read .last .1 .0) (n .given .0 .0) (read .kept .1 .0) (rw (n .given .1) at (read .ensures .0)) (read .ensures .1)) in
+    (read-into text table (read .last .1 .0) (n .given .0 .0) (read .kept .1 .0) (rw (n .given .1) at (read .ensures))) in
     rows-judged text table (read .last .1 .0) (judge-rows .last .1 .0) (n .given .0 .0) f (judge-rows .result) (read .kept .1 .0) h
     (judge-rows .ensures f h)
 

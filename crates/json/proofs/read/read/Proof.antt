@@ -2,7 +2,6 @@
 use lib.ListN.{length}
 use borrow.Author.Needs.{needs}
 use Rattle.text.specs.Limits.{base}
-use Rattle.text.specs.Whole.{wholeOf}
 use Rattle.text.specs.declared.Refusal.the-variants.{TooLong}
 use Rattle.text.proofs.Fewer.{long-text, whole-bad}
 use Rattle.json.proofs.Endings.{paper-rows, paper-refused}
@@ -19,7 +18,7 @@ returns : tie.Need-returns
 returns c =
     let a = c .before .before .before .before .before .before .before .args in
     let w = length (a .table .now) in
-    paper-refused (wholeOf base w (a .text .now)) w (c .before .before .before .clear-words .last .0) TooLong
+    paper-refused w (a .text .now) (c .before .before .before .clear-words .last .0) TooLong
     (whole-bad base w (a .text .now) TooLong (long-text base (a .text .now) (c .if1 .taken))) (c .before .before .before .clear-words .ensures)
 
 read-short-requires : tie.Need-read-short-requires
@@ -45,7 +44,7 @@ returns-2 c =
     let w = length (a .table .now) in
     let k = c .before .before .before .before .before .before .before .before .before .before .clear-words in
     let h = rw (k .kept .0) at (rw (c .before .answer .given .1) at (c .before .before .before .before .before .read-short .ensures)) in
-    paper-rows (wholeOf base w (a .text .now)) w (c .before .before .before .before .before .read-short .last .1 .0) (c .before .answer .given .0 .0)
+    paper-rows w (a .text .now) (c .before .before .before .before .before .read-short .last .1 .0) (c .before .answer .given .0 .0)
     h
 
 same-length-3 : tie.Need-same-length-3
@@ -60,7 +59,7 @@ returns-3 c =
     let k = c .before .before .before .before .before .before .before .before .before .before .before .before .before .before .clear-words in
     let s = c .before .before .before .before .before .before .before .before .before .read-short in
     let h = rw (k .kept .0) at (rw (c .before .before .before .before .before .answer2 .given .1) at (s .ensures)) in
-    paper-refused (wholeOf base w (a .text .now)) w (c .before .before .clear-words2 .last .0)
+    paper-refused w (a .text .now) (c .before .before .clear-words2 .last .0)
     (c .before .before .before .before .before .answer2 .given .0 .0) h
     (rw (← k .kept .0, ← s .kept .1 .0) (c .before .before .clear-words2 .ensures))
 
