@@ -150,6 +150,10 @@ cases =
     ∷ refusedAt (judging (with (bytes ",\"kind\":5"))) 11 50
     ∷ refusedAt (judging (bytes " {}")) 12 1
     ∷ refusedAt (judging (with (name ""))) 14 50
+    -- `members` needs the kind "group"; a separator needs true `isOrdered`
+    ∷ accepted (judging (with (bytes ",\"kind\":\"group\",\"members\":{}"))) 6 0 (cardRows 71 5 (row 5 44 48 50 57 0 ++ row 7 59 66 68 70 0)) []
+    ∷ refusedAt (judging (with (bytes ",\"members\":{}"))) 14 0
+    ∷ refusedAt (judge (with (name "\"components\":[{\"kind\":\"given\",\"value\":\"A\"},{\"kind\":\"separator\",\"value\":\" \"}]")) 72) 14 50
     -- more of the wrong kind, in an object of each type of the table; null fits none that is listed
     ∷ refusedAt (judging (with (bytes ",\"language\":null"))) 11 54
     ∷ refusedAt (judging (with (bytes ",\"localizations\":{\"de\":1}"))) 11 65
