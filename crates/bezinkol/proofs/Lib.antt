@@ -1,0 +1,2 @@
+-- What is shown of the contracts together.
+pub mod Called
