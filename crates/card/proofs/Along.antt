@@ -6,7 +6,7 @@ use mathlib.Core.List.{List}
 use Rattle.text.specs.Tree.{Forest, none}
 use Rattle.text.specs.Standing.{StandsTo}
 use Rattle.text.specs.Firsts.{belowAt, restAt}
-use Rattle.text.proofs.Promise.{row-at, after, within, some-at, none-at}
+use Rattle.text.proofs.Promise.{first-row, after, within, some-at, none-at}
 use Rattle.json.specs.Rows.{belowIn}
 use Rattle.card.specs.Rows.{ValueAt}
 
@@ -35,7 +35,7 @@ module _ {A : Type 0} (t : List ℕ) (from end : ℕ) (F : Forest → A) where
     along-on lt H step to e vs s =
         let (ws, h, q) = g vs s in
         let v = first-at ws h lt in
-        (restAt ws, rw (e, row-at ws (v .some) (v .stands) .below) (after ws (v .some) h), q ∙ step ws v)
+        (restAt ws, rw (e, first-row ws (v .some) (v .stands) .below) (after ws (v .some) h), q ∙ step ws v)
 
     -- the end
     pub along-end : end ≤ at → (P : A → Type 0) → P (G none) → (vs : Forest) → StandsTo t from end vs → P (F vs)

@@ -17,7 +17,7 @@ use Rattle.text.specs.Tree.{Forest}
 use Rattle.text.specs.Firsts.{Kinds, nameStart, nameEnd, restAt}
 use Rattle.text.specs.Standing.{StandsTo}
 use Rattle.text.specs.Doc.{Name, Doc, Members, empty, member, labelAt, docOf, membersOf}
-use Rattle.text.proofs.Promise.{row-at, after, within, some-at, none-at, members-first, members-none}
+use Rattle.text.proofs.Promise.{first-row, after, within, some-at, none-at, members-first, members-none}
 use Rattle.json.specs.Rows.{belowIn}
 use Rattle.contact.specs.Pointer.{pointerOf, clash}
 use Rattle.contact.specs.Patch.{Walk, arrives, inArray, noObject, entriesOf, walk, isInArray, isNoObject, anyWalk, clashWith, anyClash}
@@ -44,7 +44,7 @@ module _ {t table rows : List ℕ} where
   first-at : {i n : ℕ} {ms : Members} → Listed t table rows i n ms → i < n → First t table rows i n ms
   first-at over lt = absurd (omega arith)
   first-at (next {i} {n} {ms} g h s k stands l) lt =
-      let r = row-at g s stands in
+      let r = first-row g s stands in
       record { label = labelAt t (nameStart g) (nameEnd g); value = docOf t g; rest = ms; is = rw (r .name-start, r .name-end); listed = l }
 
   none-left : {i n : ℕ} {ms : Members} → Listed t table rows i n ms → n ≤ i → ms ≡ empty
@@ -173,7 +173,7 @@ module _ {table : List ℕ} {from end : ℕ} {rows : List ℕ} {n at : ℕ} (g :
   fill-room lt =
       let b = g f h in
       let s = some-at (b .ahead) (b .stands) lt in
-      rw (row-at (b .ahead) s (b .stands .stands) .below) (within (b .ahead) s (b .stands))
+      rw (first-row (b .ahead) s (b .stands .stands) .below) (within (b .ahead) s (b .stands))
 
   pub fill-on : at < end → n < length rows → Begun table from end (set rows n at) (n + 1) (at + 1 + belowIn table at) f
   fill-on lt room =
@@ -181,7 +181,7 @@ module _ {table : List ℕ} {from end : ℕ} {rows : List ℕ} {n at : ℕ} (g :
       let s = some-at (b .ahead) (b .stands) lt in
       record {
         ahead = restAt (b .ahead);
-        stands = rw (row-at (b .ahead) s (b .stands .stands) .below) (after (b .ahead) s (b .stands));
+        stands = rw (first-row (b .ahead) s (b .stands .stands) .below) (after (b .ahead) s (b .stands));
         kinds = λ k. rest-kinds (b .ahead) (b .kinds k);
         all =
             λ t later m same k l.

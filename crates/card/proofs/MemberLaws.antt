@@ -14,7 +14,7 @@ use Rattle.text.specs.Tree as T
 use Rattle.text.specs.Firsts.{HasFirst, Kinds, nameStart, nameEnd, restAt}
 use Rattle.text.specs.Standing.{StandsTo}
 use Rattle.text.specs.Doc.{Name, membersOf, seek}
-use Rattle.text.proofs.Promise.{row-at, after, some-at, none-at, members-first, members-none}
+use Rattle.text.proofs.Promise.{first-row, after, some-at, none-at, members-first, members-none}
 use Rattle.json.specs.Rows.{nameStartIn, nameEndIn, belowIn}
 use Rattle.card.specs.Members.{firstMember, Standing}
 
@@ -49,7 +49,7 @@ module _ (t table : List ℕ) (from end : ℕ) (n : Name) where
     name-at : at < end → nameOf t (nameStartIn table at) (nameEndIn table at) ≡ nameOf t (nameStart (g f h .ahead)) (nameEnd (g f h .ahead))
     name-at lt =
         let l = g f h in
-        let r = row-at (l .ahead) (some-at (l .ahead) (l .stands) lt) (l .stands .stands) in
+        let r = first-row (l .ahead) (some-at (l .ahead) (l .stands) lt) (l .stands .stands) in
         rw (r .name-start, r .name-end)
 
     pub seek-hit : at < end → same (nameOf t (nameStartIn table at) (nameEndIn table at)) n ≡ true → Standing t table end n f at
@@ -70,7 +70,7 @@ module _ (t table : List ℕ) (from end : ℕ) (n : Name) where
         let s = some-at (l .ahead) (l .stands) lt in
         record {
           ahead = restAt (l .ahead);
-          stands = rw (row-at (l .ahead) s (l .stands .stands) .below) (after (l .ahead) s (l .stands));
+          stands = rw (first-row (l .ahead) s (l .stands .stands) .below) (after (l .ahead) s (l .stands));
           kinds = λ k. rest-kinds (l .ahead) (l .kinds k);
           is = l .is ∙ seek-on t n (l .ahead) s (rw (name-at lt) at e);
         }

@@ -11,7 +11,7 @@ use Rattle.text.specs.Tree.{Forest}
 use Rattle.text.specs.Standing.{StandsTo}
 use Rattle.text.specs.Firsts.{insideAt}
 use Rattle.text.specs.Doc.{Name, Property, docOf, membersOf, kindOf, tokenOf, below, seek}
-use Rattle.text.proofs.Promise.{row-at, inside, doc-kind, doc-token, doc-below}
+use Rattle.text.proofs.Promise.{first-row, inside, doc-kind, doc-token, doc-below}
 use Rattle.json.specs.Rows.{kindIn, startIn, endIn, belowIn}
 use Rattle.card.specs.Members.{Finds}
 use Rattle.card.specs.Rows.{ValueAt, RowOf}
@@ -22,19 +22,19 @@ use Rattle.card.specs.declared.members.Found.the-variants.{Row, Nothing}
 
 module _ (text : List ℕ) {t : List ℕ} {k : ℕ} (f : Forest) (v : ValueAt t k f) where
   pub value-kind : kindIn t k ≡ kindOf (docOf text f)
-  value-kind = row-at f (v .some) (v .stands) .kind ∙ sym (doc-kind text f (v .some))
+  value-kind = first-row f (v .some) (v .stands) .kind ∙ sym (doc-kind text f (v .some))
 
   pub value-token : kindIn t k < 6 → tokenOf (docOf text f) ≡ partOf text (startIn t k) (endIn t k)
   value-token lt =
-      let r = row-at f (v .some) (v .stands) in
+      let r = first-row f (v .some) (v .stands) in
       doc-token text f (v .some) (omega (arith, r .kind)) ∙ rw (r .start, r .finish)
 
   -- its members stand from the next row on
   pub value-members : StandsTo t (k + 1) (k + 1 + belowIn t k) (insideAt f)
-  value-members = rw (row-at f (v .some) (v .stands) .below) (inside f (v .some) (v .stands))
+  value-members = rw (first-row f (v .some) (v .stands) .below) (inside f (v .some) (v .stands))
 
   pub value-room : (k + 1 + belowIn t k) * rowWords ≤ length t
-  value-room = let r = row-at f (v .some) (v .stands) in omega (arith, r .below, r .room-all)
+  value-room = let r = first-row f (v .some) (v .stands) in omega (arith, r .below, r .room-all)
 
 -- what holds of the members of any value at the row holds of what is below it
 pub value-below : (text : List ℕ) (f : Forest) → below (docOf text f) ≡ membersOf text (insideAt f)

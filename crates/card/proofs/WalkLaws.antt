@@ -15,7 +15,7 @@ use Rattle.text.specs.Tree.{Forest}
 use Rattle.text.specs.Firsts.{HasFirst, Kinds, kindAt, nameStart, nameEnd, insideAt, belowAt, restAt}
 use Rattle.text.specs.Standing.{StandsTo}
 use Rattle.text.specs.Doc.{Name, Doc, scalar, array, object, membersOf, docOf, below, countOf}
-use Rattle.text.proofs.Promise.{row-at, inside, after, some-at, none-at, doc-kind, doc-token, doc-below, members-first, members-none, count-doc}
+use Rattle.text.proofs.Promise.{first-row, inside, after, some-at, none-at, doc-kind, doc-token, doc-below, members-first, members-none, count-doc}
 use Rattle.contact.specs.Schema.{ObjectType, SimpleType, anyString, exactly, flag, yes, count, time, Ty, any, simple, objectOf, listOf, mapOf, fits, fitsSimple}
 use Rattle.contact.specs.Judge.{memberType, keyFits, rowNumber, Breach, nothing, found, onRow, orElse, breachOf, breachAmong}
 use Rattle.json.specs.Rows.{nameStartIn, nameEndIn, belowIn}
@@ -114,7 +114,7 @@ module _ (t table : List ℕ) (ty : Ty) (key : Bool) (row end : ℕ) where
       record {
         ahead = insideAt f;
         earlier = [];
-        stands = rw (e ∙ ap (λ n. row + 1 + n) (row-at f (v .some) (v .stands) .below)) (inside f (v .some) (v .stands));
+        stands = rw (e ∙ ap (λ n. row + 1 + n) (first-row f (v .some) (v .stands) .below)) (inside f (v .some) (v .stands));
         kinds = inside-kinds f k;
         is = breach-below ty key row (docOf t f) (fine f v k) ∙ ap (breachAmong ty [] (row + 1)) (doc-below t f);
       }
@@ -146,7 +146,7 @@ module _ (t table : List ℕ) (ty : Ty) (key : Bool) (row end : ℕ) where
       by-first : breachOf ty key row (docOf t f) ≡ orElse b rest-of
       unfolding here rest-of
       by-first =
-          let r = row-at here some-here (g f v k .stands .stands) in
+          let r = first-row here some-here (g f v k .stands .stands) in
           let n : nameOf t (nameStartIn table at) (nameEndIn table at) ≡ nameOf t (nameStart here) (nameEnd here) = rw (r .name-start, r .name-end) in
           let name = nameOf t (nameStart here) (nameEnd here) in
           let q : breachOf (memberType ty name) (keyFits ty (g f v k .earlier) name) at (docOf t here) ≡ b =
@@ -159,7 +159,7 @@ module _ (t table : List ℕ) (ty : Ty) (key : Bool) (row end : ℕ) where
       pub judging-on : b ≡ nothing → Ahead f (at + 1 + belowIn table at)
       unfolding here rest-of
       judging-on e =
-          let r = row-at here some-here (g f v k .stands .stands) in
+          let r = first-row here some-here (g f v k .stands .stands) in
           record {
             ahead = restAt here;
             earlier = nameOf t (nameStart here) (nameEnd here) ∷ g f v k .earlier;

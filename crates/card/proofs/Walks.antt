@@ -13,7 +13,7 @@ use lib.ListN.{length, List·getD-eq-default}
 use Rattle.text.specs.Tree.{Forest, none, leaf, node}
 use Rattle.text.specs.Firsts.{insideAt, restAt, Kinds}
 use Rattle.text.specs.Standing.{StandsTo}
-use Rattle.text.proofs.Promise.{RowAt, row-at, inside, after, some-at, none-at}
+use Rattle.text.proofs.Promise.{FirstRow, first-row, inside, after, some-at, none-at}
 use Rattle.json.specs.Rows.{kindIn, belowIn}
 use Rattle.card.specs.Rows.{KnownAt}
 use Rattle.card.specs.Members.{Near}
@@ -40,8 +40,8 @@ row-inside table row h =
     ]
 
 -- the words of its row
-pub value-row : {table : List ℕ} {row : ℕ} {g : Forest} → KnownAt table row g → RowAt table row g
-value-row {g = g} v = row-at g (v .some) (v .stands)
+pub value-row : {table : List ℕ} {row : ℕ} {g : Forest} → KnownAt table row g → FirstRow table row g
+value-row {g = g} v = first-row g (v .some) (v .stands)
 
 -- what is inside it, by the number of rows
 pub value-inside : {table : List ℕ} {row k : ℕ} {g : Forest} → KnownAt table row g → k ≡ belowIn table row

@@ -8,7 +8,7 @@
 --     paper-unique, refused-unique, answer-is, same-outcome      the answer and the table are determined
 --
 -- The values that stand in a table from a row on, first value first (specs/Standing.antt, specs/Firsts.antt):
---     row-at                its six words: kind, name start and end, start and end, number of values below; and the row is inside the table
+--     first-row                its six words: kind, name start and end, start and end, number of values below; and the row is inside the table
 --     inside                what is inside it stands from the next row on, `below` rows
 --     next, after, within   what follows it stands `below + 1` rows further, and ends before the same row
 --     alone                 it stands there by itself, whatever follows
@@ -59,8 +59,8 @@ pub use Rattle.text.proofs.Fewer.{whole-bad}
 pub use Rattle.text.proofs.Outcomes.{paper-unique, refused-unique, answerOf, answer-is, same-outcome}
 pub use Rattle.text.proofs.Standing.{
   rows-length,
-  RowAt,
-  row-at,
+  FirstRow,
+  first-row,
   inside,
   next,
   alone,

@@ -2,7 +2,7 @@
 --     row-at, value-start        a value's row has its six words; so the value starts where it says
 --     row-inside, row-filled     the values sit in the rows before `size f`, and in each of these sits one
 --     one-value                  and no other
--- (`row-at` of proofs/Standing.antt is about the first value alone.) Assumes nothing.
+-- Assumes nothing.
 use mathlib.Core.Path.{_≡_, refl, sym, ap, subst, _∙_}
 use mathlib.Core.List.{List, [], append-nil}
 use lib.ListN.{getD}
@@ -14,7 +14,7 @@ use Rattle.text.specs.Tree.{Forest, none, leaf, node, size, rowsOf, star
 use Rattle.text.specs.Seats.{Head, Seat, top, under, behind, Sits}
 use Rattle.text.specs.Standing.{Stands, RowAt}
 use Rattle.text.specs.Firsts.{HasFirst, kindAt, nameStart, nameEnd, startAt, endAt, belowAt}
-use Rattle.text.proofs.Standing.{row-at as first-row, inside, next, start-at}
+use Rattle.text.proofs.Standing.{first-row, inside, next, start-at}
 use Rattle.text.proofs.Grammar.Stands.{by-order}
 use Rattle.text.proofs.Grammar.Trees.{in-few, in-from}
 

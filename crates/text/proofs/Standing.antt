@@ -1,6 +1,6 @@
 -- Values that stand in a table from a row on:
 --     rows-length                    a value takes one row, and those inside it one each
---     row-at                         the six words of a row are those of the first value
+--     first-row                         the six words of a row are those of the first value
 --     inside, after, alone           what is inside the first value stands from the next row on; what follows it, `below + 1` rows further
 --     stands-unique, value-unique    a table says which values stand in it: no two trees stand at one row and end before the same row
 --     filled-stands, table-stands    the table that reading leaves: the tree stands in it from row 0 on
@@ -42,7 +42,7 @@ word : (t l : List ℕ) (n : ℕ) → drop n t ≡ l → (i : ℕ) → getD t (n
 word t l n e i = sym (getD-drop n t i 0) ∙ ap (λ (m : List ℕ). getD m i 0) e
 
 -- row k has the words of the first value, and it and those of the values below it are inside the table
-pub record RowAt (t : List ℕ) (k : ℕ) (f : Forest) : Type 0 where
+pub record FirstRow (t : List ℕ) (k : ℕ) (f : Forest) : Type 0 where
   pub kind : getD t (k * rowWords + 0) 0 ≡ kindAt f
   pub name-start : getD t (k * rowWords + 1) 0 ≡ nameStart f
   pub name-end : getD t (k * rowWords + 2) 0 ≡ nameEnd f
@@ -52,10 +52,10 @@ pub record RowAt (t : List ℕ) (k : ℕ) (f : Forest) : Type 0 where
   pub room : k * rowWords + 5 < length t
   pub room-all : (k + 1 + belowAt f) * rowWords ≤ length t
 
-pub row-at : {t : List ℕ} {k : ℕ} (f : Forest) → HasFirst f → Stands t k f → RowAt t k f
+pub first-row : {t : List ℕ} {k : ℕ} (f : Forest) → HasFirst f → Stands t k f → FirstRow t k f
 unfolding rowsOf size
-row-at none s h = absurd s
-row-at {t} {k} (leaf kind ns ne from to rest) s h =
+first-row none s h = absurd s
+first-row {t} {k} (leaf kind ns ne from to rest) s h =
     record {
       kind = word t _ (k * rowWords) (h .is) 0;
       name-start = word t _ (k * rowWords) (h .is) 1;
@@ -66,7 +66,7 @@ row-at {t} {k} (leaf kind ns ne from to rest) s h =
       room = omega (arith, length-drop (k * rowWords) t, ap length (h .is));
       room-all = omega (arith, length-drop (k * rowWords) t, ap length (h .is));
     }
-row-at {t} {k} (node b ns ne from to inside rest) s h =
+first-row {t} {k} (node b ns ne from to inside rest) s h =
     record {
       kind = word t _ (k * rowWords) (h .is) 0;
       name-start = word t _ (k * rowWords) (h .is) 1;
@@ -173,20 +173,20 @@ stands-unique (leaf kind ns ne from to rest) none p q h i = absurd (omega (arith
 stands-unique (leaf kind ns ne from to rest) (leaf kind2 ns2 ne2 from2 to2 rest2) p q h i =
     let f : Forest = leaf kind ns ne from to rest in
     let g : Forest = leaf kind2 ns2 ne2 from2 to2 rest2 in
-    let a = row-at f tt (h .stands) in
-    let b = row-at g tt (i .stands) in
+    let a = first-row f tt (h .stands) in
+    let b = first-row g tt (i .stands) in
     let r = stands-unique rest rest2 (p .1) (q .1) (after f tt h) (after g tt i) in
     cc (a .kind, b .kind, a .name-start, b .name-start, a .name-end, b .name-end, a .start, b .start, a .finish, b .finish)
 stands-unique (leaf kind ns ne from to rest) (node b2 ns2 ne2 from2 to2 inside2 rest2) p q h i =
-    absurd (omega (arith, row-at (leaf kind ns ne from to rest) tt (h .stands) .kind, row-at (node b2 ns2 ne2 from2 to2 inside2 rest2) tt (i .stands) .kind, p .0 .most, bracket-kind b2))
+    absurd (omega (arith, first-row (leaf kind ns ne from to rest) tt (h .stands) .kind, first-row (node b2 ns2 ne2 from2 to2 inside2 rest2) tt (i .stands) .kind, p .0 .most, bracket-kind b2))
 stands-unique (node b ns ne from to inside1 rest) none p q h i = absurd (omega (arith, h .ends, i .ends))
 stands-unique (node b ns ne from to inside1 rest) (leaf kind2 ns2 ne2 from2 to2 rest2) p q h i =
-    absurd (omega (arith, row-at (node b ns ne from to inside1 rest) tt (h .stands) .kind, row-at (leaf kind2 ns2 ne2 from2 to2 rest2) tt (i .stands) .kind, q .0 .most, bracket-kind b))
+    absurd (omega (arith, first-row (node b ns ne from to inside1 rest) tt (h .stands) .kind, first-row (leaf kind2 ns2 ne2 from2 to2 rest2) tt (i .stands) .kind, q .0 .most, bracket-kind b))
 stands-unique {t} {k} {end} (node b ns ne from to inside1 rest) (node b2 ns2 ne2 from2 to2 inside2 rest2) p q h i =
     let f : Forest = node b ns ne from to inside1 rest in
     let g : Forest = node b2 ns2 ne2 from2 to2 inside2 rest2 in
-    let a = row-at f tt (h .stands) in
-    let c = row-at g tt (i .stands) in
+    let a = first-row f tt (h .stands) in
+    let c = first-row g tt (i .stands) in
     let n : size inside2 ≡ size inside1 = sym (c .below) ∙ a .below in
     let br : b ≡ b2 = bracket-unique b b2 (sym (a .kind) ∙ c .kind) in
     let u = stands-unique inside1 inside2 (p .0) (q .0) (inside f tt (h .stands)) (rw n at (inside g tt (i .stands))) in
@@ -207,7 +207,7 @@ first-size (node b ns ne from to inside rest) s = omega arith
 -- and no two values, whatever follows them
 pub value-unique : {t : List ℕ} {k : ℕ} (f g : Forest) → HasFirst f → HasFirst g → Kinds f → Kinds g → Stands t k f → Stands t k g → firstOf f ≡ firstOf g
 value-unique {t} {k} f g p q x y h i =
-    let n : k + size (firstOf g) ≡ k + size (firstOf f) = omega (arith, row-at f p h .below, row-at g q i .below, first-size f p, first-size g q) in
+    let n : k + size (firstOf g) ≡ k + size (firstOf f) = omega (arith, first-row f p h .below, first-row g q i .below, first-size f p, first-size g q) in
     stands-unique (firstOf f) (firstOf g) (first-kinds f x) (first-kinds g y)
     (record { stands = alone f p h; ends = refl })
     (record { stands = alone g q i; ends = n })
@@ -235,13 +235,13 @@ unfolding startsOf size
 start-at none h i lt = absurd (omega arith)
 start-at {t} {k} {end} (leaf kind ns ne from to rest) h zero lt =
     let place : k + 0 ≡ k = omega arith in
-    rw place (sym (row-at (leaf kind ns ne from to rest) tt (h .stands) .start))
+    rw place (sym (first-row (leaf kind ns ne from to rest) tt (h .stands) .start))
 start-at {t} {k} {end} (leaf kind ns ne from to rest) h (suc i) lt =
     let place : k + suc i ≡ k + 1 + 0 + i = omega arith in
     rw place (start-at rest (after (leaf kind ns ne from to rest) tt h) i (omega arith))
 start-at {t} {k} {end} (node b ns ne from to within rest) h zero lt =
     let place : k + 0 ≡ k = omega arith in
-    rw place (sym (row-at (node b ns ne from to within rest) tt (h .stands) .start))
+    rw place (sym (first-row (node b ns ne from to within rest) tt (h .stands) .start))
 start-at {t} {k} {end} (node b ns ne from to within rest) h (suc i) lt = elim (decLe (size within) i) [
   | yes le ↦
       let f : Forest = node b ns ne from to within rest in
@@ -278,7 +278,7 @@ module _ {A : Type 0} (t : List ℕ) (from end : ℕ) (f : Forest → A) where
     pub go-on : at < end → ((ws : Forest) → HasFirst ws → StandsTo t at end ws → f ws ≡ f (restAt ws)) → (n : ℕ) → n ≡ getD t (at * rowWords + 5) 0 → Going (at + 1 + n)
     go-on lt step n e vs s =
         let (ws, z, h, q) = here vs s lt in
-        (restAt ws, rw (e ∙ row-at ws z (h .stands) .below) (after ws z h), q ∙ step ws z h)
+        (restAt ws, rw (e ∙ first-row ws z (h .stands) .below) (after ws z h), q ∙ step ws z h)
 
     -- the value that decides
     pub hit : at < end → (r : A) → ((ws : Forest) → HasFirst ws → StandsTo t at end ws → r ≡ f ws) → (vs : Forest) → StandsTo t from end vs → r ≡ f vs
@@ -308,7 +308,7 @@ module _ {A : Type 0} (P : Forest → Type 0) (keep : (ws : Forest) → HasFirst
         → n ≡ getD t (at * rowWords + 5) 0 → Keeping (at + 1 + n)
     keeps-on lt step n e vs p s =
         let (ws, z, q, h, x) = keeps-here vs p s lt in
-        (restAt ws, keep ws z q, rw (e ∙ row-at ws z (h .stands) .below) (after ws z h), x ∙ step ws z q h)
+        (restAt ws, keep ws z q, rw (e ∙ first-row ws z (h .stands) .below) (after ws z h), x ∙ step ws z q h)
 
     pub keeps-hit : at < end → (r : A) → ((ws : Forest) → HasFirst ws → P ws → StandsTo t at end ws → r ≡ f ws) → (vs : Forest) → P vs
         → StandsTo t from end vs → r ≡ f vs

@@ -7,7 +7,7 @@ use borrow.Author.Needs.{needs}
 use Rattle.json.specs.Cursors.{rest}
 use Rattle.contact.specs.Pointer.{pointerOf, parts}
 use Rattle.text.specs.Firsts.{insideAt}
-use Rattle.text.proofs.Promise.{row-at, inside}
+use Rattle.text.proofs.Promise.{first-row, inside}
 use Rattle.card.proofs.MemberLaws.{standing}
 use Rattle.card.proofs.PointerLaws.{fewer}
 use Rattle.card.proofs.PathLaws.{inside-kinds, walk-array, walk-scalar, walk-last, walk-lacks, walk-on}
@@ -56,15 +56,15 @@ follow-returns t c =
     λ f s h k.
     let a = c .before .before .before .before .before .args in
     walk-array (now (a .text)) f s k (pointerOf (rest (now (a .key)) (a .c)))
-    (sym (row-at f s h .kind) ∙ sym (c .before .kind .ensures) ∙ c .if1 .taken)
+    (sym (first-row f s h .kind) ∙ sym (c .before .kind .ensures) ∙ c .if1 .taken)
 
 follow-returns-2 : (t : ℕ) → follow-lts.Need-returns-2 (given t) (follow-at t) follow.Post
 follow-returns-2 t c =
     λ f s h k.
     let a = c .before .before .before .before .before .before .args in
     let kind = c .before .before .kind in
-    walk-scalar (now (a .text)) f s k (pointerOf (rest (now (a .key)) (a .c))) (λ e. c .before .if1 .left (kind .ensures ∙ row-at f s h .kind ∙ e))
-    (λ e. c .if2 .taken (kind .ensures ∙ row-at f s h .kind ∙ e))
+    walk-scalar (now (a .text)) f s k (pointerOf (rest (now (a .key)) (a .c))) (λ e. c .before .if1 .left (kind .ensures ∙ first-row f s h .kind ∙ e))
+    (λ e. c .if2 .taken (kind .ensures ∙ first-row f s h .kind ∙ e))
 
 follow-next-part-requires : (t : ℕ) → follow-lts.Need-next-part-requires (given t) (follow-at t) follow.Post
 follow-next-part-requires t c κs = search needs
@@ -81,13 +81,13 @@ follow-returns-3 t c =
     let a = c .before .before .before .before .before .before .before .before .before .args in
     let kind = c .before .before .before .before .before .kind in
     let if2 = c .before .before .before .if2 in
-    walk-last (now (a .text)) f s k (sym (row-at f s h .kind) ∙ sym (kind .ensures) ∙ if2 .left)
+    walk-last (now (a .text)) f s k (sym (first-row f s h .kind) ∙ sym (kind .ensures) ∙ if2 .left)
     (rw (c .enum-told .given .1) at (c .before .before .next-part .ensures))
 
 follow-add-first : (t : ℕ) → follow-lts.Need-add-first (given t) (follow-at t) follow.Post
 follow-add-first t c =
     let (f, s, h, k) = c .before .before .before .before .before .before .before .before .before .before .pre .1 in
-    omega (arith, row-at f s h .room)
+    omega (arith, first-row f s h .room)
 
 follow-below-requires : (t : ℕ) → follow-lts.Need-below-requires (given t) (follow-at t) follow.Post
 follow-below-requires t c κs = search needs
@@ -95,13 +95,13 @@ follow-below-requires t c κs = search needs
 follow-add-end : (t : ℕ) → follow-lts.Need-add-end (given t) (follow-at t) follow.Post
 follow-add-end t c =
     let (f, s, h, k) = c .before .before .before .before .before .before .before .before .before .before .before .pre .1 in
-    omega (arith, c .below .ensures, row-at f s h .below, row-at f s h .room-all)
+    omega (arith, c .below .ensures, first-row f s h .below, first-row f s h .room-all)
 
 follow-member-row-requires : (t : ℕ) → follow-lts.Need-member-row-requires (given t) (follow-at t) follow.Post
 follow-member-row-requires t c κs =
     let start = c .before .before .before .before .before .before .before .before .before .before .before in
     let (f, s, h, k) = start .pre .1 in
-    omega (arith, c .below .ensures, row-at f s h .below, row-at f s h .room-all, start .good .1 .0 .0)
+    omega (arith, c .below .ensures, first-row f s h .below, first-row f s h .room-all, start .good .1 .0 .0)
 
 follow-enum-known-m : (t : ℕ) → follow-lts.Need-enum-known-m (given t) (follow-at t) follow.Post
 follow-enum-known-m t c = search needs
@@ -118,8 +118,8 @@ follow-returns-4 t c =
     let next-part = c .before .before .before .before .before .before .before .next-part in
     let on = c .before .before .before .before .before .on in
     let below = c .before .before .before .below in
-    walk-lacks (now (a .text)) f s k (sym (row-at f s h .kind) ∙ sym (kind .ensures) ∙ if2 .left) (rw (on .given .1) at (next-part .ensures))
-    (rw (c .enum-told2 .given .1) at (c .before .before .member-row .ensures (insideAt f) (rw (below .ensures ∙ row-at f s h .below) (inside f s h))))
+    walk-lacks (now (a .text)) f s k (sym (first-row f s h .kind) ∙ sym (kind .ensures) ∙ if2 .left) (rw (on .given .1) at (next-part .ensures))
+    (rw (c .enum-told2 .given .1) at (c .before .before .member-row .ensures (insideAt f) (rw (below .ensures ∙ first-row f s h .below) (inside f s h))))
 
 follow-follow-requires : (t : ℕ) → follow-lts.Need-follow-requires (given t) (follow-at t) follow.Post
 follow-follow-requires t c κs =
@@ -131,7 +131,7 @@ follow-follow-requires t c κs =
     let member-row = c .before .before .before .member-row in
     let (f, s, h, k) = p .1 in
     let found = standing
-    (rw (c .before .m .given .1) at (member-row .ensures (insideAt f) (rw (below .ensures ∙ row-at f s h .below) (inside f s h)))) in (
+    (rw (c .before .m .given .1) at (member-row .ensures (insideAt f) (rw (below .ensures ∙ first-row f s h .below) (inside f s h)))) in (
       omega (arith, p .0, fewer (pointerOf (rest (now (a .key)) (a .c))) (rw (on .given .1) at (next-part .ensures))),
       (found .found, found .some-found, found .stands .stands, found .kinds (inside-kinds f k)),
     )
@@ -148,9 +148,9 @@ follow-returns-5 t c =
     let below = c .before .before .before .before .before .below in
     let member-row = c .before .before .before .before .member-row in
     let found = standing
-    (rw (c .before .before .m .given .1) at (member-row .ensures (insideAt f) (rw (below .ensures ∙ row-at f s h .below) (inside f s h)))) in
+    (rw (c .before .before .m .given .1) at (member-row .ensures (insideAt f) (rw (below .ensures ∙ first-row f s h .below) (inside f s h)))) in
     c .follow .ensures (found .found) (found .some-found) (found .stands .stands) (found .kinds (inside-kinds f k)) ∙ walk-on (now (a .text)) f s k
-    (sym (row-at f s h .kind) ∙ sym (kind .ensures) ∙ if2 .left) (found .found) (rw (on .given .1) at (next-part .ensures)) (found .is)
+    (sym (first-row f s h .kind) ∙ sym (kind .ensures) ∙ if2 .left) (found .found) (rw (on .given .1) at (next-part .ensures)) (found .is)
 
 pub +follow-spec : {M : Type 1} → statement M
 +follow-spec = close μ-follow λ t. follow-lts.spec (given t)

@@ -4,7 +4,7 @@ use Prim.Native.Nat.{_+_}
 use native.Mathlib.Omega.{arith}
 use denote.Ref.{now}
 use Rattle.text.specs.Firsts.{insideAt}
-use Rattle.text.proofs.Promise.{row-at, inside}
+use Rattle.text.proofs.Promise.{first-row, inside}
 use Rattle.contact.specs.Schema.{objectOf, fits}
 use Rattle.card.specs.Types.{typeOf, objectType}
 use Rattle.laws.proofs.Picks.{granted, denied}
@@ -24,7 +24,7 @@ returns c =
     λ f v k.
     let a = c .before .before .before .before .before .args in
     row-unfit (now (a .text)) f (v .some) (typeOf (a .ty)) (a .key)
-    (sym (ap (fits (typeOf (a .ty))) (c .before .before .kind .ensures ∙ row-at f (v .some) (v .stands) .kind)) ∙ sym (c .before .kind-fits .ensures)
+    (sym (ap (fits (typeOf (a .ty))) (c .before .before .kind .ensures ∙ first-row f (v .some) (v .stands) .kind)) ∙ sym (c .before .kind-fits .ensures)
     ∙ denied (c .before .kind-fits .result) (c .if1 .taken))
 
 role-of-requires : tie.Need-role-of-requires
@@ -41,13 +41,13 @@ next-row-requires c κs =
 add-object-number : tie.Need-add-object-number
 add-object-number c =
     let (f, v) = c .before .before .before .before .before .before .before .before .before .before .pre in
-    omega (arith, row-at f (v .some) (v .stands) .room)
+    omega (arith, first-row f (v .some) (v .stands) .room)
 
 object-number-requires : tie.Need-object-number-requires
 object-number-requires c κs =
     let a = c .before .before .before .before .before .before .before .before .before .before .args in
     let (f, v) = c .before .before .before .before .before .before .before .before .before .before .pre in
-    (insideAt f, (rw (c .next-row .ensures ∙ ap (λ m. a .row + 1 + m) (row-at f (v .some) (v .stands) .below)) (inside f (v .some) (v .stands))))
+    (insideAt f, (rw (c .next-row .ensures ∙ ap (λ m. a .row + 1 + m) (first-row f (v .some) (v .stands) .below)) (inside f (v .some) (v .stands))))
 
 enum-told : tie.Need-enum-told
 enum-told c = search needs
@@ -68,9 +68,9 @@ returns-2 c =
     (objectType (c .before .before .before .o .given .0 .0)) = rw (o .given .1) at (role-of .ensures) in
     rw ty
     (c .object-number .ensures (insideAt f)
-    (rw (c .before .next-row .ensures ∙ ap (λ m. a .row + 1 + m) (row-at f (v .some) (v .stands) .below)) (inside f (v .some) (v .stands)))
+    (rw (c .before .next-row .ensures ∙ ap (λ m. a .row + 1 + m) (first-row f (v .some) (v .stands) .below)) (inside f (v .some) (v .stands)))
     ∙ row-object (now (a .text)) f (v .some) (objectType (o .given .0 .0)) (a .key)
-    (rw ty at (sym (ap (fits (typeOf (a .ty))) (kind .ensures ∙ row-at f (v .some) (v .stands) .kind)) ∙ sym (kind-fits .ensures)
+    (rw ty at (sym (ap (fits (typeOf (a .ty))) (kind .ensures ∙ first-row f (v .some) (v .stands) .kind)) ∙ sym (kind-fits .ensures)
     ∙ granted (kind-fits .result) (if1 .left))))
 
 returns-3 : tie.Need-returns-3
@@ -83,7 +83,7 @@ returns-3 c =
     let role-of = c .before .before .before .role-of in
     c .value-number .ensures f v k ∙ row-value (now (a .text)) f (v .some) (typeOf (a .ty)) (a .key)
     (rw (c .before .enum-told .given .1) at (role-of .ensures))
-    (sym (ap (fits (typeOf (a .ty))) (kind .ensures ∙ row-at f (v .some) (v .stands) .kind)) ∙ sym (kind-fits .ensures)
+    (sym (ap (fits (typeOf (a .ty))) (kind .ensures ∙ first-row f (v .some) (v .stands) .kind)) ∙ sym (kind-fits .ensures)
     ∙ granted (kind-fits .result) (if1 .left))
 
 pub row-number-spec : {M : Type 1} → statement M

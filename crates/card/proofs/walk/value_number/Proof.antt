@@ -6,7 +6,7 @@ use Rattle.text.specs.Tree.{Forest}
 use Rattle.card.specs.Types.{typeOf}
 use Rattle.card.specs.Rows.{ValueAt}
 use Rattle.card.specs.Walk.{valueNumber}
-use Rattle.text.proofs.Promise.{row-at}
+use Rattle.text.proofs.Promise.{first-row}
 use Rattle.laws.proofs.Picks.{granted, denied}
 use borrow.Author.Needs.{needs}
 use Rattle.card.proofs.walk.value_number.Statement.{statement}
@@ -35,7 +35,7 @@ asked : (c : tie.After-allows) {b : Bool} → c .allows .result ≡ b → (f : F
 unfolding valueNumber
 asked c e f v =
     let a = c .before .before .before .before .before .before .before .args in
-    let r = row-at f (v .some) (v .stands) in
+    let r = first-row f (v .some) (v .stands) in
     rw (
       granted (a .key) (c .before .before .before .before .if1 .left),
       ← r .kind,

@@ -12,7 +12,7 @@ use Rattle.text.specs.Tree.{Forest, none, leaf, node}
 use Rattle.text.specs.Firsts.{HasFirst, nameStart, nameEnd, restAt}
 use Rattle.text.specs.Standing.{StandsTo}
 use Rattle.text.specs.Reader.{named}
-use Rattle.text.proofs.Standing.{row-at, Going, started, go-on, hit, ended}
+use Rattle.text.proofs.Standing.{first-row, Going, started, go-on, hit, ended}
 use Rattle.json.specs.Rows.{nameStartIn, nameEndIn}
 use Rattle.json.proofs.members.named.Statement.{statement}
 use Rattle.json.proofs.members.named.Tie as tie
@@ -28,7 +28,7 @@ first-named t name (node b ns ne from to inside rest) s = refl
 tested : (t name table : List ℕ) (row end s e : ℕ) (r : Bool) → s ≡ nameStartIn table row → e ≡ nameEndIn table row → r ≡ same (nameOf t s e) name
     → (f : Forest) → HasFirst f → StandsTo table row end f → named t name f ≡ cond r true (named t name (restAt f))
 tested t name table row end s e r hs he hr f z h =
-    let at = row-at f z (h .stands) in
+    let at = first-row f z (h .stands) in
     let hs′ : s ≡ nameStart f = hs ∙ at .name-start in
     let he′ : e ≡ nameEnd f = he ∙ at .name-end in
     first-named t name f z ∙ rw (hr, hs′, he′)
