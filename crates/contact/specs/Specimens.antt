@@ -140,6 +140,8 @@ cases =
     ∷ accepted (judging (withId (replicate 255 97))) 6 0 (cardRows 318 5 (row 7 44 53 55 317 1 ++ row 7 57 312 314 316 0)) []
     ∷ refusedAt (judging (withId (replicate 256 97))) 13 315
     ∷ refusedAt (judging (withId [])) 13 59
+    -- an Id is decoded before it is judged
+    ∷ accepted (judging (withId (bytes "\\u0061"))) 6 0 (cardRows 69 5 (row 7 44 53 55 68 1 ++ row 7 57 63 65 67 0)) []
     -- (P) a fraction passes unless it ends in 0
     ∷ accepted (judging (created "2010-10-10T10:10:10.003Z")) 5 0 (cardRows 80 4 (row 5 44 51 53 79 0)) []
     ∷ refusedAt (judging (created "2010-10-10T10:10:10.000Z")) 13 53
@@ -154,6 +156,10 @@ cases =
     ∷ accepted (judging (with (bytes ",\"kind\":\"group\",\"members\":{}"))) 6 0 (cardRows 71 5 (row 5 44 48 50 57 0 ++ row 7 59 66 68 70 0)) []
     ∷ refusedAt (judging (with (bytes ",\"members\":{}"))) 14 0
     ∷ refusedAt (judge (with (name "\"components\":[{\"kind\":\"given\",\"value\":\"A\"},{\"kind\":\"separator\",\"value\":\" \"}]")) 72) 14 50
+    -- the place is that of the offending value, behind an object with values of its own
+    ∷ refusedAt (judging (with (name "\"full\":\"A\"" ++ bytes ",\"kind\":5"))) 11 70
+    -- `defaultSeparator` without true `isOrdered`
+    ∷ refusedAt (judging (with (name "\"full\":\"A\",\"defaultSeparator\":\" \""))) 14 50
     -- more of the wrong kind, in an object of each type of the table; null fits none that is listed
     ∷ refusedAt (judging (with (bytes ",\"language\":null"))) 11 54
     ∷ refusedAt (judging (with (bytes ",\"localizations\":{\"de\":1}"))) 11 65
@@ -177,6 +183,8 @@ cases =
     ∷ refusedAt (localizing (patched (name "\"full\":\"Ann\"") "\"name\":null,\"name/full\":\"Anne\"")) 24 0
     -- (P) `name/components/0` is 25 where components is an array
     ∷ refusedAt (localizing (patched (name "\"components\":[{\"kind\":\"given\",\"value\":\"Ann\"}]") "\"name/components/0\":1")) 25 0
+    -- 25 before 26, whichever entry comes first
+    ∷ refusedAt (localizing (patched (name "\"components\":[{\"kind\":\"given\",\"value\":\"Ann\"}]") "\"nope/x\":1,\"name/components/0\":1")) 25 0
     -- (P) `name/full/x` is 26 where full is a string
     ∷ refusedAt (localizing (patched (name "\"full\":\"Ann\"") "\"name/full/x\":1")) 26 0
     -- (P) null on `uid` is 28 with 12
@@ -186,6 +194,11 @@ cases =
     ∷ refusedAt (localize (patched [] "\"uid\":null") (bytes "de") 100 31) 27 32
     -- an empty PatchObject gives the card without localizations
     ∷ accepted (localizing (patched (name "\"full\":\"Ann\"") "")) 6 65 (cardRows 65 5 (row 7 44 48 50 64 1 ++ row 5 52 56 58 63 0)) (with (name "\"full\":\"Ann\""))
+    -- an output just long enough is long enough
+    ∷ accepted (localize (patched (name "\"full\":\"Ann\"") "") (bytes "de") 100 65) 6 65 (cardRows 65 5 (row 7 44 48 50 64 1 ++ row 5 52 56 58 63 0))
+    (with (name "\"full\":\"Ann\""))
+    -- a replaced member keeps its name as it is written
+    ∷ accepted (localizing (patched (bytes ",\"\\u0061\":1") "\"a\":2")) 5 54 (cardRows 54 4 (row 4 44 50 52 53 0)) (with (bytes ",\"\\u0061\":2"))
     -- a name with just `full` and `components`, null on both: 28 with 14
     ∷ refusedAt (localizing (patched (name "\"full\":\"Ann\",\"components\":[{\"kind\":\"given\",\"value\":\"Ann\"}]") "\"name/full\":null,\"name/components\":null")) 28 14
     -- `~01` is `~1`, not `/`
