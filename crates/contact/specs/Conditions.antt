@@ -12,7 +12,7 @@ use Rattle.text.specs.Text.{bytes}
 use Rattle.text.specs.Tree.{Forest}
 use Rattle.text.specs.Doc.{Name, Doc, scalar, array, object, Members, member, Property, property, seek}
 use Rattle.text.specs.Writing.{written}
-use Rattle.contact.specs.Verdict.{passed, failed, judgedOf}
+use Rattle.contact.specs.Verdict.{refusedCard, passed, failed, judgedOf}
 use Rattle.contact.specs.Pointer.{Pointer, pointerOf, firstPart, parts, find}
 use Rattle.contact.specs.Localize.{start, patchAt, patchedDoc}
 use Rattle.contact.specs.Entries.{Prefix}
@@ -68,6 +68,17 @@ pub data LosesWay (p : Pointer) (d : Doc) : Type 0 where
 pub record PatchOf (card : Doc) (lang : Name) (ms : Members) : Type 0 where
   pub label : List ℕ
   pub stands : find (patchAt lang) card ≡ some (property label (object ms))
+
+-- the second number that the sheet has for a refusal: 0 for 21 to 26, for 27 the bytes needed, for 28 the number of the refusal inside
+pub data SecondNumber : LocalRefusal → ℕ → Type 0 where
+  no-language : SecondNumber NoLanguage 0
+  bad-key : SecondNumber BadKey 0
+  own-localizations : SecondNumber OwnLocalizations 0
+  clash : SecondNumber Clash 0
+  in-array : SecondNumber InArray 0
+  no-object : SecondNumber NoObject 0
+  needed : {n : ℕ} → SecondNumber (Short n) n
+  inside : {r : CardRefusal} → SecondNumber (Inner r) (refusedCard r .number)
 
 module _ (L : Limits) (words room : ℕ) (card : Doc) (lang : Name) where
   -- the condition of this number is broken, and calls for this refusal

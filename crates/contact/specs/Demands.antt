@@ -30,11 +30,11 @@ use Rattle.text.specs.declared.Reading.{Reading}
 use Rattle.contact.specs.Pointer.{Pointer, pointerOf}
 use Rattle.contact.specs.PointerText.{PointerText}
 use Rattle.contact.specs.Patch.{Entry, run}
-use Rattle.contact.specs.Localize.{refusedLocal, start, patchedDoc}
+use Rattle.contact.specs.Localize.{start, patchedDoc}
 use Rattle.contact.specs.Signatures.{AsSigned}
 use Rattle.contact.specs.Breaches.{Keeps, FirstBreach}
 use Rattle.contact.specs.Judging.{Judges}
-use Rattle.contact.specs.Conditions.{LooseTilde, PatchOf, BrokenCondition, Applicable, Smallest}
+use Rattle.contact.specs.Conditions.{LooseTilde, PatchOf, SecondNumber, BrokenCondition, Applicable, Smallest}
 use Rattle.contact.specs.Likeness.{Reordered}
 use Rattle.contact.specs.Entries.{Asked}
 use Rattle.contact.specs.Patching.{OrderOnly, PatchedCard}
@@ -208,10 +208,10 @@ pub record Localizing (L : Limits) (serve : Call → Left) : Type 0 where
   -- it is accepted exactly when none of the conditions 21 to 28 is broken
   pub accepted : (t : List ℕ) (lang : Name) (words room : ℕ) (f : Forest) → CardText L words t f
       → Passes serve (localize t lang words room) ↔ ((n : ℕ) (r : LocalRefusal) → ¬ BrokenCondition L words room (docOf t f) lang n r)
-  -- and else refused by the broken condition of smallest number
+  -- and else refused by the broken condition of smallest number, with the sheet's second number
   pub refused : (t : List ℕ) (lang : Name) (words room : ℕ) (f : Forest) → CardText L words t f → (n second : ℕ) → 0 < n
       → (serve (localize t lang words room) .answer ≡ numbers n second 0)
-      ↔ ((r : LocalRefusal) × (refusedLocal r ≡ numbers n second 0) × Smallest L words room (docOf t f) lang n r)
+      ↔ ((r : LocalRefusal) × SecondNumber r second × Smallest L words room (docOf t f) lang n r)
   -- the conditions speak of the pointers that keys write: each key that has no loose `~` writes one, and any other writes none
   pub keys : (key : Name) (p : Pointer) → PointerText key p ↔ ((¬ LooseTilde key) × (p ≡ pointerOf key))
   -- so a PatchObject asks for one list of entries: those that a patched card (`Patched`) is about

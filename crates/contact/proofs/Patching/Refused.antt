@@ -21,7 +21,8 @@ use Rattle.contact.specs.Verdict.{Judged, passed, failed, judgedOf}
 use Rattle.contact.specs.Pointer.{find}
 use Rattle.contact.specs.Patch.{entriesOf, anyBadKey, anyOwn, anyClash, anyWalk, isInArray, isNoObject}
 use Rattle.contact.specs.Localize.{refusedLocal, Outcome, done, denied, start, patchAt, byJudge, byRoom, byEntries, inPatch, withPatch, localizedDoc, patchedDoc}
-use Rattle.contact.specs.Conditions.{HasKey, HasKeys, PatchOf, BrokenCondition, noLanguage, badKey, ownLocalizations, clashing, enteringArray, losingWay, short, unfit, Smallest, Accepted}
+use Rattle.contact.specs.Conditions.{HasKey, HasKeys, PatchOf, SecondNumber, BrokenCondition, noLanguage, badKey, ownLocalizations, clashing, enteringArray, losingWay, short, unfit, Smallest, Accepted}
+use Rattle.contact.specs.Conditions as S
 use Rattle.contact.specs.declared.LocalRefusal.{LocalRefusal}
 use Rattle.contact.specs.declared.LocalRefusal.the-variants.{NoLanguage, Short}
 use Rattle.contact.proofs.Patching.Found.{bad-key-found, bad-key-finds, own-found, own-finds, array-found, array-finds, lost-found, lost-finds, clash-found, clash-finds}
@@ -224,6 +225,18 @@ module _ (L : Limits) (words room : ℕ) (card : Doc) (lang : Name) where
   broken-number (losingWay p k t) = refl
   broken-number (short p k) = refl
   broken-number (unfit p e) = refl
+
+  -- and its second number
+  pub broken-second : {n : ℕ} {r : LocalRefusal} → B n r → SecondNumber r (refusedLocal r .second)
+  unfolding refusedLocal
+  broken-second (noLanguage h) = S.no-language
+  broken-second (badKey p k t) = S.bad-key
+  broken-second (ownLocalizations p k t) = S.own-localizations
+  broken-second (clashing p k t) = S.clash
+  broken-second (enteringArray p k t) = S.in-array
+  broken-second (losingWay p k t) = S.no-object
+  broken-second (short p k) = S.needed
+  broken-second (unfit p e) = S.inside
 
   -- a refusal is given exactly if its condition is broken, and none of a smaller number
   pub refused-iff : (r : LocalRefusal) → (localizedDoc L words room card lang ≡ denied r) ↔ Smallest L words room card lang (refusedLocal r .number) r
