@@ -32,6 +32,7 @@ use Rattle.contact.specs.Demands.{Lines, Ends, acceptance, refusal, Dema
 use Rattle.contact.proofs.Judging.{judging}
 use Rattle.contact.proofs.Judging.Signatures.{as-signed}
 use Rattle.contact.proofs.Patching.Pointers.{key-iff}
+use Rattle.contact.proofs.Patching.Start.{patch-iff}
 use Rattle.contact.proofs.Patching.Asked.{one-asking}
 use Rattle.contact.proofs.Patching.Together.{patching}
 use Rattle.contact.proofs.Patching.Contract.{one-outcome, one-order, output-fits}
@@ -130,6 +131,7 @@ module _ (L : Limits) (unique : L .unique ≡ true) (six : L .words ≡ rowWords
       patched = λ t lang words room f c. localize-patched L unique words room t lang f (card-passed L words t f c);
       accepted = λ t lang words room f c. localize-accepted L unique words room t lang f (card-passed L words t f c);
       refused = λ t lang words room f c. localize-refused L unique words room t lang f (card-passed L words t f c);
+      language = patch-iff;
       keys = λ key. key-iff key;
       asking = λ ms es fs x y. one-asking x y;
       would-be = λ t lang words room f c. localize-would L unique words room t lang f (card-passed L words t f c);

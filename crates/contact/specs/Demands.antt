@@ -34,7 +34,7 @@ use Rattle.contact.specs.Localize.{start, patchedDoc}
 use Rattle.contact.specs.Signatures.{AsSigned}
 use Rattle.contact.specs.Breaches.{Keeps, FirstBreach}
 use Rattle.contact.specs.Judging.{Judges}
-use Rattle.contact.specs.Conditions.{LooseTilde, PatchOf, SecondNumber, BrokenCondition, Applicable, Smallest}
+use Rattle.contact.specs.Conditions.{LooseTilde, PatchOf, PatchUnder, SecondNumber, BrokenCondition, Applicable, Smallest}
 use Rattle.contact.specs.Likeness.{Reordered}
 use Rattle.contact.specs.Entries.{Asked}
 use Rattle.contact.specs.Patching.{OrderOnly, PatchedCard}
@@ -212,7 +212,9 @@ pub record Localizing (L : Limits) (serve : Call → Left) : Type 0 where
   pub refused : (t : List ℕ) (lang : Name) (words room : ℕ) (f : Forest) → CardText L words t f → (n second : ℕ) → 0 < n
       → (serve (localize t lang words room) .answer ≡ numbers n second 0)
       ↔ ((r : LocalRefusal) × SecondNumber r second × Smallest L words room (docOf t f) lang n r)
-  -- the conditions speak of the pointers that keys write: each key that has no loose `~` writes one, and any other writes none
+  -- the conditions speak of the PatchObject that the card has for the language,
+  pub language : (card : Doc) (lang : Name) (ms : Members) → PatchOf card lang ms ↔ PatchUnder lang ms card
+  -- and of the pointers that keys write: each key that has no loose `~` writes one, and any other writes none
   pub keys : (key : Name) (p : Pointer) → PointerText key p ↔ ((¬ LooseTilde key) × (p ≡ pointerOf key))
   -- so a PatchObject asks for one list of entries: those that a patched card (`Patched`) is about
   pub asking : (ms : Members) (es fs : List Entry) → Asked ms es → Asked ms fs → es ≡ fs
