@@ -8,7 +8,7 @@ pub mod Sheet
 pub mod Reading
 pub mod Localizing
 pub mod AnyOrder
-use Prim.Native.Nat.{ℕ, _*_, _≤_}
+use Prim.Native.Nat.{ℕ, _-_, _*_, _≤_}
 use native.Mathlib.Nat.{sub-zero}
 use native.Mathlib.Omega.{arith}
 use mathlib.Core.Path.{_≡_, refl}
@@ -21,9 +21,11 @@ use Rattle.text.specs.Tree.{Forest, size, rowsOf}
 use Rattle.text.specs.Reader.{Read, good, bad}
 use Rattle.text.specs.Grammar.{rootOf}
 use Rattle.text.specs.declared.Paper.{Paper}
+use Rattle.text.specs.Sheet.{numbers}
 use Rattle.text.specs.Whole.{wholeOf, sheetOf, tableOf}
 use Rattle.text.specs.Doc.{Name, docOf}
 use Rattle.text.proofs.Outcomes.{same-outcome}
+use Rattle.text.proofs.Rows.{row-filled, one-value}
 use Rattle.text.proofs.Promise.{rows-length, whole-good}
 use Rattle.contact.specs.Verdict.{Judged, passed, failed, judgedOf, sheetOfJudged, tableOfJudged, paperOfVerdict}
 use Rattle.contact.specs.Localize.{Outcome, done, denied, localizedOf, sheetOfOutcome, tableOfOutcome, outputOfOutcome, answerOfOutcome, paperOfLocalized}
@@ -48,6 +50,11 @@ use Rattle.contact.proofs.Demands.Localizing.{of-doc, card-written, loc
 refused-ends : (c : Call) {p : Paper} → OnLine (Lines c) p → Ends c (leaves p (filled (wordsOf c) []) (filled (roomOf c) []))
 refused-ends c (on-line n second l) = rw (sub-zero (wordsOf c), sub-zero (roomOf c)) (refusal l)
 
+-- acceptance leaves what is written, and zero behind it
+accepted-ends : (c : Call) (rows bytes : List ℕ) (count : ℕ) → length rows ≡ rowWords * count → length rows ≤ wordsOf c → length bytes ≤ roomOf c
+    → Ends c (leaves (numbers 0 count (length bytes)) (filled (wordsOf c) rows) (filled (roomOf c) bytes))
+accepted-ends c rows bytes count e l k = acceptance rows bytes count (wordsOf c - length rows) (roomOf c - length bytes) e (omega arith) (omega arith)
+
 module _ (L : Limits) (unique : L .unique ≡ true) (six : L .words ≡ rowWords) where
   -- rows that have room
   rows-fit : (words : ℕ) (f : Forest) → L .words * size f ≤ words → length (rowsOf f) ≤ words
@@ -59,7 +66,7 @@ module _ (L : Limits) (unique : L .unique ≡ true) (six : L .words ≡ rowWords
     where
       go : (R : Read) → wholeOf L words t ≡ R → Ends (read t words) (leaves (sheetOf R) (tableOf words R) [])
       go (bad r) e = refused-ends (read t words) (text-line r)
-      go (good f to) e = acceptance (rowsOf f) [] (size f) (rows-length f) (rows-fit words f (whole-good L words t f to e .room)) (omega arith)
+      go (good f to) e = accepted-ends (read t words) (rowsOf f) [] (size f) (rows-length f) (rows-fit words f (whole-good L words t f to e .room)) (omega arith)
 
   judge-ends : (t : List ℕ) (words : ℕ) → Ends (judge t words) (served L (judge t words))
   unfolding served sheetOfJudged paperOfVerdict tableOfJudged
@@ -69,7 +76,7 @@ module _ (L : Limits) (unique : L .unique ≡ true) (six : L .words ≡ rowWords
       go (failed r) e = refused-ends (judge t words) (card-line r)
       go (passed f) e =
           let (to, whole, keeps) = judging .accepted L words t f .0 e in
-          acceptance (rowsOf f) [] (size f) (rows-length f) (rows-fit words f (whole-good L words t f to whole .room)) (omega arith)
+          accepted-ends (judge t words) (rowsOf f) [] (size f) (rows-length f) (rows-fit words f (whole-good L words t f to whole .room)) (omega arith)
 
   localize-ends : (t : List ℕ) (lang : Name) (words room : ℕ) → Ends (localize t lang words room) (served L (localize t lang words room))
   unfolding served sheetOfOutcome paperOfLocalized answerOfOutcome tableOfOutcome outputOfOutcome
@@ -82,7 +89,7 @@ module _ (L : Limits) (unique : L .unique ≡ true) (six : L .words ≡ rowWords
           let (f, pass) = readback L words room unique .card-text t lang text g e in
           let a = patching L words room .accepted (docOf t f) lang text g .0 (of-doc L unique words room t lang f pass (done text g) e) in
           let c = card-written L unique words room t lang f pass text g a in
-          acceptance (rowsOf g) text (size g) (rows-length g) (rows-fit words g (c .readable .enough))
+          accepted-ends (localize t lang words room) (rowsOf g) text (size g) (rows-length g) (rows-fit words g (c .readable .enough))
           (output-fits L words room (docOf t f) lang text g (of-doc L unique words room t lang f pass (done text g) e))
 
   all-ends : (c : Call) → Ends c (served L c)
@@ -106,6 +113,8 @@ module _ (L : Limits) (unique : L .unique ≡ true) (six : L .words ≡ rowWords
       rows = λ t words. read-rows L words t;
       describe = λ t words. read-describes L words t;
       each-row = λ t words. read-words L words t;
+      each-value = λ f k l. let v = row-filled f k l in (v .seat, v .head, v .there, v .row);
+      one-value = one-value;
       documents = λ t words. read-documents L words t;
       too-long = λ t words. read-long L words t;
       first-fault = λ t within words. read-fault L words t within;

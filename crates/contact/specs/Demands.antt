@@ -5,10 +5,10 @@
 -- `requires`, so nothing is tested beforehand: the contracts give the answer, the table and the output of `served` for every call, and so the
 -- demands hold of any services that keep the contracts (crate bezinkol, specs/Called.antt).
 -- Assumes nothing: these are definitions.
-use Prim.Native.Nat.{ℕ, _*_, _≤_, _<_}
+use Prim.Native.Nat.{ℕ, _+_, _*_, _≤_, _<_}
 use mathlib.Core.Path.{_≡_}
 use mathlib.Core.Logic.{_⊎_, _↔_}
-use mathlib.Core.List.{List, []}
+use mathlib.Core.List.{List, [], _++_}
 use mathlib.Core.Option.{some}
 use lib.ListN.{length, replicate}
 use Rattle.laws.specs.Lists.{filled}
@@ -63,11 +63,12 @@ Lines (localize text language words room) n = Within 1 7 n ⊎ Within 11 14 n �
 
 -- how a call ends
 pub data Ends (c : Call) : Left → Type 0 where
-  -- with acceptance: so many rows, which have room in the table, and so many bytes, which have room in the output; what is unused is zero
-  acceptance : (rows bytes : List ℕ) (count : ℕ) → length rows ≡ rowWords * count → length rows ≤ wordsOf c → length bytes ≤ roomOf c
-      → Ends c (leaves (numbers 0 count (length bytes)) (filled (wordsOf c) rows) (filled (roomOf c) bytes))
-  -- or with one numbered refusal of the sheet: every word and every byte that was lent is zero
-  refusal : {number second : ℕ} → Lines c number → Ends c (leaves (numbers number second 0) (replicate (wordsOf c) 0) (replicate (roomOf c) 0))
+  -- with acceptance: the row count and the length of what is written; so many rows stand in the table and so many bytes in the output, and zero behind them
+  acceptance : (rows bytes : List ℕ) (count spare rest : ℕ) → length rows ≡ rowWords * count → length rows + spare ≡ wordsOf c → length bytes + rest ≡ roomOf c
+      → Ends c (leaves (record { number = 0; second = count; written = length bytes }) (rows ++ replicate spare 0) (bytes ++ replicate rest 0))
+  -- or with one numbered refusal of the sheet, and nothing written: every word and every byte that was lent is zero
+  refusal : {number second : ℕ} → Lines c number
+      → Ends c (leaves (record { number = number; second = second; written = 0 }) (replicate (wordsOf c) 0) (replicate (roomOf c) 0))
 
 -- demand 1, of every call
 pub record EveryCall (L : Limits) (serve : Call → Left) : Type 0 where
@@ -124,6 +125,9 @@ pub record ReadingAndJudging (L : Limits) (serve : Call → Left) : Type 0 where
   -- word by word: the row of each value has its kind, where its name and the value itself start and end, and how many values are below it
   pub each-row : (t : List ℕ) (words : ℕ) (f : Forest) → Readable L words t f → (d : Seat) (h : Head) → Sits top f d h
       → RowAt (serve (read t words) .table) (d .after) h
+  -- one row a value: each row is the row of a value, and of no other
+  pub each-value : (f : Forest) (k : ℕ) → k < size f → (d : Seat) × (h : Head) × Sits top f d h × (d .after ≡ k)
+  pub one-value : (f : Forest) (d e : Seat) (g h : Head) → Sits top f d g → Sits top f e h → d .after ≡ e .after → (d ≡ e) × (g ≡ h)
   -- the document of a text that is read is what it says, white space or not: names and strings by what they spell, the rest as written, in its order
   pub documents : (t : List ℕ) (words : ℕ) (f : Forest) → Readable L words t f → (d : Doc) → Tells t f d ↔ (d ≡ docOf t f)
   -- any other text is refused: by 1 if it is too long
