@@ -1,10 +1,12 @@
 -- The three demands hold (specs/Demands.antt): `demands`, and with the limits of 01 `base-demands`.
 --     Sheet         the refusals and the lines of the sheet
+--     Rows          the rows of a document and of its text
 --     Reading       demand 2
 --     Localizing    demand 3
 --     AnyOrder      judging, of the entries of a PatchObject in another order
 -- Assumes nothing.
 pub mod Sheet
+pub mod Rows
 pub mod Reading
 pub mod Localizing
 pub mod AnyOrder

@@ -7,6 +7,7 @@
 -- Assumes nothing: these are definitions.
 use Prim.Native.Nat.{ℕ, _+_, _*_, _≤_, _<_}
 use mathlib.Core.Path.{_≡_}
+use mathlib.Core.Bool.{true}
 use mathlib.Core.Logic.{_⊎_, _↔_}
 use mathlib.Core.List.{List, [], _++_}
 use mathlib.Core.Option.{some}
@@ -15,14 +16,14 @@ use Rattle.laws.specs.Lists.{filled}
 use Rattle.laws.specs.Sorting.{Perm}
 use Rattle.text.specs.Limits.{Limits, rowWords}
 use Rattle.text.specs.Tree.{Forest, size, rowsOf}
-use Rattle.text.specs.Seats.{Head, Seat, top, Sits}
+use Rattle.text.specs.Seats.{Head, leafHead, Seat, top, Sits}
 use Rattle.text.specs.Standing.{RowAt}
 use Rattle.text.specs.Sheet.{numbers}
 use Rattle.text.specs.Whole.{Reads}
-use Rattle.text.specs.Doc.{Name, Doc, Members, docOf}
+use Rattle.text.specs.Doc.{Name, Doc, scalar, array, object, Members, docOf, countAll}
 use Rattle.text.specs.Distinct.{Distinct}
 use Rattle.text.specs.Grammar.{JsonText, rootOf}
-use Rattle.text.specs.Telling.{Tells}
+use Rattle.text.specs.Telling.{Stretch, Tells}
 use Rattle.text.specs.Meaning.{Accepts}
 use Rattle.text.specs.Fault.{FirstFault}
 use Rattle.text.specs.Promised.{Filled}
@@ -101,16 +102,29 @@ pub record RowsShort (L : Limits) (words : ℕ) (t : List ℕ) (n : ℕ) : Type 
   pub short : words < L .words * size tree
   pub needed : n ≡ size tree
 
--- t is read, the rule of number n is the first that the document that it says breaks, on the row of one of its values, and p is where that value starts
+-- the value of a row is this one: the row's places hold its token and its kind is the token's, or the row is that of an array (6) or an object (7) of
+-- so many values
+pub data Shows (t : List ℕ) : Head → Doc → Type 0 where
+  token : {kind ns ne from to : ℕ} {w : List ℕ} → Stretch t from to w → Shows t (leafHead kind ns ne from to) (scalar kind w)
+  list : {ns ne from to : ℕ} {ms : Members}
+      → Shows t (record { holds = true; kind = 6; ns = ns; ne = ne; from = from; to = to; below = countAll ms }) (array ms)
+  box : {ns ne from to : ℕ} {ms : Members}
+      → Shows t (record { holds = true; kind = 7; ns = ns; ne = ne; from = from; to = to; below = countAll ms }) (object ms)
+
+-- t is read, the rule of number n is the first that the document that it says breaks, on some row; on that row of the text stands the value that breaks
+-- it, and p is where that value starts
 pub record Offends (L : Limits) (words : ℕ) (t : List ℕ) (n p : ℕ) : Type 0 where
   pub tree : Forest
   pub readable : Readable L words t tree
   pub document : Doc
   pub says : Tells t tree document
+  pub row : ℕ
+  pub first : FirstBreach document row n
   pub seat : Seat
   pub offender : Head
   pub stands : Sits top tree seat offender
-  pub first : FirstBreach document (seat .after) n
+  pub on-row : seat .after ≡ row
+  pub shows : Shows t offender (first .broken .value)
   pub place : p ≡ offender .from
 
 -- demand 2, of reading and judging a text
