@@ -42,6 +42,7 @@ use Rattle.contact.proofs.Patching.Together.{patching}
 use Rattle.contact.proofs.Patching.Contract.{one-outcome, one-order, output-fits}
 use Rattle.contact.proofs.Patching.Readback.{readback}
 use Rattle.contact.proofs.Demands.Sheet.{OnLine, on-line, text-line, card-line, local-line}
+use Rattle.contact.proofs.Demands.Rows.{value-seen}
 use Rattle.contact.proofs.Demands.Reading.{read-documents, card-passed, read-passes, read-rows, read-describes, read-words, read-long, read-fault, read-short, judge-unread, judge-passes, judge-rows, judge-offends}
 use Rattle.contact.proofs.Demands.AnyOrder.{reordered-only, order-card, order-number}
 use Rattle.contact.proofs.Demands.Localizing.{of-doc, card-written, localize-own, localize-patched, localize-accepted, localize-would, localize-refused, localize-room, localize-inner}
@@ -125,6 +126,7 @@ module _ (L : Limits) (unique : L .unique ≡ true) (six : L .words ≡ rowWords
       passes = λ t words. judge-passes L words t;
       card-rows = λ t words. judge-rows L words t;
       offends = λ t words. judge-offends L words t;
+      seen = value-seen;
       signed = as-signed;
     };
     localizing = record {

@@ -20,7 +20,7 @@ use Rattle.text.specs.Seats.{Head, leafHead, Seat, top, Sits}
 use Rattle.text.specs.Standing.{RowAt}
 use Rattle.text.specs.Sheet.{numbers}
 use Rattle.text.specs.Whole.{Reads}
-use Rattle.text.specs.Doc.{Name, Doc, scalar, array, object, Members, docOf, countAll}
+use Rattle.text.specs.Doc.{Name, Doc, scalar, array, object, Members, docOf, kindOf, tokenOf, below, countAll}
 use Rattle.text.specs.Distinct.{Distinct}
 use Rattle.text.specs.Grammar.{JsonText, rootOf}
 use Rattle.text.specs.Telling.{Stretch, Tells}
@@ -33,7 +33,7 @@ use Rattle.contact.specs.PointerText.{PointerText}
 use Rattle.contact.specs.Patch.{Entry, run}
 use Rattle.contact.specs.Localize.{start, patchedDoc}
 use Rattle.contact.specs.Signatures.{AsSigned}
-use Rattle.contact.specs.Breaches.{Keeps, FirstBreach}
+use Rattle.contact.specs.Breaches.{Sees, Keeps, FirstBreach}
 use Rattle.contact.specs.Judging.{Judges}
 use Rattle.contact.specs.Conditions.{LooseTilde, PatchOf, PatchUnder, SecondNumber, BrokenCondition, Applicable, Smallest}
 use Rattle.contact.specs.Likeness.{Reordered}
@@ -159,6 +159,8 @@ pub record ReadingAndJudging (L : Limits) (serve : Call → Left) : Type 0 where
   -- otherwise the first offending place and its rule come back, of any text that is read
   pub offends : (t : List ℕ) (words n p : ℕ) → Passes serve (read t words) → 0 < n
       → (serve (judge t words) .answer ≡ numbers n p 0) ↔ Offends L words t n p
+  -- what the rules see of a value: its kind, its token and its members are what they are called
+  pub seen : (v : Doc) → Sees v (kindOf v) (tokenOf v) (below v)
   -- what types and properties the rules are about: the table is what the signatures of RFC 9553 say
   pub signed : AsSigned
 

@@ -6,13 +6,19 @@ use mathlib.Core.Path.{_≡_, refl, sym, ap, ap₂, subst, _∙_}
 use mathlib.Core.List.{List, []}
 use Rattle.text.specs.Tree.{Forest, none, leaf, node, square, curly, size}
 use Rattle.text.specs.Seats.{Head, leafHead, nodeHead, Seat, top, under, behind, Sits}
-use Rattle.text.specs.Doc.{Name, Doc, array, object, Members, member, below, countOf, countAll}
+use Rattle.text.specs.Doc.{Name, Doc, scalar, array, object, Members, member, kindOf, tokenOf, below, countOf, countAll}
 use Rattle.text.proofs.Grammar.Trees.{in-none}
 use Rattle.text.specs.Telling.{TellsAll, nothing, token, entries, members, Tells, tells}
 use Rattle.contact.specs.Schema.{Ty}
-use Rattle.contact.specs.Breaches.{Under, Among, first, later, At, root, inside}
+use Rattle.contact.specs.Breaches.{Sees, Under, Among, first, later, At, root, inside}
+use Rattle.contact.specs.Breaches as B
 use Rattle.contact.specs.Demands.{Shows}
 use Rattle.contact.specs.Demands as S
+
+pub value-seen : (v : Doc) → Sees v (kindOf v) (tokenOf v) (below v)
+value-seen (scalar kind w) = B.token
+value-seen (array ms) = B.list
+value-seen (object ms) = B.box
 
 told-count : {t : List ℕ} {f : Forest} {ms : Members} → TellsAll t f ms → size f ≡ countAll ms
 unfolding size countOf countAll
