@@ -27,6 +27,8 @@ use Rattle.text.specs.Sheet.{numbers}
 use Rattle.text.specs.Whole.{wholeOf, sheetOf, tableOf}
 use Rattle.text.specs.Doc.{Name, docOf}
 use Rattle.text.proofs.Outcomes.{same-outcome}
+use Rattle.text.proofs.Spelling.Codes.{utf8-table}
+use Rattle.text.proofs.NewNames.{spelled-name}
 use Rattle.text.proofs.Rows.{row-filled, one-value}
 use Rattle.text.proofs.Promise.{rows-length, whole-good}
 use Rattle.contact.specs.Verdict.{Judged, passed, failed, judgedOf, sheetOfJudged, tableOfJudged, paperOfVerdict}
@@ -45,7 +47,7 @@ use Rattle.contact.proofs.Demands.Sheet.{OnLine, on-line, text-line, ca
 use Rattle.contact.proofs.Demands.Rows.{value-seen}
 use Rattle.contact.proofs.Demands.Reading.{read-documents, card-passed, read-passes, read-rows, read-describes, read-words, read-long, read-fault, read-short, judge-unread, judge-passes, judge-rows, judge-offends}
 use Rattle.contact.proofs.Demands.AnyOrder.{reordered-only, order-card, order-number}
-use Rattle.contact.proofs.Demands.Localizing.{of-doc, card-written, localize-own, localize-patched, localize-accepted, localize-would, localize-refused, localize-room, localize-inner}
+use Rattle.contact.proofs.Demands.Localizing.{of-doc, card-written, localize-own, localize-patched, localize-accepted, localize-would, localize-refused, refused-answer, localize-room, localize-inner}
 
 -- ---- demand 1
 
@@ -119,6 +121,7 @@ module _ (L : Limits) (unique : L .unique ≡ true) (six : L .words ≡ rowWords
       each-value = λ f k l. let v = row-filled f k l in (v .seat, v .head, v .there, v .row);
       one-value = one-value;
       documents = λ t words. read-documents L words t;
+      utf8-table = utf8-table;
       too-long = λ t words. read-long L words t;
       first-fault = λ t within words. read-fault L words t within;
       rows-short = λ t words. read-short L words t;
@@ -144,9 +147,11 @@ module _ (L : Limits) (unique : L .unique ≡ true) (six : L .words ≡ rowWords
       patched = λ t lang words room f c. localize-patched L unique words room t lang f (card-passed L words t f c);
       accepted = λ t lang words room f c. localize-accepted L unique words room t lang f (card-passed L words t f c);
       refused = λ t lang words room f c. localize-refused L unique words room t lang f (card-passed L words t f c);
+      refused-answer = λ t lang words room f c. refused-answer L unique words room t lang f (card-passed L words t f c);
       language = patch-iff;
       keys = λ key. key-iff key;
       asking = λ ms es fs x y. one-asking x y;
+      new-names = spelled-name;
       would-be = λ t lang words room f c. localize-would L unique words room t lang f (card-passed L words t f c);
       room-enough = λ t lang words room. localize-room L unique words room t lang;
       inner = λ t lang words room. localize-inner L unique words room t lang;

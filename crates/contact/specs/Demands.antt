@@ -19,6 +19,8 @@ use Rattle.text.specs.Tree.{Forest, size, rowsOf}
 use Rattle.text.specs.Seats.{Head, leafHead, Seat, top, Sits}
 use Rattle.text.specs.Standing.{RowAt}
 use Rattle.text.specs.Sheet.{numbers}
+use Rattle.text.specs.Strings.{utf8}
+use Rattle.text.specs.Spelling.{Utf8}
 use Rattle.text.specs.Whole.{Reads}
 use Rattle.text.specs.Doc.{Name, Doc, scalar, array, object, Members, docOf, kindOf, tokenOf, below, countAll}
 use Rattle.text.specs.Distinct.{Distinct}
@@ -27,6 +29,7 @@ use Rattle.text.specs.Telling.{Stretch, Tells}
 use Rattle.text.specs.Meaning.{Accepts}
 use Rattle.text.specs.Fault.{FirstFault}
 use Rattle.text.specs.Promised.{Filled}
+use Rattle.text.specs.Writing.{written, spelled, SpelledName}
 use Rattle.text.specs.declared.Reading.{Reading}
 use Rattle.contact.specs.Pointer.{Pointer, pointerOf}
 use Rattle.contact.specs.PointerText.{PointerText}
@@ -45,6 +48,7 @@ use Rattle.contact.specs.Services.{Call, read, judge, localize, wordsOf,
 use Rattle.contact.specs.declared.Verdict.{Verdict}
 use Rattle.contact.specs.declared.LocalRefusal.{LocalRefusal}
 use Rattle.contact.specs.declared.Localized.{Localized}
+use Rattle.contact.specs.declared.Localized.the-variants.{Denied}
 
 -- the call is accepted: its first number is 0
 abbrev pub Passes : (Call → Left) → Call → Type 0
@@ -65,7 +69,8 @@ Lines (localize text language words room) n = Within 1 7 n ⊎ Within 11 14 n �
 -- how a call ends
 pub data Ends (c : Call) : Left → Type 0 where
   -- with acceptance: the row count and the length of what is written; so many rows stand in the table and so many bytes in the output, and zero behind them
-  acceptance : (rows bytes : List ℕ) (count spare rest : ℕ) → length rows ≡ rowWords * count → length rows + spare ≡ wordsOf c → length bytes + rest ≡ roomOf c
+  acceptance : (rows bytes : List ℕ) (count spare rest : ℕ) → length rows ≡ rowWords * count
+      → length rows + spare ≡ wordsOf c → length bytes + rest ≡ roomOf c
       → Ends c (leaves (record { number = 0; second = count; written = length bytes }) (rows ++ replicate spare 0) (bytes ++ replicate rest 0))
   -- or with one numbered refusal of the sheet, and nothing written: every word and every byte that was lent is zero
   refusal : {number second : ℕ} → Lines c number
@@ -144,6 +149,8 @@ pub record ReadingAndJudging (L : Limits) (serve : Call → Left) : Type 0 where
   pub one-value : (f : Forest) (d e : Seat) (g h : Head) → Sits top f d g → Sits top f e h → d .after ≡ e .after → (d ≡ e) × (g ≡ h)
   -- the document of a text that is read is what it says, white space or not: names and strings by what they spell, the rest as written, in its order
   pub documents : (t : List ℕ) (words : ℕ) (f : Forest) → Readable L words t f → (d : Doc) → Tells t f d ↔ (d ≡ docOf t f)
+  -- and what it calls UTF-8, raw or of names and strings, is that of RFC 3629
+  pub utf8-table : (c : ℕ) → c ≤ 0x10FFFF → Utf8 c (utf8 c)
   -- any other text is refused: by 1 if it is too long
   pub too-long : (t : List ℕ) (words second : ℕ) → (serve (read t words) .answer ≡ numbers 1 second 0) ↔ ((L .bytes < length t) × (second ≡ 0))
   -- else by 2 to 6 if it has such a fault, by the one of smallest place and then of smallest number
@@ -197,6 +204,9 @@ pub record WouldBe (L : Limits) (words : ℕ) (t : List ℕ) (f : Forest) (ms : 
   pub patched : PatchedCard (docOf t f) ms (patchedDoc (docOf t f) ms)
   -- and its text says it: it is read back so, or refused for its depth alone
   pub writes : WrittenCard L words t f (patchedDoc (docOf t f) ms)
+  -- no text that is read, under any limits, and says it is shorter: so 27 asks for no byte too many
+  pub compact : (M : Limits) (u : List ℕ) (g : Forest) → Accepts M u g → docOf u g ≡ patchedDoc (docOf t f) ms
+      → length (written (patchedDoc (docOf t f) ms)) ≤ length u
 
 -- u is a JSON text of as many bytes as a text may have, white space as it likes, and says the document d but for the order of the language's entries
 pub record Reordering (L : Limits) (lang : Name) (d : Doc) (u : List ℕ) : Type 0 where
@@ -232,12 +242,17 @@ pub record Localizing (L : Limits) (serve : Call → Left) : Type 0 where
   pub refused : (t : List ℕ) (lang : Name) (words room : ℕ) (f : Forest) → CardText L words t f → (n second : ℕ) → 0 < n
       → (serve (localize t lang words room) .answer ≡ numbers n second 0)
       ↔ ((r : LocalRefusal) × SecondNumber r second × Smallest L words room (docOf t f) lang n r)
+  -- the same of the answer that the contract allows: it is that refusal itself, with 28's inner place
+  pub refused-answer : (t : List ℕ) (lang : Name) (words room : ℕ) (f : Forest) → CardText L words t f → (a : Localized) (x o : List ℕ)
+      → Localizes L words room t lang a x o → (r : LocalRefusal) → (a ≡ Denied r) ↔ ((n : ℕ) × Smallest L words room (docOf t f) lang n r)
   -- the conditions speak of the PatchObject that the card has for the language,
   pub language : (card : Doc) (lang : Name) (ms : Members) → PatchOf card lang ms ↔ PatchUnder lang ms card
   -- and of the pointers that keys write: each key that has no loose `~` writes one, and any other writes none
   pub keys : (key : Name) (p : Pointer) → PointerText key p ↔ ((¬ LooseTilde key) × (p ≡ pointerOf key))
   -- so a PatchObject asks for one list of entries: those that a patched card (`Patched`) is about
   pub asking : (ms : Members) (es fs : List Entry) → Asked ms es → Asked ms fs → es ≡ fs
+  -- the name of an added member is escaped only where RFC 8259 demands it, by the short escape if there is one, else by \u00 and two small digits
+  pub new-names : (n label : List ℕ) → SpelledName n label ↔ (label ≡ spelled n)
   -- 27 and 28, which come up if none of 21 to 26 is broken, speak of the patched card
   pub would-be : (t : List ℕ) (lang : Name) (words room : ℕ) (f : Forest) → CardText L words t f → (ms : Members) → PatchOf (docOf t f) lang ms
       → Applicable L words room (docOf t f) lang → WouldBe L words t f ms
