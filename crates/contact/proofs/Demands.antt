@@ -1,14 +1,16 @@
 -- The three demands hold (specs/Demands.antt): `demands`, and with the limits of 01 `base-demands`.
 --     Sheet         the refusals and the lines of the sheet
+--     Rows          the rows of a document and of its text
 --     Reading       demand 2
 --     Localizing    demand 3
 --     AnyOrder      judging, of the entries of a PatchObject in another order
 -- Assumes nothing.
 pub mod Sheet
+pub mod Rows
 pub mod Reading
 pub mod Localizing
 pub mod AnyOrder
-use Prim.Native.Nat.{ℕ, _*_, _≤_}
+use Prim.Native.Nat.{ℕ, _-_, _*_, _≤_}
 use native.Mathlib.Nat.{sub-zero}
 use native.Mathlib.Omega.{arith}
 use mathlib.Core.Path.{_≡_, refl}
@@ -21,9 +23,13 @@ use Rattle.text.specs.Tree.{Forest, size, rowsOf}
 use Rattle.text.specs.Reader.{Read, good, bad}
 use Rattle.text.specs.Grammar.{rootOf}
 use Rattle.text.specs.declared.Paper.{Paper}
+use Rattle.text.specs.Sheet.{numbers}
 use Rattle.text.specs.Whole.{wholeOf, sheetOf, tableOf}
 use Rattle.text.specs.Doc.{Name, docOf}
 use Rattle.text.proofs.Outcomes.{same-outcome}
+use Rattle.text.proofs.Spelling.Codes.{utf8-table}
+use Rattle.text.proofs.NewNames.{spelled-name}
+use Rattle.text.proofs.Rows.{row-filled, one-value}
 use Rattle.text.proofs.Promise.{rows-length, whole-good}
 use Rattle.contact.specs.Verdict.{Judged, passed, failed, judgedOf, sheetOfJudged, tableOfJudged, paperOfVerdict}
 use Rattle.contact.specs.Localize.{Outcome, done, denied, localizedOf, sheetOfOutcome, tableOfOutcome, outputOfOutcome, answerOfOutcome, paperOfLocalized}
@@ -32,20 +38,27 @@ use Rattle.contact.specs.Demands.{Lines, Ends, acceptance, refusal, Dema
 use Rattle.contact.proofs.Judging.{judging}
 use Rattle.contact.proofs.Judging.Signatures.{as-signed}
 use Rattle.contact.proofs.Patching.Pointers.{key-iff}
+use Rattle.contact.proofs.Patching.Start.{patch-iff}
 use Rattle.contact.proofs.Patching.Asked.{one-asking}
 use Rattle.contact.proofs.Patching.Together.{patching}
 use Rattle.contact.proofs.Patching.Contract.{one-outcome, one-order, output-fits}
 use Rattle.contact.proofs.Patching.Readback.{readback}
 use Rattle.contact.proofs.Demands.Sheet.{OnLine, on-line, text-line, card-line, local-line}
+use Rattle.contact.proofs.Demands.Rows.{value-seen}
 use Rattle.contact.proofs.Demands.Reading.{read-documents, card-passed, read-passes, read-rows, read-describes, read-words, read-long, read-fault, read-short, judge-unread, judge-passes, judge-rows, judge-offends}
 use Rattle.contact.proofs.Demands.AnyOrder.{reordered-only, order-card, order-number}
-use Rattle.contact.proofs.Demands.Localizing.{of-doc, card-written, localize-own, localize-patched, localize-accepted, localize-would, localize-refused, localize-room, localize-inner}
+use Rattle.contact.proofs.Demands.Localizing.{of-doc, card-written, localize-own, localize-patched, localize-accepted, localize-would, localize-refused, refused-answer, localize-room, localize-inner}
 
 -- ---- demand 1
 
 -- a refusal leaves zero alone
 refused-ends : (c : Call) {p : Paper} → OnLine (Lines c) p → Ends c (leaves p (filled (wordsOf c) []) (filled (roomOf c) []))
 refused-ends c (on-line n second l) = rw (sub-zero (wordsOf c), sub-zero (roomOf c)) (refusal l)
+
+-- acceptance leaves what is written, and zero behind it
+accepted-ends : (c : Call) (rows bytes : List ℕ) (count : ℕ) → length rows ≡ rowWords * count → length rows ≤ wordsOf c → length bytes ≤ roomOf c
+    → Ends c (leaves (numbers 0 count (length bytes)) (filled (wordsOf c) rows) (filled (roomOf c) bytes))
+accepted-ends c rows bytes count e l k = acceptance rows bytes count (wordsOf c - length rows) (roomOf c - length bytes) e (omega arith) (omega arith)
 
 module _ (L : Limits) (unique : L .unique ≡ true) (six : L .words ≡ rowWords) where
   -- rows that have room
@@ -58,7 +71,7 @@ module _ (L : Limits) (unique : L .unique ≡ true) (six : L .words ≡ rowWords
     where
       go : (R : Read) → wholeOf L words t ≡ R → Ends (read t words) (leaves (sheetOf R) (tableOf words R) [])
       go (bad r) e = refused-ends (read t words) (text-line r)
-      go (good f to) e = acceptance (rowsOf f) [] (size f) (rows-length f) (rows-fit words f (whole-good L words t f to e .room)) (omega arith)
+      go (good f to) e = accepted-ends (read t words) (rowsOf f) [] (size f) (rows-length f) (rows-fit words f (whole-good L words t f to e .room)) (omega arith)
 
   judge-ends : (t : List ℕ) (words : ℕ) → Ends (judge t words) (served L (judge t words))
   unfolding served sheetOfJudged paperOfVerdict tableOfJudged
@@ -68,7 +81,7 @@ module _ (L : Limits) (unique : L .unique ≡ true) (six : L .words ≡ rowWords
       go (failed r) e = refused-ends (judge t words) (card-line r)
       go (passed f) e =
           let (to, whole, keeps) = judging .accepted L words t f .0 e in
-          acceptance (rowsOf f) [] (size f) (rows-length f) (rows-fit words f (whole-good L words t f to whole .room)) (omega arith)
+          accepted-ends (judge t words) (rowsOf f) [] (size f) (rows-length f) (rows-fit words f (whole-good L words t f to whole .room)) (omega arith)
 
   localize-ends : (t : List ℕ) (lang : Name) (words room : ℕ) → Ends (localize t lang words room) (served L (localize t lang words room))
   unfolding served sheetOfOutcome paperOfLocalized answerOfOutcome tableOfOutcome outputOfOutcome
@@ -81,7 +94,7 @@ module _ (L : Limits) (unique : L .unique ≡ true) (six : L .words ≡ rowWords
           let (f, pass) = readback L words room unique .card-text t lang text g e in
           let a = patching L words room .accepted (docOf t f) lang text g .0 (of-doc L unique words room t lang f pass (done text g) e) in
           let c = card-written L unique words room t lang f pass text g a in
-          acceptance (rowsOf g) text (size g) (rows-length g) (rows-fit words g (c .readable .enough))
+          accepted-ends (localize t lang words room) (rowsOf g) text (size g) (rows-length g) (rows-fit words g (c .readable .enough))
           (output-fits L words room (docOf t f) lang text g (of-doc L unique words room t lang f pass (done text g) e))
 
   all-ends : (c : Call) → Ends c (served L c)
@@ -105,7 +118,10 @@ module _ (L : Limits) (unique : L .unique ≡ true) (six : L .words ≡ rowWords
       rows = λ t words. read-rows L words t;
       describe = λ t words. read-describes L words t;
       each-row = λ t words. read-words L words t;
+      each-value = λ f k l. let v = row-filled f k l in (v .seat, v .head, v .there, v .row);
+      one-value = one-value;
       documents = λ t words. read-documents L words t;
+      utf8-table = utf8-table;
       too-long = λ t words. read-long L words t;
       first-fault = λ t within words. read-fault L words t within;
       rows-short = λ t words. read-short L words t;
@@ -113,6 +129,7 @@ module _ (L : Limits) (unique : L .unique ≡ true) (six : L .words ≡ rowWords
       passes = λ t words. judge-passes L words t;
       card-rows = λ t words. judge-rows L words t;
       offends = λ t words. judge-offends L words t;
+      seen = value-seen;
       signed = as-signed;
     };
     localizing = record {
@@ -130,8 +147,11 @@ module _ (L : Limits) (unique : L .unique ≡ true) (six : L .words ≡ rowWords
       patched = λ t lang words room f c. localize-patched L unique words room t lang f (card-passed L words t f c);
       accepted = λ t lang words room f c. localize-accepted L unique words room t lang f (card-passed L words t f c);
       refused = λ t lang words room f c. localize-refused L unique words room t lang f (card-passed L words t f c);
+      refused-answer = λ t lang words room f c. refused-answer L unique words room t lang f (card-passed L words t f c);
+      language = patch-iff;
       keys = λ key. key-iff key;
       asking = λ ms es fs x y. one-asking x y;
+      new-names = spelled-name;
       would-be = λ t lang words room f c. localize-would L unique words room t lang f (card-passed L words t f c);
       room-enough = λ t lang words room. localize-room L unique words room t lang;
       inner = λ t lang words room. localize-inner L unique words room t lang;

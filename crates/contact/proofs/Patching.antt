@@ -18,6 +18,7 @@ pub mod Apart
 pub mod Tilde
 pub mod Ways
 pub mod Found
+pub mod Start
 pub mod Refused
 pub mod Public
 pub mod Steps

@@ -6,11 +6,19 @@ use mathlib.Core.Path.{_≡_}
 use mathlib.Core.Bool.{true}
 use mathlib.Core.List.{List, [], _∷_, List·Memᴰ as In}
 use Rattle.text.specs.Strings.{contentOf}
-use Rattle.text.specs.Doc.{Name, Doc, Members, member, kindOf, tokenOf, below, countOf}
+use Rattle.text.specs.Doc.{Name, Doc, scalar, array, object, Members, empty, member, kindOf, tokenOf, below, countOf}
 use Rattle.contact.specs.Schema.{ObjectType, exactly, yes, count, time, Keys, ids, Ty, simple, objectOf, listOf, mapOf, card, Known, properties}
 use Rattle.contact.specs.SimpleValues.{Id, UnsignedInt, UTCDateTime}
 use Rattle.contact.specs.AskedKinds.{Suits}
 use Rattle.contact.specs.BetweenMembers.{HasMember, BreaksBetween}
+
+-- ---- what the rules see of a value
+
+-- its kind as in its row, its token if it holds no others, and the members right below it
+pub data Sees : Doc → (kind : ℕ) → (token : List ℕ) → Members → Type 0 where
+  token : {kind : ℕ} {w : List ℕ} → Sees (scalar kind w) kind w empty
+  list : {ms : Members} → Sees (array ms) 6 [] ms
+  box : {ms : Members} → Sees (object ms) 7 [] ms
 
 -- ---- where types are asked
 

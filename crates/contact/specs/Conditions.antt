@@ -1,5 +1,6 @@
--- The conditions 21 to 28 of the refusal sheet, each by itself and in words: no search, no order and no walk is named here; 27 and 28 speak of the
--- text that would be written. The answer is the broken condition of smallest number (proofs/Patching/Refused.antt).
+-- The conditions 21 to 28 of the refusal sheet, each by itself and in words: no order and no walk is named here. The PatchObject is the one that is
+-- found, and that is the one that the card has (`PatchUnder`); 27 and 28 speak of the text that would be written. The answer is the broken condition of
+-- smallest number (proofs/Patching/Refused.antt).
 -- Assumes nothing: these are definitions.
 use Prim.Native.Nat.{ℕ, _≤_, _<_}
 use mathlib.Core.Path.{_≡_}
@@ -10,11 +11,12 @@ use lib.ListN.{length}
 use Rattle.text.specs.Limits.{Limits}
 use Rattle.text.specs.Text.{bytes}
 use Rattle.text.specs.Tree.{Forest}
-use Rattle.text.specs.Doc.{Name, Doc, scalar, array, object, Members, member, Property, property, seek}
+use Rattle.text.specs.Doc.{Name, Doc, scalar, array, object, Members, empty, member, Property, property, seek}
 use Rattle.text.specs.Writing.{written}
-use Rattle.contact.specs.Verdict.{passed, failed, judgedOf}
-use Rattle.contact.specs.Pointer.{Pointer, pointerOf, firstPart, parts, find}
-use Rattle.contact.specs.Localize.{start, patchAt, patchedDoc}
+use Rattle.contact.specs.BetweenMembers.{HasMember}
+use Rattle.contact.specs.Verdict.{refusedCard, passed, failed, judgedOf}
+use Rattle.contact.specs.Pointer.{Pointer, last, pointerOf, parts, find}
+use Rattle.contact.specs.Localize.{patchAt, patchedDoc}
 use Rattle.contact.specs.Entries.{Prefix}
 use Rattle.contact.specs.declared.CardRefusal.{CardRefusal}
 use Rattle.contact.specs.declared.LocalRefusal.{LocalRefusal}
@@ -62,12 +64,39 @@ pub data LosesWay (p : Pointer) (d : Doc) : Type 0 where
   atScalar : {kind : ℕ} {token : List ℕ} {n : Name} {left : List Name} → Reaches p d (scalar kind token) n left → LosesWay p d
   noMember : {ms : Members} {n m : Name} {left : List Name} → Reaches p d (object ms) n (m ∷ left) → seek n ms ≡ none → LosesWay p d
 
--- ---- the conditions
+-- ---- the PatchObject, and the card without its localizations
 
 -- the PatchObject of the language has the members ms
 pub record PatchOf (card : Doc) (lang : Name) (ms : Members) : Type 0 where
   pub label : List ℕ
   pub stands : find (patchAt lang) card ≡ some (property label (object ms))
+
+-- the same by rules and not by a search: the card has `localizations`, and these have the language
+pub data PatchUnder (lang : Name) (ms : Members) : (card : Doc) → Type 0 where
+  patch-under : {os ls : Members} → HasMember os (bytes "localizations") (object ls) → HasMember ls lang (object ms) → PatchUnder lang ms (object os)
+
+-- the members but those of the name n, in their order and as they were
+pub data LeftOut (n : Name) : Members → Members → Type 0 where
+  noMore : LeftOut n empty empty
+  goes : {label : List ℕ} {d : Doc} {ms rest : Members} → LeftOut n ms rest → LeftOut n (member n label d ms) rest
+  stays : {m : Name} {label : List ℕ} {d : Doc} {ms rest : Members} → m ≢ n → LeftOut n ms rest → LeftOut n (member m label d ms) (member m label d rest)
+
+-- objects, of which the one has the members of the other but those of the name n
+pub data LeftOutOf (n : Name) : Doc → Doc → Type 0 where
+  leftOut : {ms rest : Members} → LeftOut n ms rest → LeftOutOf n (object ms) (object rest)
+
+-- ---- the conditions
+
+-- the second number that the sheet has for a refusal: 0 for 21 to 26, for 27 the bytes needed, for 28 the number of the refusal inside
+pub data SecondNumber : LocalRefusal → ℕ → Type 0 where
+  no-language : SecondNumber NoLanguage 0
+  bad-key : SecondNumber BadKey 0
+  own-localizations : SecondNumber OwnLocalizations 0
+  clash : SecondNumber Clash 0
+  in-array : SecondNumber InArray 0
+  no-object : SecondNumber NoObject 0
+  needed : {n : ℕ} → SecondNumber (Short n) n
+  inside : {r : CardRefusal} → SecondNumber (Inner r) (refusedCard r .number)
 
 module _ (L : Limits) (words room : ℕ) (card : Doc) (lang : Name) where
   -- the condition of this number is broken, and calls for this refusal
@@ -75,13 +104,13 @@ module _ (L : Limits) (words room : ℕ) (card : Doc) (lang : Name) where
     noLanguage : ((ms : Members) → ¬ PatchOf card lang ms) → BrokenCondition 21 NoLanguage
     badKey : {ms : Members} {key : Name} → PatchOf card lang ms → HasKey key ms → LooseTilde key → BrokenCondition 22 BadKey
     ownLocalizations : {ms : Members} {key : Name} → PatchOf card lang ms → HasKey key ms
-        → firstPart (pointerOf key) ≡ bytes "localizations" → BrokenCondition 23 OwnLocalizations
+        → Prefix (last (bytes "localizations")) (pointerOf key) → BrokenCondition 23 OwnLocalizations
     clashing : {ms : Members} {key other : Name} → PatchOf card lang ms → HasKeys key other ms
         → Prefix (pointerOf key) (pointerOf other) ⊎ Prefix (pointerOf other) (pointerOf key) → BrokenCondition 24 Clash
-    enteringArray : {ms : Members} {key : Name} → PatchOf card lang ms → HasKey key ms
-        → EntersArray (pointerOf key) (start card) → BrokenCondition 25 InArray
-    losingWay : {ms : Members} {key : Name} → PatchOf card lang ms → HasKey key ms
-        → LosesWay (pointerOf key) (start card) → BrokenCondition 26 NoObject
+    enteringArray : {ms : Members} {key : Name} {d : Doc} → PatchOf card lang ms → HasKey key ms
+        → LeftOutOf (bytes "localizations") card d → EntersArray (pointerOf key) d → BrokenCondition 25 InArray
+    losingWay : {ms : Members} {key : Name} {d : Doc} → PatchOf card lang ms → HasKey key ms
+        → LeftOutOf (bytes "localizations") card d → LosesWay (pointerOf key) d → BrokenCondition 26 NoObject
     short : {ms : Members} → PatchOf card lang ms → room < length (written (patchedDoc card ms))
         → BrokenCondition 27 (Short (length (written (patchedDoc card ms))))
     unfit : {ms : Members} {r : CardRefusal} → PatchOf card lang ms

@@ -5,36 +5,40 @@
 -- `requires`, so nothing is tested beforehand: the contracts give the answer, the table and the output of `served` for every call, and so the
 -- demands hold of any services that keep the contracts (crate bezinkol, specs/Called.antt).
 -- Assumes nothing: these are definitions.
-use Prim.Native.Nat.{ℕ, _*_, _≤_, _<_}
+use Prim.Native.Nat.{ℕ, _+_, _*_, _≤_, _<_}
 use mathlib.Core.Path.{_≡_}
+use mathlib.Core.Bool.{true}
 use mathlib.Core.Logic.{_⊎_, _↔_}
-use mathlib.Core.List.{List, []}
+use mathlib.Core.List.{List, [], _++_}
 use mathlib.Core.Option.{some}
 use lib.ListN.{length, replicate}
 use Rattle.laws.specs.Lists.{filled}
 use Rattle.laws.specs.Sorting.{Perm}
 use Rattle.text.specs.Limits.{Limits, rowWords}
 use Rattle.text.specs.Tree.{Forest, size, rowsOf}
-use Rattle.text.specs.Seats.{Head, Seat, top, Sits}
+use Rattle.text.specs.Seats.{Head, leafHead, Seat, top, Sits}
 use Rattle.text.specs.Standing.{RowAt}
 use Rattle.text.specs.Sheet.{numbers}
+use Rattle.text.specs.Strings.{utf8}
+use Rattle.text.specs.Spelling.{Utf8}
 use Rattle.text.specs.Whole.{Reads}
-use Rattle.text.specs.Doc.{Name, Doc, Members, docOf}
+use Rattle.text.specs.Doc.{Name, Doc, scalar, array, object, Members, docOf, kindOf, tokenOf, below, countAll}
 use Rattle.text.specs.Distinct.{Distinct}
 use Rattle.text.specs.Grammar.{JsonText, rootOf}
-use Rattle.text.specs.Telling.{Tells}
+use Rattle.text.specs.Telling.{Stretch, Tells}
 use Rattle.text.specs.Meaning.{Accepts}
 use Rattle.text.specs.Fault.{FirstFault}
 use Rattle.text.specs.Promised.{Filled}
+use Rattle.text.specs.Writing.{written, spelled, SpelledName}
 use Rattle.text.specs.declared.Reading.{Reading}
 use Rattle.contact.specs.Pointer.{Pointer, pointerOf}
 use Rattle.contact.specs.PointerText.{PointerText}
 use Rattle.contact.specs.Patch.{Entry, run}
-use Rattle.contact.specs.Localize.{refusedLocal, start, patchedDoc}
+use Rattle.contact.specs.Localize.{start, patchedDoc}
 use Rattle.contact.specs.Signatures.{AsSigned}
-use Rattle.contact.specs.Breaches.{Keeps, FirstBreach}
+use Rattle.contact.specs.Breaches.{Sees, Keeps, FirstBreach}
 use Rattle.contact.specs.Judging.{Judges}
-use Rattle.contact.specs.Conditions.{LooseTilde, PatchOf, BrokenCondition, Applicable, Smallest}
+use Rattle.contact.specs.Conditions.{LooseTilde, PatchOf, PatchUnder, SecondNumber, BrokenCondition, Applicable, Smallest}
 use Rattle.contact.specs.Likeness.{Reordered}
 use Rattle.contact.specs.Entries.{Asked}
 use Rattle.contact.specs.Patching.{OrderOnly, PatchedCard}
@@ -44,6 +48,7 @@ use Rattle.contact.specs.Services.{Call, read, judge, localize, wordsOf,
 use Rattle.contact.specs.declared.Verdict.{Verdict}
 use Rattle.contact.specs.declared.LocalRefusal.{LocalRefusal}
 use Rattle.contact.specs.declared.Localized.{Localized}
+use Rattle.contact.specs.declared.Localized.the-variants.{Denied}
 
 -- the call is accepted: its first number is 0
 abbrev pub Passes : (Call → Left) → Call → Type 0
@@ -63,11 +68,13 @@ Lines (localize text language words room) n = Within 1 7 n ⊎ Within 11 14 n �
 
 -- how a call ends
 pub data Ends (c : Call) : Left → Type 0 where
-  -- with acceptance: so many rows, which have room in the table, and so many bytes, which have room in the output; what is unused is zero
-  acceptance : (rows bytes : List ℕ) (count : ℕ) → length rows ≡ rowWords * count → length rows ≤ wordsOf c → length bytes ≤ roomOf c
-      → Ends c (leaves (numbers 0 count (length bytes)) (filled (wordsOf c) rows) (filled (roomOf c) bytes))
-  -- or with one numbered refusal of the sheet: every word and every byte that was lent is zero
-  refusal : {number second : ℕ} → Lines c number → Ends c (leaves (numbers number second 0) (replicate (wordsOf c) 0) (replicate (roomOf c) 0))
+  -- with acceptance: the row count and the length of what is written; so many rows stand in the table and so many bytes in the output, and zero behind them
+  acceptance : (rows bytes : List ℕ) (count spare rest : ℕ) → length rows ≡ rowWords * count
+      → length rows + spare ≡ wordsOf c → length bytes + rest ≡ roomOf c
+      → Ends c (leaves (record { number = 0; second = count; written = length bytes }) (rows ++ replicate spare 0) (bytes ++ replicate rest 0))
+  -- or with one numbered refusal of the sheet, and nothing written: every word and every byte that was lent is zero
+  refusal : {number second : ℕ} → Lines c number
+      → Ends c (leaves (record { number = number; second = second; written = 0 }) (replicate (wordsOf c) 0) (replicate (roomOf c) 0))
 
 -- demand 1, of every call
 pub record EveryCall (L : Limits) (serve : Call → Left) : Type 0 where
@@ -100,16 +107,29 @@ pub record RowsShort (L : Limits) (words : ℕ) (t : List ℕ) (n : ℕ) : Type 
   pub short : words < L .words * size tree
   pub needed : n ≡ size tree
 
--- t is read, the rule of number n is the first that the document that it says breaks, on the row of one of its values, and p is where that value starts
+-- the value of a row is this one: the row's places hold its token and its kind is the token's, or the row is that of an array (6) or an object (7) of
+-- so many values
+pub data Shows (t : List ℕ) : Head → Doc → Type 0 where
+  token : {kind ns ne from to : ℕ} {w : List ℕ} → Stretch t from to w → Shows t (leafHead kind ns ne from to) (scalar kind w)
+  list : {ns ne from to : ℕ} {ms : Members}
+      → Shows t (record { holds = true; kind = 6; ns = ns; ne = ne; from = from; to = to; below = countAll ms }) (array ms)
+  box : {ns ne from to : ℕ} {ms : Members}
+      → Shows t (record { holds = true; kind = 7; ns = ns; ne = ne; from = from; to = to; below = countAll ms }) (object ms)
+
+-- t is read, the rule of number n is the first that the document that it says breaks, on some row; on that row of the text stands the value that breaks
+-- it, and p is where that value starts
 pub record Offends (L : Limits) (words : ℕ) (t : List ℕ) (n p : ℕ) : Type 0 where
   pub tree : Forest
   pub readable : Readable L words t tree
   pub document : Doc
   pub says : Tells t tree document
+  pub row : ℕ
+  pub first : FirstBreach document row n
   pub seat : Seat
   pub offender : Head
   pub stands : Sits top tree seat offender
-  pub first : FirstBreach document (seat .after) n
+  pub on-row : seat .after ≡ row
+  pub shows : Shows t offender (first .broken .value)
   pub place : p ≡ offender .from
 
 -- demand 2, of reading and judging a text
@@ -124,8 +144,13 @@ pub record ReadingAndJudging (L : Limits) (serve : Call → Left) : Type 0 where
   -- word by word: the row of each value has its kind, where its name and the value itself start and end, and how many values are below it
   pub each-row : (t : List ℕ) (words : ℕ) (f : Forest) → Readable L words t f → (d : Seat) (h : Head) → Sits top f d h
       → RowAt (serve (read t words) .table) (d .after) h
+  -- one row a value: each row is the row of a value, and of no other
+  pub each-value : (f : Forest) (k : ℕ) → k < size f → (d : Seat) × (h : Head) × Sits top f d h × (d .after ≡ k)
+  pub one-value : (f : Forest) (d e : Seat) (g h : Head) → Sits top f d g → Sits top f e h → d .after ≡ e .after → (d ≡ e) × (g ≡ h)
   -- the document of a text that is read is what it says, white space or not: names and strings by what they spell, the rest as written, in its order
   pub documents : (t : List ℕ) (words : ℕ) (f : Forest) → Readable L words t f → (d : Doc) → Tells t f d ↔ (d ≡ docOf t f)
+  -- and what it calls UTF-8, raw or of names and strings, is that of RFC 3629
+  pub utf8-table : (c : ℕ) → c ≤ 0x10FFFF → Utf8 c (utf8 c)
   -- any other text is refused: by 1 if it is too long
   pub too-long : (t : List ℕ) (words second : ℕ) → (serve (read t words) .answer ≡ numbers 1 second 0) ↔ ((L .bytes < length t) × (second ≡ 0))
   -- else by 2 to 6 if it has such a fault, by the one of smallest place and then of smallest number
@@ -141,6 +166,8 @@ pub record ReadingAndJudging (L : Limits) (serve : Call → Left) : Type 0 where
   -- otherwise the first offending place and its rule come back, of any text that is read
   pub offends : (t : List ℕ) (words n p : ℕ) → Passes serve (read t words) → 0 < n
       → (serve (judge t words) .answer ≡ numbers n p 0) ↔ Offends L words t n p
+  -- what the rules see of a value: its kind, its token and its members are what they are called
+  pub seen : (v : Doc) → Sees v (kindOf v) (tokenOf v) (below v)
   -- what types and properties the rules are about: the table is what the signatures of RFC 9553 say
   pub signed : AsSigned
 
@@ -177,6 +204,9 @@ pub record WouldBe (L : Limits) (words : ℕ) (t : List ℕ) (f : Forest) (ms : 
   pub patched : PatchedCard (docOf t f) ms (patchedDoc (docOf t f) ms)
   -- and its text says it: it is read back so, or refused for its depth alone
   pub writes : WrittenCard L words t f (patchedDoc (docOf t f) ms)
+  -- no text that is read, under any limits, and says it is shorter: so 27 asks for no byte too many
+  pub compact : (M : Limits) (u : List ℕ) (g : Forest) → Accepts M u g → docOf u g ≡ patchedDoc (docOf t f) ms
+      → length (written (patchedDoc (docOf t f) ms)) ≤ length u
 
 -- u is a JSON text of as many bytes as a text may have, white space as it likes, and says the document d but for the order of the language's entries
 pub record Reordering (L : Limits) (lang : Name) (d : Doc) (u : List ℕ) : Type 0 where
@@ -208,14 +238,21 @@ pub record Localizing (L : Limits) (serve : Call → Left) : Type 0 where
   -- it is accepted exactly when none of the conditions 21 to 28 is broken
   pub accepted : (t : List ℕ) (lang : Name) (words room : ℕ) (f : Forest) → CardText L words t f
       → Passes serve (localize t lang words room) ↔ ((n : ℕ) (r : LocalRefusal) → ¬ BrokenCondition L words room (docOf t f) lang n r)
-  -- and else refused by the broken condition of smallest number
+  -- and else refused by the broken condition of smallest number, with the sheet's second number
   pub refused : (t : List ℕ) (lang : Name) (words room : ℕ) (f : Forest) → CardText L words t f → (n second : ℕ) → 0 < n
       → (serve (localize t lang words room) .answer ≡ numbers n second 0)
-      ↔ ((r : LocalRefusal) × (refusedLocal r ≡ numbers n second 0) × Smallest L words room (docOf t f) lang n r)
-  -- the conditions speak of the pointers that keys write: each key that has no loose `~` writes one, and any other writes none
+      ↔ ((r : LocalRefusal) × SecondNumber r second × Smallest L words room (docOf t f) lang n r)
+  -- the same of the answer that the contract allows: it is that refusal itself, with 28's inner place
+  pub refused-answer : (t : List ℕ) (lang : Name) (words room : ℕ) (f : Forest) → CardText L words t f → (a : Localized) (x o : List ℕ)
+      → Localizes L words room t lang a x o → (r : LocalRefusal) → (a ≡ Denied r) ↔ ((n : ℕ) × Smallest L words room (docOf t f) lang n r)
+  -- the conditions speak of the PatchObject that the card has for the language,
+  pub language : (card : Doc) (lang : Name) (ms : Members) → PatchOf card lang ms ↔ PatchUnder lang ms card
+  -- and of the pointers that keys write: each key that has no loose `~` writes one, and any other writes none
   pub keys : (key : Name) (p : Pointer) → PointerText key p ↔ ((¬ LooseTilde key) × (p ≡ pointerOf key))
   -- so a PatchObject asks for one list of entries: those that a patched card (`Patched`) is about
   pub asking : (ms : Members) (es fs : List Entry) → Asked ms es → Asked ms fs → es ≡ fs
+  -- the name of an added member is escaped only where RFC 8259 demands it, by the short escape if there is one, else by \u00 and two small digits
+  pub new-names : (n label : List ℕ) → SpelledName n label ↔ (label ≡ spelled n)
   -- 27 and 28, which come up if none of 21 to 26 is broken, speak of the patched card
   pub would-be : (t : List ℕ) (lang : Name) (words room : ℕ) (f : Forest) → CardText L words t f → (ms : Members) → PatchOf (docOf t f) lang ms
       → Applicable L words room (docOf t f) lang → WouldBe L words t f ms

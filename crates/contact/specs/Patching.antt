@@ -9,7 +9,7 @@ use Rattle.laws.specs.Sorting.{Perm}
 use Rattle.text.specs.Limits.{Limits}
 use Rattle.text.specs.Text.{bytes}
 use Rattle.text.specs.Tree.{Forest}
-use Rattle.text.specs.Doc.{Name, Doc, object, Members, empty, member, property, docOf}
+use Rattle.text.specs.Doc.{Name, Doc, object, Members, member, property, docOf}
 use Rattle.text.specs.Distinct.{Distinct, DistinctMembers}
 use Rattle.contact.specs.Verdict.{passed, failed, judgedOf}
 use Rattle.contact.specs.Pointer.{Pointer, last, firstPart, lastPart, find}
@@ -17,7 +17,7 @@ use Rattle.contact.specs.Patch.{Change, Entry, run}
 use Rattle.contact.specs.Localize.{refusedLocal, done, denied, start, patchedDoc, localizedDoc, localizedOf}
 use Rattle.contact.specs.Likeness.{SameDoc, Reordered}
 use Rattle.contact.specs.Entries.{Asked, HasEntry, valued, Clear, Shuffled, Laid, NotOver, LaidAt}
-use Rattle.contact.specs.Conditions.{PatchOf, Applicable, Smallest, Accepted}
+use Rattle.contact.specs.Conditions.{LeftOutOf, PatchOf, Applicable, Smallest, Accepted}
 use Rattle.contact.specs.declared.CardRefusal.{CardRefusal}
 use Rattle.contact.specs.declared.LocalRefusal.{LocalRefusal}
 use Rattle.contact.specs.declared.LocalRefusal.the-variants.{Given}
@@ -66,16 +66,6 @@ pub record Patched (d : Doc) (ms : Members) (x : Doc) : Type 0 where
   -- members keep their places, and added ones follow in ascending order of name: in the card itself, and in each object that is not replaced as a whole
   pub root : (os : Members) → d ≡ object os → (ns : Members) × (x ≡ object ns) × Laid os os ns
   pub below : (p : Pointer) (label : List ℕ) (os : Members) → NotOver p entries → find p d ≡ some (property label (object os)) → LaidAt p label os x
-
--- the members but those of the name n, in their order and as they were
-pub data LeftOut (n : Name) : Members → Members → Type 0 where
-  noMore : LeftOut n empty empty
-  goes : {label : List ℕ} {d : Doc} {ms rest : Members} → LeftOut n ms rest → LeftOut n (member n label d ms) rest
-  stays : {m : Name} {label : List ℕ} {d : Doc} {ms rest : Members} → m ≢ n → LeftOut n ms rest → LeftOut n (member m label d ms) (member m label d rest)
-
--- objects, of which the one has the members of the other but those of the name n
-pub data LeftOutOf (n : Name) : Doc → Doc → Type 0 where
-  leftOut : {ms rest : Members} → LeftOut n ms rest → LeftOutOf n (object ms) (object rest)
 
 -- x is the card as a PatchObject with the members ms leaves it
 pub record PatchedCard (card : Doc) (ms : Members) (x : Doc) : Type 0 where

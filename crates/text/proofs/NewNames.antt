@@ -1,10 +1,11 @@
 -- How a new name is spelled (specs/Writing.antt):
 --     spelled-as           a byte is spelled as the rules of `SpelledAs` say, and no other way
+--     spelled-name         and so a name, by `SpelledName`
 --     respelled            what `spelled` writes between its quotes spells the name's code points again
 --     new-label            so it says the name
 --     shortest, label-shortest     and nothing shorter does
 -- Assumes nothing.
-use mathlib.Core.Path.{_≡_, refl, sym, ap, _∙_}
+use mathlib.Core.Path.{_≡_, refl, sym, ap, ap₂, _∙_}
 use mathlib.Core.List.{List, [], _∷_, _++_, append-assoc, append-nil}
 use Prim.Native.Nat.{ℕ, _+_, _*_, _/_, _%_, _≤_, _<_}
 use mathlib.Core.Logic.{_↔_}
@@ -15,7 +16,8 @@ use borrow.Author.Tests.{ne-eqb, le-ltb, lt-ltb}
 use Rattle.laws.proofs.Branches.{if-less, if-equal}
 use Rattle.text.specs.Strings.{utf8}
 use Rattle.text.specs.Spelling.{Good, Bare, HexDigit, decimal, small, FourDigits, four, Short, quote, backslash, slash, backspace, form-feed, line-feed, carriage-return, tab, Spell, raw, short, unit, pair, Spells, none, more, utf8s}
-use Rattle.text.specs.Writing.{smallHex, shortOf, spelledByte, spelledBytes, spelled, SmallDigit, figure, letter, SpelledAs, itself, escaped, digits}
+use Rattle.text.specs.Writing.{smallHex, shortOf, spelledByte, spelledBytes, spelled, SmallDigit, figure, letter, SpelledAs, itself, escaped, digits, SpelledAll, SpelledName}
+use Rattle.text.specs.Writing as W
 use Rattle.text.specs.Labels.{Labelled}
 use Rattle.text.proofs.Spelling.Codes.{by-utf8, one-byte}
 use Rattle.text.proofs.Spelling.Digits.{four-length}
@@ -171,6 +173,21 @@ rules-byte (digits {d} {e} {x} {y} n m p q) =
 -- theorem: each byte is spelled by the rules, and one way only
 pub spelled-as : (b : ℕ) (w : List ℕ) → SpelledAs b w ↔ (w ≡ spelledByte b)
 spelled-as b w = (rules-byte, λ e. rw e (byte-rules b))
+
+all-spelled : {n w : List ℕ} → SpelledAll n w → w ≡ spelledBytes n
+all-spelled W.none = refl
+all-spelled (W.more {b = b} {bs = bs} x s) = ap₂ _++_ (rules-byte x) (all-spelled s)
+
+spelled-all : (n : List ℕ) → SpelledAll n (spelledBytes n)
+spelled-all [] = W.none
+spelled-all (b ∷ bs) = W.more (byte-rules b) (spelled-all bs)
+
+name-spelled : {n label : List ℕ} → SpelledName n label → label ≡ spelled n
+name-spelled (W.quoted s) = ap (λ (w : List ℕ). 34 ∷ w ++ (34 ∷ [])) (all-spelled s)
+
+-- theorem: and so is a name
+pub spelled-name : (n label : List ℕ) → SpelledName n label ↔ (label ≡ spelled n)
+spelled-name n label = (name-spelled, λ e. rw e (W.quoted (spelled-all n)))
 
 -- ---- one character
 

@@ -69,7 +69,7 @@ spelledBytes (b ∷ bs) = spelledByte b ++ spelledBytes bs
 abbrev pub spelled : Name → List ℕ
 spelled n = 34 ∷ spelledBytes n ++ (34 ∷ [])
 
--- ---- the same of a byte by rules
+-- ---- the same by rules
 
 -- a small hexadecimal digit and its value
 pub data SmallDigit : (byte value : ℕ) → Type 0 where
@@ -83,3 +83,12 @@ pub data SpelledAs : (byte : ℕ) → List ℕ → Type 0 where
   escaped : {l b : ℕ} → (Bare b → ⊥) → Short l b → SpelledAs b (92 ∷ l ∷ [])
   digits : {d e x y : ℕ} → (Bare (x * 16 + y) → ⊥) → ((l : ℕ) → Short l (x * 16 + y) → ⊥) → SmallDigit d x → SmallDigit e y
       → SpelledAs (x * 16 + y) (92 ∷ 117 ∷ 48 ∷ 48 ∷ d ∷ e ∷ [])
+
+-- the bytes of a new name one after the other, each spelled so
+pub data SpelledAll : Name → List ℕ → Type 0 where
+  none : SpelledAll [] []
+  more : {b : ℕ} {bs : Name} {w u : List ℕ} → SpelledAs b w → SpelledAll bs u → SpelledAll (b ∷ bs) (w ++ u)
+
+-- a new name as it is written: its bytes so between quotes
+pub data SpelledName : Name → (label : List ℕ) → Type 0 where
+  quoted : {n : Name} {w : List ℕ} → SpelledAll n w → SpelledName n (34 ∷ w ++ (34 ∷ []))

@@ -1,7 +1,7 @@
 -- Demand 3, of what localizing leaves, from `patching` and `readback`. Assumes nothing.
 use Prim.Native.Nat.{ℕ, _≤_, _<_}
 use native.Mathlib.Omega.{arith}
-use mathlib.Core.Path.{_≡_, refl, sym, ap, _∙_}
+use mathlib.Core.Path.{_≡_, refl, sym, ap, _∙_, subst}
 use mathlib.Core.Bool.{true}
 use mathlib.Core.Logic.{_⊎_, _↔_}
 use mathlib.Core.List.{List}
@@ -21,20 +21,24 @@ use Rattle.text.proofs.Grammar.Accepted.{accepts}
 use Rattle.contact.specs.Verdict.{Judged, passed, failed, judgedOf, sheetOfJudged, paperOfVerdict}
 use Rattle.contact.specs.Patch.{Entry, run}
 use Rattle.contact.specs.Localize.{refusedLocal, Outcome, done, denied, start, patchAt, localizedDoc, localizedOf, sheetOfOutcome, tableOfOutcome, outputOfOutcome, answerOfOutcome, paperOfLocalized}
-use Rattle.contact.specs.Conditions.{PatchOf, BrokenCondition, Applicable, Smallest, Accepted}
+use Rattle.contact.specs.Conditions.{PatchOf, SecondNumber, BrokenCondition, Applicable, Smallest, Accepted}
 use Rattle.contact.specs.Likeness.{Reordered}
 use Rattle.contact.specs.Patching.{Patched, PatchedCard}
 use Rattle.contact.specs.Readback.{PatchedRows}
 use Rattle.contact.specs.Services.{judge, localize, served}
 use Rattle.contact.specs.Demands.{Passes, Within, CardText, WouldBe, Localization}
+use Rattle.contact.specs.Contract.{Localizes}
 use Rattle.contact.specs.declared.LocalRefusal.{LocalRefusal}
+use Rattle.contact.specs.declared.Localized.{Localized}
+use Rattle.contact.specs.declared.Localized.the-variants.{Written, Denied}
 use Rattle.contact.proofs.Judging.{judging}
 use Rattle.contact.proofs.Patching.Public.{passed-so, failed-so}
 use Rattle.contact.proofs.Patching.Distinct.{distinct-start, find-distinct}
+use Rattle.contact.proofs.Patching.Refused.{broken-number, broken-second}
 use Rattle.contact.proofs.Patching.Together.{patching}
 use Rattle.contact.proofs.Patching.Readback.{readback}
 use Rattle.contact.proofs.Demands.Reading.{card-text}
-use Rattle.contact.proofs.Demands.Sheet.{line-of, local-line, local-some, Late, early, late-short, late-inner, late, same-number, same-second}
+use Rattle.contact.proofs.Demands.Sheet.{line-of, local-line, local-some, Late, early, late-short, late-inner, late, second-sheet, same-number, same-second}
 
 module _ (L : Limits) (unique : L .unique ≡ true) (words room : ℕ) (t : List ℕ) (lang : Name) where
   abbrev outcome : Outcome
@@ -72,6 +76,9 @@ module _ (L : Limits) (unique : L .unique ≡ true) (words room : ℕ) (t : List
         record {
           patched = patching L words room .patched (docOf t f) lang ms patch u;
           writes = readback L words room unique .written-card t f lang ms pass patch u;
+          compact = λ M u g a e.
+              let same = ap (λ (d : Doc). length (written d)) e in
+              omega (arith, text-shorter M u g (length u) (accepts M u g .1 a), same);
         }
 
     steps : (ms : Members) → PatchOf (docOf t f) lang ms → (x : Doc) (p : Patched (start (docOf t f)) ms x) (fs : List Entry) → Perm (p .entries) fs
@@ -130,19 +137,40 @@ module _ (L : Limits) (unique : L .unique ≡ true) (words room : ℕ) (t : List
 
     pub localize-refused : (n second : ℕ) → 0 < n
         → (served L (localize t lang words room) .answer ≡ numbers n second 0)
-        ↔ ((r : LocalRefusal) × (refusedLocal r ≡ numbers n second 0) × Smallest L words room (docOf t f) lang n r)
+        ↔ ((r : LocalRefusal) × SecondNumber r second × Smallest L words room (docOf t f) lang n r)
     unfolding served sheetOfOutcome paperOfLocalized answerOfOutcome
     localize-refused n second positive = (λ e. go outcome refl e, back)
       where
         go : (o : Outcome) → outcome ≡ o → sheetOfOutcome o ≡ numbers n second 0
-            → (r : LocalRefusal) × (refusedLocal r ≡ numbers n second 0) × Smallest L words room (docOf t f) lang n r
+            → (r : LocalRefusal) × SecondNumber r second × Smallest L words room (docOf t f) lang n r
         go (done text g) e q = absurd (omega (arith, same-number q))
-        go (denied r) e q = (r, q, rw (same-number q) at (patching L words room .refused (docOf t f) lang r .0 (of-doc (denied r) e)))
+        go (denied r) e q =
+            let s : Smallest L words room (docOf t f) lang n r =
+            rw (same-number q) at (patching L words room .refused (docOf t f) lang r .0 (of-doc (denied r) e)) in
+            (r, subst (SecondNumber r) (same-second q) (broken-second L words room (docOf t f) lang (s .broken)), s)
 
-        back : (r : LocalRefusal) × (refusedLocal r ≡ numbers n second 0) × Smallest L words room (docOf t f) lang n r → sheetOfOutcome outcome ≡ numbers n second 0
-        back (r, q, s) =
-            let e = patching L words room .refused (docOf t f) lang r .1 (rw (sym (same-number q)) at s) in
-            rw (passed-so L words room t lang f pass, e) q
+        back : (r : LocalRefusal) × SecondNumber r second × Smallest L words room (docOf t f) lang n r → sheetOfOutcome outcome ≡ numbers n second 0
+        back (r, x, s) =
+            let number : refusedLocal r .number ≡ n = broken-number L words room (docOf t f) lang (s .broken) in
+            let e = patching L words room .refused (docOf t f) lang r .1 (rw (sym number) at s) in
+            rw (passed-so L words room t lang f pass, e) (second-sheet x ∙ ap (λ (m : ℕ). numbers m second 0) number)
+
+    -- the refusal itself
+    pub refused-answer : (a : Localized) (x o : List ℕ) → Localizes L words room t lang a x o → (r : LocalRefusal)
+        → (a ≡ Denied r) ↔ ((n : ℕ) × Smallest L words room (docOf t f) lang n r)
+    unfolding answerOfOutcome
+    refused-answer a x o l r =
+        let is : answerOfOutcome (localizedDoc L words room (docOf t f) lang) ≡ a = ap answerOfOutcome (sym (passed-so L words room t lang f pass)) ∙ sym (l .answer) in
+        (λ e. (_, patching L words room .refused (docOf t f) lang r .0 (denied-so (localizedDoc L words room (docOf t f) lang) (is ∙ e))), λ (n, s). sym is ∙ back n s)
+      where
+        denied-so : (o : Outcome) → answerOfOutcome o ≡ Denied r → o ≡ denied r
+        denied-so (done text g) e = let z : _≡_ {A = ℕ} 0 1 = cc in absurd (omega arith)
+        denied-so (denied q) e = let k : q ≡ r = cc in ap (λ (y : LocalRefusal). denied y) k
+
+        back : (n : ℕ) → Smallest L words room (docOf t f) lang n r → answerOfOutcome (localizedDoc L words room (docOf t f) lang) ≡ Denied r
+        back n s =
+            let number : refusedLocal r .number ≡ n = broken-number L words room (docOf t f) lang (s .broken) in
+            ap answerOfOutcome (patching L words room .refused (docOf t f) lang r .1 (rw (sym number) at s))
 
   -- 27 and 28
   localize-late : (n second : ℕ) → 27 ≤ n → served L (localize t lang words room) .answer ≡ numbers n second 0

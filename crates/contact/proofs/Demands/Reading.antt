@@ -34,7 +34,7 @@ use Rattle.text.proofs.Grammar.Rules.{wrong-number, breaks-wrong}
 use Rattle.text.proofs.Grammar.Wholes.{root-told, read-inside}
 use Rattle.text.proofs.Grammar.Accepted.{accepts, accepts-whole}
 use Rattle.text.proofs.Grammar.Refused.{refuses, too-long}
-use Rattle.text.proofs.Rows.{row-at, row-filled, value-start}
+use Rattle.text.proofs.Rows.{row-at, value-start}
 use Rattle.text.proofs.Telling.{tells-iff}
 use Rattle.contact.specs.Verdict.{refusedCard, Judged, passed, failed, judgedRead, judgedOf, sheetOfJudged, tableOfJudged, paperOfVerdict}
 use Rattle.contact.specs.Breaches.{Keeps}
@@ -42,6 +42,7 @@ use Rattle.contact.specs.Judging.{Says, unread, passes, breaks-first}
 use Rattle.contact.specs.Services.{read, judge, leaves, served}
 use Rattle.contact.specs.Demands.{Passes, Within, Readable, CardText, RowsShort, Offends}
 use Rattle.contact.proofs.Judging.{judging}
+use Rattle.contact.proofs.Demands.Rows.{value-shown}
 use Rattle.contact.proofs.Demands.Sheet.{OnLine, on-line, line-of, text-line, card-line, card-some, same-number, same-second}
 
 module _ (L : Limits) (words : ℕ) (t : List ℕ) where
@@ -201,23 +202,27 @@ module _ (L : Limits) (words : ℕ) (t : List ℕ) where
       go : {q : Paper} {table : List ℕ} → Says L words t q table → q ≡ numbers n p 0 → Offends L words t n p
       go (unread {r = r} k) e = let z : sheetOf (bad r) .number ≡ 0 = rw k at reads in absurd (omega (arith, line-of (text-line r)))
       go (passes k h) e = absurd (omega (arith, same-number e))
-      go (breaks-first {f = f} {to = to} {row = row} k h) e =
+      go (breaks-first {f = f} {to = to} {row = row} {number = number} k h) e =
           let r = good-readable f to k in
-          let v = row-filled f row (judging .place L words t f to row _ k h) in
-          record {
+          let v = value-shown t f (document-told f r) (h .broken .stands) in
+          let o : Offends L words t number (getD (startsOf f) row 0) = record {
             tree = f;
             readable = r;
             document = docOf t f;
             says = document-told f r;
+            row = row;
+            first = h;
             seat = v .seat;
             offender = v .head;
             stands = v .there;
-            first = rw (v .row, ← same-number e) h;
-            place = sym (same-second e) ∙ ap (λ (i : ℕ). getD (startsOf f) i 0) (sym (v .row)) ∙ value-start f (v .there);
-          }
+            on-row = v .on-row;
+            shows = v .shows;
+            place = ap (λ (i : ℕ). getD (startsOf f) i 0) (sym (v .on-row)) ∙ value-start f (v .there);
+          } in
+          rw (same-number e, same-second e) at o
 
       back : Offends L words t n p → sheetOfJudged (judgedOf L words t) ≡ numbers n p 0
       back o =
           let is = read-documents (o .tree) (o .readable) (o .document) .0 (o .says) in
           sym (judging .answer L words t _ _ .1 (breaks-first (readable-good (o .tree) (o .readable)) (rw is at (o .first))) .0)
-          ∙ ap (λ (k : ℕ). numbers n k 0) (value-start (o .tree) (o .stands) ∙ sym (o .place))
+          ∙ ap (λ (k : ℕ). numbers n k 0) (ap (λ (i : ℕ). getD (startsOf (o .tree)) i 0) (sym (o .on-row)) ∙ value-start (o .tree) (o .stands) ∙ sym (o .place))

@@ -1,7 +1,7 @@
 -- The numbers of each refusal stand on the lines of the sheet that its service has. Assumes nothing.
 use Prim.Native.Nat.{ℕ, _<_}
 use native.Mathlib.Omega.{arith}
-use mathlib.Core.Path.{_≡_, ap}
+use mathlib.Core.Path.{_≡_, refl, ap}
 use mathlib.Core.Logic.{_⊎_, inl, inr, ⊎-elim}
 use Rattle.text.specs.declared.Paper.{Paper}
 use Rattle.text.specs.Sheet.{numbers, refused}
@@ -9,6 +9,7 @@ use Rattle.text.specs.declared.Refusal.{Refusal}
 use Rattle.text.specs.declared.Refusal.the-variants.{TooLong, Grammar, Character, Repeated, Deep, Many, Small}
 use Rattle.contact.specs.Verdict.{refusedFault, refusedCard}
 use Rattle.contact.specs.Localize.{refusedLocal}
+use Rattle.contact.specs.Conditions.{SecondNumber, no-language, bad-key, own-localizations, clash, in-array, no-object, needed, inside}
 use Rattle.contact.specs.Demands.{Within}
 use Rattle.contact.specs.declared.CardFault.the-variants.{Kind, Missing, Value, Rule}
 use Rattle.contact.specs.declared.CardRefusal.{CardRefusal}
@@ -89,6 +90,18 @@ late InArray = early InArray (omega arith)
 late NoObject = early NoObject (omega arith)
 late (Short n) = late-short n
 late (Inner r) = late-inner r
+
+-- the numbers of a refusal, by its second number
+pub second-sheet : {r : LocalRefusal} {second : ℕ} → SecondNumber r second → refusedLocal r ≡ numbers (refusedLocal r .number) second 0
+unfolding refusedLocal
+second-sheet no-language = refl
+second-sheet bad-key = refl
+second-sheet own-localizations = refl
+second-sheet clash = refl
+second-sheet in-array = refl
+second-sheet no-object = refl
+second-sheet needed = refl
+second-sheet inside = refl
 
 -- the same numbers
 pub same-number : {p q : Paper} → p ≡ q → p .number ≡ q .number

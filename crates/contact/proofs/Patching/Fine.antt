@@ -12,6 +12,7 @@ use Rattle.contact.specs.Localize.{start}
 use Rattle.contact.specs.Entries.{NoClash, ParentsThere}
 use Rattle.contact.specs.Conditions.{LooseTilde, HasKey, PatchOf, Applicable, badKey, ownLocalizations, clashing, enteringArray, losingWay}
 use Rattle.contact.specs.declared.LocalRefusal.the-variants.{BadKey, OwnLocalizations, Clash, InArray, NoObject}
+use Rattle.contact.proofs.Patching.Start.{start-left}
 use Rattle.contact.proofs.Patching.Apart.{from-anyClash, from-anyWalk}
 use Rattle.contact.proofs.Patching.Found.{own-found, array-found, lost-found, clash-found}
 
@@ -26,13 +27,13 @@ module _ (L : Limits) (words room : ℕ) (card : Doc) (lang : Name) (ms : Member
   no-array : anyWalk isInArray (entriesOf ms) (start card) ≡ false
   no-array =
       byTest (anyWalk isInArray (entriesOf ms) (start card))
-      (λ b. let r = array-found (start card) ms b in absurd (unbroken 25 InArray (omega arith) (enteringArray patch (r .there) (r .so))))
+      (λ b. let r = array-found (start card) ms b in absurd (unbroken 25 InArray (omega arith) (enteringArray patch (r .there) (start-left card lang ms patch) (r .so))))
       (λ b. b)
 
   none-lost : anyWalk isNoObject (entriesOf ms) (start card) ≡ false
   none-lost =
       byTest (anyWalk isNoObject (entriesOf ms) (start card))
-      (λ b. let r = lost-found (start card) ms b in absurd (unbroken 26 NoObject (omega arith) (losingWay patch (r .there) (r .so))))
+      (λ b. let r = lost-found (start card) ms b in absurd (unbroken 26 NoObject (omega arith) (losingWay patch (r .there) (start-left card lang ms patch) (r .so))))
       (λ b. b)
 
   pub fine : Fine card ms

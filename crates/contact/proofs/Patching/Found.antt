@@ -3,14 +3,14 @@
 use mathlib.Core.Path.{_≡_, refl, sym, ap, _∙_}
 use mathlib.Core.Bool.{Bool, true, false, _||_, true≢false}
 use mathlib.Core.Logic.{_↔_, _⊎_}
-use mathlib.Core.List.{List}
+use mathlib.Core.List.{List, [], _∷_}
 use Prim.Native.Nat.{ℕ}
 use Rattle.laws.proofs.Bools.{or-either, or-left, or-right}
 use Rattle.laws.specs.Order.{same}
 use Rattle.laws.proofs.Orders.{same-eq}
 use Rattle.text.specs.Text.{bytes}
 use Rattle.text.specs.Doc.{Name, Doc, Members, empty, member}
-use Rattle.contact.specs.Pointer.{Pointer, pointerOf, firstPart, badTilde, clash}
+use Rattle.contact.specs.Pointer.{Pointer, last, down, pointerOf, firstPart, parts, badTilde, clash}
 use Rattle.contact.specs.Patch.{Walk, walk, entriesOf, anyBadKey, anyOwn, clashWith, anyClash, isInArray, isNoObject, anyWalk}
 use Rattle.contact.specs.Entries.{Prefix}
 use Rattle.contact.specs.Conditions.{LooseTilde, HasKey, first, later, HasKeys, firstKey, laterOn, EntersArray, LosesWay}
@@ -18,6 +18,10 @@ use Rattle.contact.proofs.Patching.Names.{same-yes}
 use Rattle.contact.proofs.Patching.Apart.{clash-iff}
 use Rattle.contact.proofs.Patching.Tilde.{tilde-iff}
 use Rattle.contact.proofs.Patching.Ways.{array-test, lost-test}
+
+abbrev headOr : Name → List Name → Name
+headOr n [] = n
+headOr n (m ∷ ms) = m
 
 -- ---- one key
 
@@ -58,9 +62,6 @@ walk-key : (is : Walk → Bool) (x : Doc) (ms : Members) → anyWalk is (entries
 walk-key is x empty = refl
 walk-key is x (member key label d ms) = ap (λ (b : Bool). is (walk (pointerOf key) x) || b) (walk-key is x ms)
 
-own-iff : (key : Name) → (same (firstPart (pointerOf key)) (bytes "localizations") ≡ true) ↔ (firstPart (pointerOf key) ≡ bytes "localizations")
-own-iff key = (λ e. same-eq (firstPart (pointerOf key)) (bytes "localizations") e, λ e. same-yes e)
-
 pub bad-key-found : (ms : Members) → anyBadKey ms ≡ true → Found LooseTilde ms
 bad-key-found ms e = key-found badTilde LooseTilde tilde-iff ms (sym (bad-key ms) ∙ e)
 
@@ -69,7 +70,14 @@ bad-key-finds ms x h = bad-key ms ∙ key-finds badTilde LooseTilde tilde-iff x 
 
 -- the first part of the key's pointer is `localizations`
 abbrev pub IsOwn : Name → Type 0
-IsOwn key = firstPart (pointerOf key) ≡ bytes "localizations"
+IsOwn key = Prefix (last (bytes "localizations")) (pointerOf key)
+
+first-iff : (n : Name) (p : Pointer) → (same (firstPart p) n ≡ true) ↔ Prefix (last n) p
+first-iff n (last m) = (λ e. ([], ap (λ (k : Name). k ∷ []) (same-eq m n e)), λ (r, e). same-yes (ap (headOr m) e))
+first-iff n (down m p) = (λ e. (parts p, ap (λ (k : Name). k ∷ parts p) (same-eq m n e)), λ (r, e). same-yes (ap (headOr m) e))
+
+own-iff : (key : Name) → (same (firstPart (pointerOf key)) (bytes "localizations") ≡ true) ↔ IsOwn key
+own-iff key = first-iff (bytes "localizations") (pointerOf key)
 
 pub own-found : (ms : Members) → anyOwn (entriesOf ms) ≡ true → Found IsOwn ms
 own-found ms e = key-found (λ key. same (firstPart (pointerOf key)) (bytes "localizations")) IsOwn own-iff ms (sym (own-key ms) ∙ e)

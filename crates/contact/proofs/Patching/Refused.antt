@@ -18,12 +18,14 @@ use Rattle.text.specs.Tree.{Forest}
 use Rattle.text.specs.Doc.{Name, Doc, scalar, array, object, Members, Property, property}
 use Rattle.text.specs.Writing.{written}
 use Rattle.contact.specs.Verdict.{Judged, passed, failed, judgedOf}
-use Rattle.contact.specs.Pointer.{find}
+use Rattle.contact.specs.Pointer.{pointerOf, find}
 use Rattle.contact.specs.Patch.{entriesOf, anyBadKey, anyOwn, anyClash, anyWalk, isInArray, isNoObject}
 use Rattle.contact.specs.Localize.{refusedLocal, Outcome, done, denied, start, patchAt, byJudge, byRoom, byEntries, inPatch, withPatch, localizedDoc, patchedDoc}
-use Rattle.contact.specs.Conditions.{HasKey, HasKeys, PatchOf, BrokenCondition, noLanguage, badKey, ownLocalizations, clashing, enteringArray, losingWay, short, unfit, Smallest, Accepted}
+use Rattle.contact.specs.Conditions.{HasKey, HasKeys, EntersArray, LosesWay, PatchOf, SecondNumber, BrokenCondition, noLanguage, badKey, ownLocalizations, clashing, enteringArray, losingWay, short, unfit, Smallest, Accepted}
+use Rattle.contact.specs.Conditions as S
 use Rattle.contact.specs.declared.LocalRefusal.{LocalRefusal}
 use Rattle.contact.specs.declared.LocalRefusal.the-variants.{NoLanguage, Short}
+use Rattle.contact.proofs.Patching.Start.{start-left, start-only}
 use Rattle.contact.proofs.Patching.Found.{bad-key-found, bad-key-finds, own-found, own-finds, array-found, array-finds, lost-found, lost-finds, clash-found, clash-finds}
 
 -- a language has one PatchObject
@@ -51,8 +53,8 @@ module _ (L : Limits) (words room : ℕ) (card : Doc) (lang : Name) where
   least-21 m q (badKey p k t) = omega arith
   least-21 m q (ownLocalizations p k t) = omega arith
   least-21 m q (clashing p k t) = omega arith
-  least-21 m q (enteringArray p k t) = omega arith
-  least-21 m q (losingWay p k t) = omega arith
+  least-21 m q (enteringArray p k l t) = omega arith
+  least-21 m q (losingWay p k l t) = omega arith
   least-21 m q (short p k) = omega arith
   least-21 m q (unfit p e) = omega arith
 
@@ -61,8 +63,8 @@ module _ (L : Limits) (words room : ℕ) (card : Doc) (lang : Name) where
   up-to-28 m q (badKey p x t) k = omega arith
   up-to-28 m q (ownLocalizations p x t) k = omega arith
   up-to-28 m q (clashing p x t) k = omega arith
-  up-to-28 m q (enteringArray p x t) k = omega arith
-  up-to-28 m q (losingWay p x t) k = omega arith
+  up-to-28 m q (enteringArray p x l t) k = omega arith
+  up-to-28 m q (losingWay p x l t) k = omega arith
   up-to-28 m q (short p x) k = omega arith
   up-to-28 m q (unfit p e) k = omega arith
 
@@ -102,10 +104,12 @@ module _ (L : Limits) (words room : ℕ) (card : Doc) (lang : Name) where
         true≢false (sym (clash-finds ms (here (HasKeys key other) ns p k) t) ∙ e)
 
     no-25 : anyWalk isInArray (entriesOf ms) (start card) ≡ false → (q : LocalRefusal) → ¬ B 25 q
-    no-25 e q (enteringArray {ms = ns} {key = key} p k t) = true≢false (sym (array-finds (start card) ms (here (HasKey key) ns p k) t) ∙ e)
+    no-25 e q (enteringArray {ms = ns} {key = key} p k l t) =
+        let s = subst (λ (d : Doc). EntersArray (pointerOf key) d) (start-only l) t in true≢false (sym (array-finds (start card) ms (here (HasKey key) ns p k) s) ∙ e)
 
     no-26 : anyWalk isNoObject (entriesOf ms) (start card) ≡ false → (q : LocalRefusal) → ¬ B 26 q
-    no-26 e q (losingWay {ms = ns} {key = key} p k t) = true≢false (sym (lost-finds (start card) ms (here (HasKey key) ns p k) t) ∙ e)
+    no-26 e q (losingWay {ms = ns} {key = key} p k l t) =
+        let s = subst (λ (d : Doc). LosesWay (pointerOf key) d) (start-only l) t in true≢false (sym (lost-finds (start card) ms (here (HasKey key) ns p k) s) ∙ e)
 
     no-27 : ltb room (length text) ≡ false → (q : LocalRefusal) → ¬ B 27 q
     no-27 e q (short {ms = ns} p k) =
@@ -151,10 +155,10 @@ module _ (L : Limits) (words room : ℕ) (card : Doc) (lang : Name) where
         (λ d. let r = clash-found ms d in rw (b, c, d) (24, record { broken = clashing patch (r .there) (r .so); least = h24 }))
         (λ d. let h25 = raise 24 h24 (no-24 d) in
         byTest (anyWalk isInArray (entriesOf ms) (start card))
-        (λ e. let r = array-found (start card) ms e in rw (b, c, d, e) (25, record { broken = enteringArray patch (r .there) (r .so); least = h25 }))
+        (λ e. let r = array-found (start card) ms e in rw (b, c, d, e) (25, record { broken = enteringArray patch (r .there) (start-left card lang ms patch) (r .so); least = h25 }))
         (λ e. let h26 = raise 25 h25 (no-25 e) in
         byTest (anyWalk isNoObject (entriesOf ms) (start card))
-        (λ f. let r = lost-found (start card) ms f in rw (b, c, d, e, f) (26, record { broken = losingWay patch (r .there) (r .so); least = h26 }))
+        (λ f. let r = lost-found (start card) ms f in rw (b, c, d, e, f) (26, record { broken = losingWay patch (r .there) (start-left card lang ms patch) (r .so); least = h26 }))
         (λ f. rw (b, c, d, e, f) (by-room (raise 26 h26 (no-26 f))))))))
 
   -- no PatchObject of the language
@@ -185,8 +189,8 @@ module _ (L : Limits) (words room : ℕ) (card : Doc) (lang : Name) where
   one-refusal n r q (badKey p k t) (badKey p′ k′ t′) = refl
   one-refusal n r q (ownLocalizations p k t) (ownLocalizations p′ k′ t′) = refl
   one-refusal n r q (clashing p k t) (clashing p′ k′ t′) = refl
-  one-refusal n r q (enteringArray p k t) (enteringArray p′ k′ t′) = refl
-  one-refusal n r q (losingWay p k t) (losingWay p′ k′ t′) = refl
+  one-refusal n r q (enteringArray p k l t) (enteringArray p′ k′ l′ t′) = refl
+  one-refusal n r q (losingWay p k l t) (losingWay p′ k′ l′ t′) = refl
   one-refusal n r q (short {ms = ms} p k) (short {ms = ns} p′ k′) =
       ap (λ (x : Members). Short (length (written (patchedDoc card x)))) (one-patch card lang ms ns p p′)
   one-refusal n r q (unfit {ms = ms} {r = x} p e) (unfit {ms = ns} {r = y} p′ e′) =
@@ -220,10 +224,22 @@ module _ (L : Limits) (words room : ℕ) (card : Doc) (lang : Name) where
   broken-number (badKey p k t) = refl
   broken-number (ownLocalizations p k t) = refl
   broken-number (clashing p k t) = refl
-  broken-number (enteringArray p k t) = refl
-  broken-number (losingWay p k t) = refl
+  broken-number (enteringArray p k l t) = refl
+  broken-number (losingWay p k l t) = refl
   broken-number (short p k) = refl
   broken-number (unfit p e) = refl
+
+  -- and its second number
+  pub broken-second : {n : ℕ} {r : LocalRefusal} → B n r → SecondNumber r (refusedLocal r .second)
+  unfolding refusedLocal
+  broken-second (noLanguage h) = S.no-language
+  broken-second (badKey p k t) = S.bad-key
+  broken-second (ownLocalizations p k t) = S.own-localizations
+  broken-second (clashing p k t) = S.clash
+  broken-second (enteringArray p k l t) = S.in-array
+  broken-second (losingWay p k l t) = S.no-object
+  broken-second (short p k) = S.needed
+  broken-second (unfit p e) = S.inside
 
   -- a refusal is given exactly if its condition is broken, and none of a smaller number
   pub refused-iff : (r : LocalRefusal) → (localizedDoc L words room card lang ≡ denied r) ↔ Smallest L words room card lang (refusedLocal r .number) r

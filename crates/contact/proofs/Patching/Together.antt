@@ -3,9 +3,9 @@
 -- Assumes nothing.
 use mathlib.Core.Bool.{Bool, false, _||_, true≢false}
 use mathlib.Core.List.{List, [], _∷_}
-use mathlib.Core.Option.{Option, none, some, Option·none-ne-some}
+use mathlib.Core.Option.{Option, none, some}
 use mathlib.Core.Logic.{_≢_}
-use mathlib.Core.Path.{_≡_, refl, sym, ap, _∙_, subst}
+use mathlib.Core.Path.{_≡_, refl, sym, ap, _∙_}
 use Prim.Native.Nat.{ℕ}
 use Rattle.laws.specs.Sorting.{Perm, stay, skip, swap, andThen}
 use Rattle.laws.proofs.Bools.{byTest, or-false, swap-or}
@@ -14,18 +14,19 @@ use Rattle.laws.specs.Order.{same}
 use Rattle.text.specs.Limits.{Limits}
 use Rattle.text.specs.Text.{bytes}
 use Rattle.text.specs.Tree.{Forest}
-use Rattle.text.specs.Doc.{Name, Doc, object, Members, empty, member, Property, property, seek, docOf, scalar, array}
+use Rattle.text.specs.Doc.{Name, Doc, object, Members, member, Property, property, seek, docOf, scalar, array}
 use Rattle.contact.specs.Verdict.{passed, judgedOf}
 use Rattle.contact.specs.Pointer.{last, badTilde, find, within, Pointer, down, firstPart}
 use Rattle.contact.specs.Patch.{Entry, entriesOf, anyBadKey, anyClash, isInArray, isNoObject, without, applied, entry, added, kept, anyOwn}
 use Rattle.contact.specs.Localize.{start, byEntries, inPatch, withPatch, localizedDoc, localizedOf, patchedDoc}
 use Rattle.contact.specs.Entries.{Shuffled, asIs, keepFirst, swapFirst, andOn, NoClash, ParentsThere, Apart, ApartFrom}
 use Rattle.contact.specs.Conditions.{LooseTilde, HasKey, PatchOf, Applicable}
-use Rattle.contact.specs.Patching.{Rearranged, rearranged, AtMember, thisOne, laterOne, InMember, inMember, OrderOnly, RunsTo, Patched, LeftOut, noMore, goes, stays, LeftOutOf, leftOut, PatchedCard, Patching}
+use Rattle.contact.specs.Patching.{Rearranged, rearranged, AtMember, thisOne, laterOne, InMember, inMember, OrderOnly, RunsTo, Patched, PatchedCard, Patching}
 use Rattle.contact.proofs.Patching.Asked.{asked-of}
-use Rattle.contact.proofs.Patching.Names.{same-no, same-yes, byName}
+use Rattle.contact.proofs.Patching.Names.{same-no, same-yes}
 use Rattle.contact.proofs.Patching.Order.{any-order}
 use Rattle.contact.proofs.Patching.Untouched.{untouched}
+use Rattle.contact.proofs.Patching.Start.{start-left}
 use Rattle.contact.proofs.Patching.Seek.{seek-without-same, seek-without-other}
 use Rattle.contact.proofs.Patching.Layout.{laid-root, laid-below}
 use Rattle.contact.proofs.Patching.Effect.{effect}
@@ -99,19 +100,6 @@ start-else (array xs) (last n) h = refl
 start-else (array xs) (down n p) h = refl
 start-else (object ms) (last n) h = seek-without-other localizations n ms (λ e. h (sym e))
 start-else (object ms) (down n p) h = ap (within (find p)) (seek-without-other localizations n ms (λ e. h (sym e)))
-
-start-members : (n : Name) (ms : Members) → LeftOut n ms (without n ms)
-start-members n empty = noMore
-start-members n (member m label d ms) =
-    byName m n
-    (λ e. simp (same-yes e) (subst (λ (k : Name). LeftOut n (member k label d ms) (without n ms)) (sym e) (goes (start-members n ms))))
-    (λ ne. simp (same-no ne) (stays ne (start-members n ms)))
-
--- a card with a PatchObject is an object
-start-left : (card : Doc) (lang : Name) (ms : Members) → PatchOf card lang ms → LeftOutOf localizations card (start card)
-start-left (scalar k t) lang ms p = absurd (Option·none-ne-some _ (p .stands))
-start-left (array xs) lang ms p = absurd (Option·none-ne-some _ (p .stands))
-start-left (object os) lang ms p = leftOut (start-members localizations os)
 
 -- ---- entries of which no condition is broken
 

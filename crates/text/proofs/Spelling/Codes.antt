@@ -1,6 +1,6 @@
 -- Code points and their UTF-8:
 --     by-checked, good-checked     `checkedAt` takes exactly the good code points
---     by-utf8                      the four shapes of UTF-8
+--     by-utf8, utf8-table          the four shapes of UTF-8, which are the table of RFC 3629
 --     tail-bits, tail-byte         the six bits of a continuation byte
 --     joined2, joined3, joined4    a code point is put together again from its bytes
 --     shown2, shown3, shown4       a good code point that was put together from bytes has them for its UTF-8
@@ -16,7 +16,8 @@ use Rattle.laws.specs.Bounds.{AllBelow}
 use Rattle.laws.proofs.Branches.{if-less}
 use Rattle.text.specs.Chars.{checkedAt, tailOf, seq2, seq3, seq4}
 use Rattle.text.specs.Strings.{conts, utf8}
-use Rattle.text.specs.Spelling.{Noncharacter, block, last-two, Good}
+use Rattle.text.specs.Spelling.{Noncharacter, block, last-two, Good, Utf8}
+use Rattle.text.specs.Spelling as S
 use Rattle.text.specs.declared.Step.{Step}
 use Rattle.text.specs.declared.Step.the-variants.{Char, Bad3}
 use Rattle.text.proofs.Sequences.{by-seq2, by-seq3, by-seq4}
@@ -76,6 +77,22 @@ pub by-utf8 : (P : List ℕ → Type 0) (c : ℕ) → (c < 128 → P (c ∷ []))
     → (65536 ≤ c → P ((240 + c / 262144 % 8) ∷ (128 + c / 4096 % 64) ∷ (128 + c / 64 % 64) ∷ (128 + c % 64) ∷ [])) → P (utf8 c)
 unfolding utf8 conts
 by-utf8 P c one two three four = if-less P c 128 one (λ a. if-less P c 2048 (two a) (λ b. if-less P c 65536 (three b) four))
+
+-- theorem: the table of RFC 3629
+pub utf8-table : (c : ℕ) → c ≤ 0x10FFFF → Utf8 c (utf8 c)
+utf8-table c h =
+    by-utf8 (Utf8 c) c
+    (λ k. S.one-byte k)
+    (λ k l.
+    let e : c / 64 % 32 * 64 + c % 64 ≡ c = omega arith in
+    rw e at (S.two-bytes {x = c / 64 % 32} {y = c % 64} (omega arith) (omega arith) (rw e k)))
+    (λ k l.
+    let e : c / 4096 % 16 * 4096 + c / 64 % 64 * 64 + c % 64 ≡ c = omega arith in
+    rw e at (S.three-bytes {x = c / 4096 % 16} {y = c / 64 % 64} {z = c % 64} (omega arith) (omega arith) (omega arith) (rw e k)))
+    (λ k.
+    let b : c / 262144 % 8 ≡ c / 262144 = omega arith in
+    let e : c / 262144 % 8 * 262144 + c / 4096 % 64 * 4096 + c / 64 % 64 * 64 + c % 64 ≡ c = rw b (omega arith) in
+    rw e at (S.four-bytes {x = c / 262144 % 8} {y = c / 4096 % 64} {z = c / 64 % 64} {w = c % 64} (omega arith) (omega arith) (omega arith) (omega arith) (rw e k)))
 
 pub one-byte : (c : ℕ) → c < 128 → utf8 c ≡ c ∷ []
 one-byte c h = by-utf8 (λ w. w ≡ c ∷ []) c (λ k. refl) (λ k l. absurd (omega arith)) (λ k l. absurd (omega arith)) (λ k. absurd (omega arith))
