@@ -7,7 +7,7 @@ use lib.Dec.{ltb}
 use lib.ListN.{length, take}
 use Rattle.laws.specs.Lists.{filled}
 use Rattle.text.specs.Limits.{base}
-use Rattle.text.specs.Tree.{Forest, rowsOf}
+use Rattle.text.specs.Tree.{Forest, treeRows}
 use Rattle.text.specs.Firsts.{insideAt}
 use Rattle.text.specs.Doc.{Name, Doc, Members, membersOf, docOf}
 use Rattle.text.specs.Writing.{written}
@@ -31,7 +31,7 @@ mostEntries = base .values
 -- the text passes as a card, and the table holds its rows
 pub record CardIn (t table : List ℕ) (f : Forest) : Type 0 where
   pub passes : judgedOf base (length table) t ≡ passed f
-  pub rows : table ≡ filled (length table) (rowsOf f)
+  pub rows : table ≡ filled (length table) (treeRows f)
 
 -- the bytes of what the entries make of the card can be counted, unless they break a condition
 abbrev pub Countable : Doc → Members → Type 0
@@ -78,7 +78,7 @@ pub record Rejudged (words : ℕ) (o : Outcome) (r : Localized) (table : List �
 
 -- the output begins with the text and the table is as it must be, where there is a card
 abbrev pub Left : (words : ℕ) → Outcome → (table out : List ℕ) → Type 0
-Left words (done text f) table out = (table ≡ filled words (rowsOf f)) × (length text ≤ length out) × (take (length text) out ≡ text)
+Left words (done text f) table out = (table ≡ filled words (treeRows f)) × (length text ≤ length out) × (take (length text) out ≡ text)
 Left words (denied r) table out = Prim.Unit {0}
 
 -- the answer is the outcome's, and the table and the output are left so

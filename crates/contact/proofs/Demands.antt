@@ -60,10 +60,10 @@ accepted-ends : (c : Call) (rows bytes : List ℕ) (count : ℕ) → length rows
     → Ends c (leaves (numbers 0 count (length bytes)) (filled (wordsOf c) rows) (filled (roomOf c) bytes))
 accepted-ends c rows bytes count e l k = acceptance rows bytes count (wordsOf c - length rows) (roomOf c - length bytes) e (omega arith) (omega arith)
 
-module _ (L : Limits) (unique : L .unique ≡ true) (six : L .words ≡ rowWords) where
+module _ (L : Limits) (unique : L .unique ≡ true) where
   -- rows that have room
-  rows-fit : (words : ℕ) (f : Forest) → L .words * size f ≤ words → length (rowsOf f) ≤ words
-  rows-fit words f l = let k : rowWords * size f ≤ words = rw six at l in omega (arith, rows-length f)
+  rows-fit : (words : ℕ) (f : Forest) → rowWords * size f ≤ words → length (rowsOf f) ≤ words
+  rows-fit words f l = omega (arith, rows-length f)
 
   read-ends : (t : List ℕ) (words : ℕ) → Ends (read t words) (served L (read t words))
   unfolding served sheetOf tableOf
@@ -160,4 +160,4 @@ module _ (L : Limits) (unique : L .unique ≡ true) (six : L .words ≡ rowWords
 
 -- with the limits of 01
 pub base-demands : Demands base (served base)
-base-demands = demands base refl refl
+base-demands = demands base refl

@@ -1,5 +1,5 @@
 -- The three demands, sentence by sentence, of what services answer and leave: `Demands`. `serve` says what each call leaves. proofs/Demands.antt proves
--- them of `served` (specs/Services.antt) for all limits that refuse repeated names and have six words to a row, and for those of 01.
+-- them of `served` (specs/Services.antt) for all limits that refuse repeated names, and for those of 01.
 --
 -- A service is called with whatever bytes, words and lengths there are, and that its code ends is part of its proof. No public function has a
 -- `requires`, so nothing is tested beforehand: the contracts give the answer, the table and the output of `served` for every call, and so the
@@ -15,7 +15,7 @@ use lib.ListN.{length, replicate}
 use Rattle.laws.specs.Lists.{filled}
 use Rattle.laws.specs.Sorting.{Perm}
 use Rattle.text.specs.Limits.{Limits, rowWords}
-use Rattle.text.specs.Tree.{Forest, size, rowsOf}
+use Rattle.text.specs.Tree.{Forest, size, treeRows}
 use Rattle.text.specs.Seats.{Head, leafHead, Seat, top, Sits}
 use Rattle.text.specs.Standing.{RowAt}
 use Rattle.text.specs.Sheet.{numbers}
@@ -91,7 +91,7 @@ pub record EveryCall (L : Limits) (serve : Call → Left) : Type 0 where
 -- t is a JSON text that keeps I-JSON's rules within the limits, f is its tree, and a table of so many words has rows enough
 pub record Readable (L : Limits) (words : ℕ) (t : List ℕ) (f : Forest) : Type 0 where
   pub accepts : Accepts L t f
-  pub enough : L .words * size f ≤ words
+  pub enough : rowWords * size f ≤ words
 
 -- the same, and the document that it says keeps the listed rules
 pub record CardText (L : Limits) (words : ℕ) (t : List ℕ) (f : Forest) : Type 0 where
@@ -104,7 +104,7 @@ pub record CardText (L : Limits) (words : ℕ) (t : List ℕ) (f : Forest) : Typ
 pub record RowsShort (L : Limits) (words : ℕ) (t : List ℕ) (n : ℕ) : Type 0 where
   pub tree : Forest
   pub accepts : Accepts L t tree
-  pub short : words < L .words * size tree
+  pub short : words < rowWords * size tree
   pub needed : n ≡ size tree
 
 -- the value of a row is this one: the row's places hold its token and its kind is the token's, or the row is that of an array (6) or an object (7) of
@@ -138,7 +138,7 @@ pub record ReadingAndJudging (L : Limits) (serve : Call → Left) : Type 0 where
   pub accepts : (t : List ℕ) (words : ℕ) → Passes serve (read t words) ↔ ((f : Forest) × Readable L words t f)
   -- it leaves the rows of that text's tree, one for each value
   pub rows : (t : List ℕ) (words : ℕ) (f : Forest) → Readable L words t f
-      → serve (read t words) ≡ leaves (numbers 0 (size f) 0) (filled words (rowsOf f)) []
+      → serve (read t words) ≡ leaves (numbers 0 (size f) 0) (filled words (treeRows f)) []
   -- and these describe the text: the tree stands in the table and lies in the text
   pub describe : (t : List ℕ) (words : ℕ) (f : Forest) → Readable L words t f → Filled L t (serve (read t words) .table) (size f) f
   -- word by word: the row of each value has its kind, where its name and the value itself start and end, and how many values are below it
@@ -178,7 +178,7 @@ pub record Localization (L : Limits) (serve : Call → Left) (words room : ℕ) 
   pub text : List ℕ
   pub tree : Forest
   -- the row count and the length are those of the written card
-  pub left : serve (localize t lang words room) ≡ leaves (numbers 0 (size tree) (length text)) (filled words (rowsOf tree)) (filled room text)
+  pub left : serve (localize t lang words room) ≡ leaves (numbers 0 (size tree) (length text)) (filled words (treeRows tree)) (filled room text)
   -- the PatchObject of the language, which all that follows is about
   pub members : Members
   pub patch : PatchOf (docOf t f) lang members

@@ -8,7 +8,7 @@ use mathlib.Core.Logic.{_↔_}
 use lib.ListN.{length, getD}
 use Rattle.laws.specs.Lists.{filled}
 use Rattle.text.specs.Limits.{Limits}
-use Rattle.text.specs.Tree.{Forest, size, rowsOf, startsOf}
+use Rattle.text.specs.Tree.{Forest, size, treeRows, startsOf}
 use Rattle.text.specs.Reader.{good, bad}
 use Rattle.text.specs.declared.Paper.{Paper}
 use Rattle.text.specs.Sheet.{numbers, refused}
@@ -32,7 +32,7 @@ pub data Says (L : Limits) (words : ℕ) (text : List ℕ) : (answer : Paper) �
   unread : {r : Refusal} → wholeOf L words text ≡ bad r → Says L words text (refused r) (filled words [])
   -- then a card that keeps all rules passes, and its rows are left in the table
   passes : {f : Forest} {to : ℕ} → wholeOf L words text ≡ good f to → Keeps (docOf text f)
-      → Says L words text (numbers 0 (size f) 0) (filled words (rowsOf f))
+      → Says L words text (numbers 0 (size f) 0) (filled words (treeRows f))
   -- and any other is refused by the first line that is broken, at the first byte of that row's value
   breaks-first : {f : Forest} {to row number : ℕ} → wholeOf L words text ≡ good f to → FirstBreach (docOf text f) row number
       → Says L words text (numbers number (getD (startsOf f) row 0) 0) (filled words [])

@@ -9,7 +9,7 @@ use lib.Dec.{ltb}
 use Rattle.text.specs.Limits.{Limits}
 use Rattle.text.specs.Text.{bytes}
 use Rattle.laws.specs.Lists.{filled}
-use Rattle.text.specs.Tree.{Forest, size, rowsOf}
+use Rattle.text.specs.Tree.{Forest, size, treeRows}
 use Rattle.text.specs.Doc.{Name, Doc, scalar, array, object, Members, Property, docOf}
 use Rattle.text.specs.Writing.{written}
 use Rattle.contact.specs.Verdict.{Judged, passed, failed, judgedOf, refusedCard}
@@ -118,7 +118,7 @@ sheetOfOutcome o = paperOfLocalized (answerOfOutcome o)
 
 -- the rows of the localized card and zero after them; after a refusal zero
 unfoldable pub tableOfOutcome : (words : ℕ) → Outcome → List ℕ
-tableOfOutcome words (done text f) = filled words (rowsOf f)
+tableOfOutcome words (done text f) = filled words (treeRows f)
 tableOfOutcome words (denied r) = filled words []
 
 -- its text and zero after it; after a refusal zero

@@ -57,7 +57,7 @@ refusedAt = refusedUnder base
 
 -- small limits, so that a short text is over them: 9 bytes, 2 open at once, 3 values
 abbrev tight : Limits
-tight = record { bytes = 9; depth = 2; values = 3; words = rowWords; unique = true }
+tight = record { bytes = 9; depth = 2; values = 3; unique = true }
 
 -- ---- texts
 

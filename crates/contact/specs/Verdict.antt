@@ -7,7 +7,7 @@ use lib.ListN.{getD}
 use lib.Dec.{eqb}
 use Rattle.text.specs.Limits.{Limits}
 use Rattle.laws.specs.Lists.{filled}
-use Rattle.text.specs.Tree.{Forest, size, rowsOf, startsOf}
+use Rattle.text.specs.Tree.{Forest, size, treeRows, startsOf}
 use Rattle.text.specs.Reader.{Read, good, bad}
 use Rattle.text.specs.declared.Paper.{Paper}
 use Rattle.text.specs.Sheet.{numbers, refused}
@@ -78,5 +78,5 @@ sheetOfJudged j = paperOfVerdict (answerOfJudged j)
 
 -- the whole table: the rows and zero after them; after a refusal zero
 unfoldable pub tableOfJudged : (words : ℕ) → Judged → List ℕ
-tableOfJudged words (passed f) = filled words (rowsOf f)
+tableOfJudged words (passed f) = filled words (treeRows f)
 tableOfJudged words (failed r) = filled words []

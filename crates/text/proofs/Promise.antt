@@ -42,7 +42,7 @@ use native.Mathlib.Omega.{arith}
 use lib.Dec.{ltb}
 use borrow.Author.Tests.{ltb-false}
 use Rattle.laws.specs.Lists.{filled}
-use Rattle.text.specs.Limits.{Limits}
+use Rattle.text.specs.Limits.{Limits, rowWords}
 use Rattle.text.specs.Tree.{Forest, size}
 use Rattle.text.specs.Promised.{Promised, Filled}
 use Rattle.text.specs.Reader.{Read, good, bad}
@@ -145,23 +145,23 @@ promised L t f to e =
 -- it is read, and the rows have room
 pub record Fits (L : Limits) (words : ℕ) (t : List ℕ) (f : Forest) (to : ℕ) : Type 0 where
   pub read : readOf L t ≡ good f to
-  pub room : L .words * size f ≤ words
+  pub room : rowWords * size f ≤ words
 
 pub whole-good : (L : Limits) (words : ℕ) (t : List ℕ) (f : Forest) (to : ℕ) → wholeOf L words t ≡ good f to → Fits L words t f to
 unfolding wholeOf fitOf
 whole-good L words t f to e = go (readOf L t) refl e
   where
-    fit : (g : Forest) (end : ℕ) → readOf L t ≡ good g end → (x : Bool) → ltb words (L .words * size g) ≡ x
+    fit : (g : Forest) (end : ℕ) → readOf L t ≡ good g end → (x : Bool) → ltb words (rowWords * size g) ≡ x
         → cond x (bad (Small (size g))) (good g end) ≡ good f to → Fits L words t f to
     fit g end h true l p = let z : _≡_ {A = ℕ} 0 1 = cc in absurd (omega arith)
     fit g end h false l p =
         let same : g ≡ f = cc in
-        let room = ltb-false words (L .words * size g) l in
+        let room = ltb-false words (rowWords * size g) l in
         record { read = h ∙ p; room = rw (← same) room }
 
-    go : (r : Read) → readOf L t ≡ r → fitOf L words r ≡ good f to → Fits L words t f to
+    go : (r : Read) → readOf L t ≡ r → fitOf words r ≡ good f to → Fits L words t f to
     go (bad r) h q = let z : _≡_ {A = ℕ} 0 1 = cc in absurd (omega arith)
-    go (good g end) h q = fit g end h (ltb words (L .words * size g)) refl q
+    go (good g end) h q = fit g end h (ltb words (rowWords * size g)) refl q
 
 -- an answer and a table that meet reading's contract
 module _ (L : Limits) (words : ℕ) (t table : List ℕ) where
@@ -171,7 +171,7 @@ module _ (L : Limits) (words : ℕ) (t table : List ℕ) where
     pub end : ℕ
     pub whole : wholeOf L words t ≡ good tree end
     pub count : size tree ≡ n
-    pub room : L .words * n ≤ words
+    pub room : rowWords * n ≤ words
     pub filled-by : Filled L t table n tree
 
   tabled : (f : Forest) (to : ℕ) → table ≡ tableOf words (wholeOf L words t) → wholeOf L words t ≡ good f to → Tabled (size f)

@@ -5,4 +5,4 @@ use Rattle.text.specs.Limits.{Limits}
 
 -- the same limits, with v values
 abbrev pub withValues : Limits → ℕ → Limits
-withValues L v = record { bytes = L .bytes; depth = L .depth; values = v; words = L .words; unique = L .unique }
+withValues L v = record { bytes = L .bytes; depth = L .depth; values = v; unique = L .unique }

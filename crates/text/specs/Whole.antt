@@ -6,10 +6,10 @@ use mathlib.Core.List.{List, []}
 use mathlib.Core.Bool.{cond}
 use lib.ListN.{length}
 use lib.Dec.{ltb}
-use Rattle.text.specs.Limits.{Limits}
+use Rattle.text.specs.Limits.{Limits, rowWords}
 use Rattle.laws.specs.Lists.{filled}
 use Rattle.text.specs.Tokens.{skip}
-use Rattle.text.specs.Tree.{size, rowsOf}
+use Rattle.text.specs.Tree.{size, treeRows}
 use Rattle.text.specs.Reader.{Read, good, bad, valueAt}
 use Rattle.text.specs.declared.Paper.{Paper}
 use Rattle.text.specs.Sheet.{numbers, refused, paper}
@@ -27,15 +27,14 @@ readOf L t =
     let all = endOf t (valueAt L t (L .depth) 0 0 (skip t 0) 0) in
     cond (ltb (L .bytes) (length t)) (bad TooLong) all
 
--- 7, after all others: the table has fewer whole rows than the text has values. Rows are counted with `L .words` words; those that `rowsOf` lists have
--- `rowWords` (`rows-length`, proofs/Standing.antt). So what is said of both asks `L .words ≡ rowWords`, as the demands do (crate contact); `base` has it.
-unfoldable pub fitOf : Limits → (words : ℕ) → Read → Read
-fitOf L words (bad r) = bad r
-fitOf L words (good f to) = cond (ltb words (L .words * size f)) (bad (Small (size f))) (good f to)
+-- 7, after all others: the table has fewer whole rows than the text has values
+unfoldable pub fitOf : (words : ℕ) → Read → Read
+fitOf words (bad r) = bad r
+fitOf words (good f to) = cond (ltb words (rowWords * size f)) (bad (Small (size f))) (good f to)
 
 -- a text read for a table of so many words
 unfoldable pub wholeOf : Limits → (words : ℕ) → List ℕ → Read
-wholeOf L words t = fitOf L words (readOf L t)
+wholeOf L words t = fitOf words (readOf L t)
 
 -- the answer in the paper's numbers: 0 and the row count, or the refusal's two numbers
 unfoldable pub sheetOf : Read → Paper
@@ -44,7 +43,7 @@ sheetOf (bad r) = refused r
 
 -- the whole table: the rows and zero after them; after a refusal zero
 unfoldable pub tableOf : (words : ℕ) → Read → List ℕ
-tableOf words (good f to) = filled words (rowsOf f)
+tableOf words (good f to) = filled words (treeRows f)
 tableOf words (bad r) = filled words []
 
 -- what reading's contract says of an answer and of what is left in a table of so many words

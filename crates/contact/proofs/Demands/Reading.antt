@@ -9,7 +9,7 @@ use lib.ListN.{length, getD}
 use borrow.Author.Tests.{lt-ltb, le-ltb}
 use Rattle.laws.specs.Lists.{filled}
 use Rattle.laws.proofs.Branches.{if-less}
-use Rattle.text.specs.Limits.{Limits}
+use Rattle.text.specs.Limits.{Limits, rowWords}
 use Rattle.text.specs.Tokens.{skip}
 use Rattle.text.specs.Tree.{Forest, size, rowsOf, startsOf}
 use Rattle.text.specs.Reader.{Read, good, bad}
@@ -48,7 +48,7 @@ use Rattle.contact.proofs.Demands.Sheet.{OnLine, on-line, line-of, text
 module _ (L : Limits) (words : ℕ) (t : List ℕ) where
   pub readable-good : (f : Forest) → Readable L words t f → wholeOf L words t ≡ good f (length t)
   unfolding wholeOf fitOf
-  readable-good f r = rw (accepts L t f .1 (r .accepts), le-ltb words (L .words * size f) (r .enough))
+  readable-good f r = rw (accepts L t f .1 (r .accepts), le-ltb words (rowWords * size f) (r .enough))
 
   read-accepts : (f : Forest) (to : ℕ) → readOf L t ≡ good f to → Accepts L t f
   read-accepts f to e = accepts-whole L t f to e .0
@@ -64,7 +64,7 @@ module _ (L : Limits) (words : ℕ) (t : List ℕ) where
   data Means : Read → Type 0 where
     long : L .bytes < length t → Means (bad TooLong)
     faulty : {r : Refusal} (n p : ℕ) → refused r ≡ numbers n p 0 → length t ≤ L .bytes → FirstFault L t n p → Means (bad r)
-    short : (f : Forest) → Accepts L t f → words < L .words * size f → Means (bad (Small (size f)))
+    short : (f : Forest) → Accepts L t f → words < rowWords * size f → Means (bad (Small (size f)))
     fits : (f : Forest) (to : ℕ) → Readable L words t f → Means (good f to)
 
   refusal-means : (r : Refusal) → readOf L t ≡ bad r → Means (bad r)
@@ -80,11 +80,11 @@ module _ (L : Limits) (words : ℕ) (t : List ℕ) where
   unfolding wholeOf fitOf
   means = go (readOf L t) refl
     where
-      go : (R : Read) → readOf L t ≡ R → Means (fitOf L words R)
+      go : (R : Read) → readOf L t ≡ R → Means (fitOf words R)
       go (bad r) e = refusal-means r e
       go (good f to) e =
           let a = read-accepts f to e in
-          if-less Means words (L .words * size f) (λ l. short f a l) (λ l. fits f to (record { accepts = a; enough = l }))
+          if-less Means words (rowWords * size f) (λ l. short f a l) (λ l. fits f to (record { accepts = a; enough = l }))
 
   -- ---- reading, of what it leaves
 
@@ -122,10 +122,10 @@ module _ (L : Limits) (words : ℕ) (t : List ℕ) where
       one (Many p) e = absurd (omega (arith, same-number e))
       one (Small n) e = absurd (omega (arith, same-number e))
 
-      go : (R : Read) → sheetOf (fitOf L words R) ≡ numbers 1 second 0 → (R ≡ bad TooLong) × (second ≡ 0)
+      go : (R : Read) → sheetOf (fitOf words R) ≡ numbers 1 second 0 → (R ≡ bad TooLong) × (second ≡ 0)
       go (bad r) e = one r e
       go (good f to) e =
-          absurd (if-less (λ (R : Read). sheetOf R ≡ numbers 1 second 0 → ⊥) words (L .words * size f)
+          absurd (if-less (λ (R : Read). sheetOf R ≡ numbers 1 second 0 → ⊥) words (rowWords * size f)
           (λ l k. omega (arith, same-number k)) (λ l k. omega (arith, same-number k)) e)
 
   pub read-fault : length t ≤ L .bytes → (n p : ℕ) → Within 2 6 n → (served L (read t words) .answer ≡ numbers n p 0) ↔ FirstFault L t n p
@@ -153,7 +153,7 @@ module _ (L : Limits) (words : ℕ) (t : List ℕ) where
 
       back : RowsShort L words t n → sheetOf (wholeOf L words t) ≡ numbers 7 n 0
       back s =
-          rw (accepts L t (s .tree) .1 (s .accepts), lt-ltb words (L .words * size (s .tree)) (s .short)) (ap (λ (k : ℕ). numbers 7 k 0) (sym (s .needed)))
+          rw (accepts L t (s .tree) .1 (s .accepts), lt-ltb words (rowWords * size (s .tree)) (s .short)) (ap (λ (k : ℕ). numbers 7 k 0) (sym (s .needed)))
 
   -- ---- judging
 

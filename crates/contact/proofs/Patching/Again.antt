@@ -9,7 +9,7 @@ use lib.ListN.{length}
 use native.Mathlib.Nat.{mul-le-mul-left}
 use native.Mathlib.Omega.{arith}
 use Rattle.laws.specs.Lists.{partOf}
-use Rattle.text.specs.Limits.{Limits}
+use Rattle.text.specs.Limits.{Limits, rowWords}
 use Rattle.text.specs.Tree.{Forest, size}
 use Rattle.text.specs.Doc.{Name, Doc, object, Members, property, docOf, countOf}
 use Rattle.text.specs.Distinct.{Distinct}
@@ -54,7 +54,7 @@ pub record Modest (L : Limits) (words : ℕ) (t : List ℕ) (f : Forest) (x : Do
   -- no more values than the text has, so no more than are allowed (6) and have rows (7)
   pub fewer : countOf x ≤ size f
   pub values : countOf x ≤ L .values
-  pub rows : L .words * countOf x ≤ words
+  pub rows : rowWords * countOf x ≤ words
   -- no longer than the text would be without white space (1)
   pub short : length (written x) ≤ length (written (docOf t f))
 
@@ -91,7 +91,7 @@ module _ (L : Limits) (words : ℕ) (t : List ℕ) (f : Forest) (unique : L .uni
         lexemes = labels-stay Lexeme card lang ms patch (text-writable L t f to (r .read) unique .labels);
         fewer = fewer;
         values = omega (arith, p .few);
-        rows = omega (arith, mul-le-mul-left (L .words) fewer, r .room);
+        rows = omega (arith, mul-le-mul-left rowWords fewer, r .room);
         short = room-enough card lang ms patch dc nc pt (keys-long (TokenOf t) card lang ms patch labels);
       }
 

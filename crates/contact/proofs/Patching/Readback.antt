@@ -9,7 +9,7 @@ use native.Mathlib.Omega.{arith}
 use native.Mathlib.Decide.{decLe}
 use borrow.Author.Tests.{le-ltb}
 use lib.ListN.{length, getD}
-use Rattle.text.specs.Limits.{Limits}
+use Rattle.text.specs.Limits.{Limits, rowWords}
 use Rattle.text.specs.Tree.{Forest, size, startsOf}
 use Rattle.text.specs.Reader.{good}
 use Rattle.text.specs.Sheet.{refused}
@@ -40,9 +40,9 @@ use Rattle.contact.proofs.Patching.Again.{Modest, InnerOf, modest, inne
 -- ---- a document that is read back is judged as it is ----
 
 module _ (L : Limits) (words : ℕ) (x : Doc) (b : ReadsBack L x) where
-  judged-back : L .words * size (rootOf (b .derives)) ≤ words → depthIn x ≤ L .depth → judgedOf L words (written x) ≡ byBreach (rootOf (b .derives)) (cardBreach x)
+  judged-back : rowWords * size (rootOf (b .derives)) ≤ words → depthIn x ≤ L .depth → judgedOf L words (written x) ≡ byBreach (rootOf (b .derives)) (cardBreach x)
   unfolding judgedOf judgedRead wholeOf fitOf
-  judged-back room l = rw (b .read l, le-ltb words (L .words * size (rootOf (b .derives))) room, b .says)
+  judged-back room l = rw (b .read l, le-ltb words (rowWords * size (rootOf (b .derives))) room, b .says)
 
   judged-deep : L .depth < depthIn x → (p : ℕ) × (judgedOf L words (written x) ≡ failed (Text (Deep p)))
   unfolding judgedOf judgedRead wholeOf fitOf

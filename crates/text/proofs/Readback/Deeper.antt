@@ -22,7 +22,7 @@ use Rattle.text.proofs.Grammar.Accepted.{accepts, accepts-clean, Answer
 
 -- the same limits, but for the depth
 abbrev pub toDepth : Limits → ℕ → Limits
-toDepth L depth = record { bytes = L .bytes; depth = depth; values = L .values; words = L .words; unique = L .unique }
+toDepth L depth = record { bytes = L .bytes; depth = depth; values = L .values; unique = L .unique }
 
 module _ (L : Limits) (depth : ℕ) (t : List ℕ) where
   wrong-deep : {d : Seat} {h : Head} {m x : ℕ} → Wrong L t d h m x → (m ≡ 5) ⊎ Wrong (toDepth L depth) t d h m x
