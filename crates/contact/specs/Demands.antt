@@ -13,6 +13,7 @@ use mathlib.Core.List.{List, [], _++_}
 use mathlib.Core.Option.{some}
 use lib.ListN.{length, replicate}
 use Rattle.laws.specs.Lists.{filled}
+use Rattle.laws.specs.Order.{before, Earlier}
 use Rattle.laws.specs.Sorting.{Perm}
 use Rattle.text.specs.Limits.{Limits, rowWords}
 use Rattle.text.specs.Tree.{Forest, size, rowsOf}
@@ -251,6 +252,8 @@ pub record Localizing (L : Limits) (serve : Call → Left) : Type 0 where
   pub keys : (key : Name) (p : Pointer) → PointerText key p ↔ ((¬ LooseTilde key) × (p ≡ pointerOf key))
   -- so a PatchObject asks for one list of entries: those that a patched card (`Patched`) is about
   pub asking : (ms : Members) (es fs : List Entry) → Asked ms es → Asked ms fs → es ≡ fs
+  -- added members stand in the order of the bytes of their names, a name before those that it begins
+  pub byte-order : (n m : Name) → (before n m ≡ true) ↔ Earlier n m
   -- the name of an added member is escaped only where RFC 8259 demands it, by the short escape if there is one, else by \u00 and two small digits
   pub new-names : (n label : List ℕ) → SpelledName n label ↔ (label ≡ spelled n)
   -- 27 and 28, which come up if none of 21 to 26 is broken, speak of the patched card
