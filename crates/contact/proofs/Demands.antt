@@ -27,6 +27,7 @@ use Rattle.text.specs.declared.Paper.{Paper}
 use Rattle.text.specs.Sheet.{numbers}
 use Rattle.text.specs.Whole.{wholeOf, sheetOf, tableOf}
 use Rattle.text.specs.Doc.{Name, docOf}
+use Rattle.text.proofs.Laws.{letters}
 use Rattle.text.proofs.Outcomes.{same-outcome}
 use Rattle.text.proofs.Spelling.Codes.{utf8-table}
 use Rattle.text.proofs.NewNames.{spelled-name}
@@ -131,6 +132,7 @@ module _ (L : Limits) (unique : L .unique ≡ true) (six : L .words ≡ rowWords
       card-rows = λ t words. judge-rows L words t;
       offends = λ t words. judge-offends L words t;
       seen = value-seen;
+      letters = letters;
       signed = as-signed;
     };
     localizing = record {

@@ -6,6 +6,7 @@
 -- demands hold of any services that keep the contracts (crate bezinkol, specs/Called.antt).
 -- Assumes nothing: these are definitions.
 use Prim.Native.Nat.{ℕ, _+_, _*_, _≤_, _<_}
+use Prim.Native.String.{String}
 use mathlib.Core.Path.{_≡_}
 use mathlib.Core.Bool.{true}
 use mathlib.Core.Logic.{_⊎_, _↔_}
@@ -16,6 +17,7 @@ use Rattle.laws.specs.Lists.{filled}
 use Rattle.laws.specs.Order.{before, Earlier}
 use Rattle.laws.specs.Sorting.{Perm}
 use Rattle.text.specs.Limits.{Limits, rowWords}
+use Rattle.text.specs.Text.{bytes, Codes}
 use Rattle.text.specs.Tree.{Forest, size, rowsOf}
 use Rattle.text.specs.Seats.{Head, leafHead, Seat, top, Sits}
 use Rattle.text.specs.Standing.{RowAt}
@@ -169,6 +171,8 @@ pub record ReadingAndJudging (L : Limits) (serve : Call → Left) : Type 0 where
       → (serve (judge t words) .answer ≡ numbers n p 0) ↔ Offends L words t n p
   -- what the rules see of a value: its kind, its token and its members are what they are called
   pub seen : (v : Doc) → Sees v (kindOf v) (tokenOf v) (below v)
+  -- a quoted text, as the fixed spellings are, stands for the codes of its characters
+  pub letters : (s : String) → Codes s (bytes s)
   -- what types and properties the rules are about: the table is what the signatures of RFC 9553 say
   pub signed : AsSigned
 
