@@ -49,7 +49,7 @@ use Rattle.contact.proofs.Demands.Sheet.{OnLine, on-line, text-line, ca
 use Rattle.contact.proofs.Demands.Rows.{value-seen}
 use Rattle.contact.proofs.Demands.Reading.{read-documents, card-passed, read-passes, read-rows, read-describes, read-words, read-long, read-fault, read-short, judge-unread, judge-passes, judge-rows, judge-offends}
 use Rattle.contact.proofs.Demands.AnyOrder.{reordered-only, order-card, order-number}
-use Rattle.contact.proofs.Demands.Localizing.{of-doc, card-written, localize-own, localize-patched, localize-accepted, localize-would, localize-refused, refused-answer, localize-room, localize-inner}
+use Rattle.contact.proofs.Demands.Localizing.{of-doc, card-written, localize-own, localize-patched, localize-accepted, localize-would, localize-refused, refused-answer, localize-again, localize-room, localize-inner}
 
 -- ---- demand 1
 
@@ -158,6 +158,7 @@ module _ (L : Limits) (unique : L .unique ≡ true) (six : L .words ≡ rowWords
       new-names = spelled-name;
       would-be = λ t lang words room f c. localize-would L unique words room t lang f (card-passed L words t f c);
       room-enough = λ t lang words room. localize-room L unique words room t lang;
+      judged-again = λ t lang words room f c. localize-again L unique words room t lang f (card-passed L words t f c);
       inner = λ t lang words room. localize-inner L unique words room t lang;
     };
   }

@@ -266,7 +266,11 @@ pub record Localizing (L : Limits) (serve : Call → Left) : Type 0 where
   -- an output as long as the card's text always has room
   pub room-enough : (t : List ℕ) (lang : Name) (words room needed : ℕ) → serve (localize t lang words room) .answer ≡ numbers 27 needed 0
       → (room < needed) × (needed ≤ length t)
-  -- the refusal inside 28 can be 5 or 11 to 14
+  -- 28 has the number by which judging refuses the text that would be written
+  pub judged-again : (t : List ℕ) (lang : Name) (words room : ℕ) (f : Forest) → CardText L words t f → (ms : Members) → PatchOf (docOf t f) lang ms
+      → (number : ℕ) → serve (localize t lang words room) .answer ≡ numbers 28 number 0
+      → serve (judge (written (patchedDoc (docOf t f) ms)) words) .answer .number ≡ number
+  -- and that can be 5 or 11 to 14
   pub inner : (t : List ℕ) (lang : Name) (words room number : ℕ) → serve (localize t lang words room) .answer ≡ numbers 28 number 0
       → (number ≡ 5) ⊎ Within 11 14 number
 
