@@ -18,6 +18,7 @@ use mathlib.Core.Bool.{true}
 use mathlib.Core.List.{List, []}
 use lib.ListN.{length}
 use Rattle.laws.specs.Lists.{filled}
+use Rattle.laws.proofs.Orders.{before-earlier}
 use Rattle.text.specs.Limits.{Limits, rowWords, base}
 use Rattle.text.specs.Tree.{Forest, size, rowsOf}
 use Rattle.text.specs.Reader.{Read, good, bad}
@@ -26,6 +27,7 @@ use Rattle.text.specs.declared.Paper.{Paper}
 use Rattle.text.specs.Sheet.{numbers}
 use Rattle.text.specs.Whole.{wholeOf, sheetOf, tableOf}
 use Rattle.text.specs.Doc.{Name, docOf}
+use Rattle.text.proofs.Laws.{letters}
 use Rattle.text.proofs.Outcomes.{same-outcome}
 use Rattle.text.proofs.Spelling.Codes.{utf8-table}
 use Rattle.text.proofs.NewNames.{spelled-name}
@@ -47,7 +49,7 @@ use Rattle.contact.proofs.Demands.Sheet.{OnLine, on-line, text-line, ca
 use Rattle.contact.proofs.Demands.Rows.{value-seen}
 use Rattle.contact.proofs.Demands.Reading.{read-documents, card-passed, read-passes, read-rows, read-describes, read-words, read-long, read-fault, read-short, judge-unread, judge-passes, judge-rows, judge-offends}
 use Rattle.contact.proofs.Demands.AnyOrder.{reordered-only, order-card, order-number}
-use Rattle.contact.proofs.Demands.Localizing.{of-doc, card-written, localize-own, localize-patched, localize-accepted, localize-would, localize-refused, refused-answer, localize-room, localize-inner}
+use Rattle.contact.proofs.Demands.Localizing.{of-doc, card-written, localize-own, localize-patched, localize-accepted, localize-would, localize-refused, refused-answer, localize-again, localize-room, localize-inner}
 
 -- ---- demand 1
 
@@ -130,6 +132,7 @@ module _ (L : Limits) (unique : L .unique ≡ true) where
       card-rows = λ t words. judge-rows L words t;
       offends = λ t words. judge-offends L words t;
       seen = value-seen;
+      letters = letters;
       signed = as-signed;
     };
     localizing = record {
@@ -151,9 +154,11 @@ module _ (L : Limits) (unique : L .unique ≡ true) where
       language = patch-iff;
       keys = λ key. key-iff key;
       asking = λ ms es fs x y. one-asking x y;
+      byte-order = before-earlier;
       new-names = spelled-name;
       would-be = λ t lang words room f c. localize-would L unique words room t lang f (card-passed L words t f c);
       room-enough = λ t lang words room. localize-room L unique words room t lang;
+      judged-again = λ t lang words room f c. localize-again L unique words room t lang f (card-passed L words t f c);
       inner = λ t lang words room. localize-inner L unique words room t lang;
     };
   }

@@ -6,6 +6,7 @@
 -- demands hold of any services that keep the contracts (crate bezinkol, specs/Called.antt).
 -- Assumes nothing: these are definitions.
 use Prim.Native.Nat.{ℕ, _+_, _*_, _≤_, _<_}
+use Prim.Native.String.{String}
 use mathlib.Core.Path.{_≡_}
 use mathlib.Core.Bool.{true}
 use mathlib.Core.Logic.{_⊎_, _↔_}
@@ -13,8 +14,10 @@ use mathlib.Core.List.{List, [], _++_}
 use mathlib.Core.Option.{some}
 use lib.ListN.{length, replicate}
 use Rattle.laws.specs.Lists.{filled}
+use Rattle.laws.specs.Order.{before, Earlier}
 use Rattle.laws.specs.Sorting.{Perm}
 use Rattle.text.specs.Limits.{Limits, rowWords}
+use Rattle.text.specs.Text.{bytes, Codes}
 use Rattle.text.specs.Tree.{Forest, size, treeRows}
 use Rattle.text.specs.Seats.{Head, leafHead, Seat, top, Sits}
 use Rattle.text.specs.Standing.{RowAt}
@@ -168,6 +171,8 @@ pub record ReadingAndJudging (L : Limits) (serve : Call → Left) : Type 0 where
       → (serve (judge t words) .answer ≡ numbers n p 0) ↔ Offends L words t n p
   -- what the rules see of a value: its kind, its token and its members are what they are called
   pub seen : (v : Doc) → Sees v (kindOf v) (tokenOf v) (below v)
+  -- a quoted text, as the fixed spellings are, stands for the codes of its characters
+  pub letters : (s : String) → Codes s (bytes s)
   -- what types and properties the rules are about: the table is what the signatures of RFC 9553 say
   pub signed : AsSigned
 
@@ -251,6 +256,8 @@ pub record Localizing (L : Limits) (serve : Call → Left) : Type 0 where
   pub keys : (key : Name) (p : Pointer) → PointerText key p ↔ ((¬ LooseTilde key) × (p ≡ pointerOf key))
   -- so a PatchObject asks for one list of entries: those that a patched card (`Patched`) is about
   pub asking : (ms : Members) (es fs : List Entry) → Asked ms es → Asked ms fs → es ≡ fs
+  -- added members stand in the order of the bytes of their names, a name before those that it begins
+  pub byte-order : (n m : Name) → (before n m ≡ true) ↔ Earlier n m
   -- the name of an added member is escaped only where RFC 8259 demands it, by the short escape if there is one, else by \u00 and two small digits
   pub new-names : (n label : List ℕ) → SpelledName n label ↔ (label ≡ spelled n)
   -- 27 and 28, which come up if none of 21 to 26 is broken, speak of the patched card
@@ -259,7 +266,11 @@ pub record Localizing (L : Limits) (serve : Call → Left) : Type 0 where
   -- an output as long as the card's text always has room
   pub room-enough : (t : List ℕ) (lang : Name) (words room needed : ℕ) → serve (localize t lang words room) .answer ≡ numbers 27 needed 0
       → (room < needed) × (needed ≤ length t)
-  -- the refusal inside 28 can be 5 or 11 to 14
+  -- 28 has the number by which judging refuses the text that would be written
+  pub judged-again : (t : List ℕ) (lang : Name) (words room : ℕ) (f : Forest) → CardText L words t f → (ms : Members) → PatchOf (docOf t f) lang ms
+      → (number : ℕ) → serve (localize t lang words room) .answer ≡ numbers 28 number 0
+      → serve (judge (written (patchedDoc (docOf t f) ms)) words) .answer .number ≡ number
+  -- and that can be 5 or 11 to 14
   pub inner : (t : List ℕ) (lang : Name) (words room number : ℕ) → serve (localize t lang words room) .answer ≡ numbers 28 number 0
       → (number ≡ 5) ⊎ Within 11 14 number
 

@@ -1,6 +1,6 @@
 -- The types of a card and the one table of their known properties (RFC 9553, sections 1 and 2, as 01 lists them).
--- A new property is a line here and its signature in Signatures.antt; a new object type is a constructor, its lines, its name and signatures, and its
--- rules between members in Rules.antt.
+-- A new property is a line here and its signature in Signatures.antt; a new object type is a constructor, its lines, its name and signatures
+-- there (also in `typeWords`), and its rules between members in Rules.antt and BetweenMembers.antt.
 -- Assumes nothing: these are definitions.
 use Prim.Native.Nat.{ℕ}
 use Prim.Native.String.{String}

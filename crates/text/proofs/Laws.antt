@@ -1,15 +1,20 @@
 -- Laws for callers:
+--     letters          the bytes of a quoted text are the codes of its characters
 --     end-inside       a string that ends does so inside the text, after the place where the reading began
 --     value-parts      a value is, by its kind, the array, the object or the scalar that stands at its place
 --     two, three, four          the UTF-8 of a raw character's code point is its own bytes
 -- Assumes nothing.
 use mathlib.Core.Path.{_≡_, refl, sym, ap, ap₂, _∙_}
 use mathlib.Core.List.{List, [], _∷_}
+use Prim.Native.String.{String}
+use Prim.Native.String as S
 use Prim.Native.Nat.{ℕ, zero, suc, _+_, _-_, _*_, _/_, _%_, _≤_, _<_}
 use native.Mathlib.Omega.{arith}
 use lib.ListN.{length}
 use borrow.Author.Tests.{lt-ltb, le-ltb}
 use Rattle.text.specs.Limits.{Limits}
+use Rattle.text.specs.Text.{bytes, Codes}
+use Rattle.text.specs.Text as T
 use Rattle.text.specs.Chars.{seq2, seq3, seq4, stepAt}
 use Rattle.text.specs.Strings.{stringEnd, conts, utf8}
 use Rattle.text.specs.Reader.{valueWith, valueAt, elementsAt, membersAt, arrayAt, objectAt}
@@ -18,6 +23,12 @@ use Rattle.text.specs.declared.Step.the-variants.{Close, Char, Bad2, Bad
 use Rattle.text.specs.declared.Token.the-variants.{End, No2, No3}
 use Rattle.text.proofs.Sequences.{by-seq2, by-seq3, by-seq4}
 use Rattle.text.proofs.Walks.{end-at, close-inside, char-inside}
+
+-- ---- quoted texts ----
+
+pub letters : (s : String) → Codes s (bytes s)
+letters S.[] = T.none
+letters (S._∷_ c s) = T.more (letters s)
 
 -- ---- where a string ends ----
 

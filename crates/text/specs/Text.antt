@@ -1,6 +1,6 @@
 -- Texts as lists of bytes: what stands at a place, and quoted texts. Assumes nothing: these are definitions.
 use Prim.Native.Nat.{ℕ}
-use Prim.Native.Char.{code}
+use Prim.Native.Char.{Char, code}
 use Prim.Native.String.{String}
 use Prim.Native.String as S
 use mathlib.Core.List.{List, [], _∷_}
@@ -14,3 +14,8 @@ byteAt t i = getD t i 256
 abbrev pub bytes : String → List ℕ
 bytes S.[] = []
 bytes (S._∷_ c s) = code c ∷ bytes s
+
+-- the same by rules: a quoted text and the codes of its characters, one after the other
+pub data Codes : String → List ℕ → Type 0 where
+  none : Codes S.[] []
+  more : {c : Char} {s : String} {bs : List ℕ} → Codes s bs → Codes (S._∷_ c s) (code c ∷ bs)

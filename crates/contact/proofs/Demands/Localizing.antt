@@ -20,8 +20,8 @@ use Rattle.text.proofs.Readback.Documents.{text-shorter}
 use Rattle.text.proofs.Grammar.Accepted.{accepts}
 use Rattle.contact.specs.Verdict.{Judged, passed, failed, judgedOf, sheetOfJudged, paperOfVerdict}
 use Rattle.contact.specs.Patch.{Entry, run}
-use Rattle.contact.specs.Localize.{refusedLocal, Outcome, done, denied, start, patchAt, localizedDoc, localizedOf, sheetOfOutcome, tableOfOutcome, outputOfOutcome, answerOfOutcome, paperOfLocalized}
-use Rattle.contact.specs.Conditions.{PatchOf, SecondNumber, BrokenCondition, Applicable, Smallest, Accepted}
+use Rattle.contact.specs.Localize.{refusedLocal, Outcome, done, denied, start, patchAt, patchedDoc, localizedDoc, localizedOf, sheetOfOutcome, tableOfOutcome, outputOfOutcome, answerOfOutcome, paperOfLocalized}
+use Rattle.contact.specs.Conditions.{PatchOf, SecondNumber, inside, BrokenCondition, unfit, Applicable, Smallest, Accepted}
 use Rattle.contact.specs.Likeness.{Reordered}
 use Rattle.contact.specs.Patching.{Patched, PatchedCard}
 use Rattle.contact.specs.Readback.{PatchedRows}
@@ -34,7 +34,7 @@ use Rattle.contact.specs.declared.Localized.the-variants.{Written, Denie
 use Rattle.contact.proofs.Judging.{judging}
 use Rattle.contact.proofs.Patching.Public.{passed-so, failed-so}
 use Rattle.contact.proofs.Patching.Distinct.{distinct-start, find-distinct}
-use Rattle.contact.proofs.Patching.Refused.{broken-number, broken-second}
+use Rattle.contact.proofs.Patching.Refused.{one-patch, broken-number, broken-second}
 use Rattle.contact.proofs.Patching.Together.{patching}
 use Rattle.contact.proofs.Patching.Readback.{readback}
 use Rattle.contact.proofs.Demands.Reading.{card-text}
@@ -171,6 +171,16 @@ module _ (L : Limits) (unique : L .unique ≡ true) (words room : ℕ) (t : List
         back n s =
             let number : refusedLocal r .number ≡ n = broken-number L words room (docOf t f) lang (s .broken) in
             ap answerOfOutcome (patching L words room .refused (docOf t f) lang r .1 (rw (sym number) at s))
+
+    -- 28 and judging
+    pub localize-again : (ms : Members) → PatchOf (docOf t f) lang ms → (number : ℕ) → served L (localize t lang words room) .answer ≡ numbers 28 number 0
+        → served L (judge (written (patchedDoc (docOf t f) ms)) words) .answer .number ≡ number
+    unfolding served sheetOfJudged paperOfVerdict
+    localize-again ms patch number e = let (r, x, s) = localize-refused 28 number (omega arith) .0 e in go r number (s .broken) x
+      where
+        go : (r : LocalRefusal) (m : ℕ) → BrokenCondition L words room (docOf t f) lang 28 r → SecondNumber r m
+            → sheetOfJudged (judgedOf L words (written (patchedDoc (docOf t f) ms))) .number ≡ m
+        go r m (unfit {ms = ns} p k) inside = rw (one-patch (docOf t f) lang ms ns patch p, k) refl
 
   -- 27 and 28
   localize-late : (n second : ℕ) → 27 ≤ n → served L (localize t lang words room) .answer ≡ numbers n second 0

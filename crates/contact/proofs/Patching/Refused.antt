@@ -29,7 +29,7 @@ use Rattle.contact.proofs.Patching.Start.{start-left, start-only}
 use Rattle.contact.proofs.Patching.Found.{bad-key-found, bad-key-finds, own-found, own-finds, array-found, array-finds, lost-found, lost-finds, clash-found, clash-finds}
 
 -- a language has one PatchObject
-one-patch : (card : Doc) (lang : Name) (ms ns : Members) → PatchOf card lang ms → PatchOf card lang ns → ms ≡ ns
+pub one-patch : (card : Doc) (lang : Name) (ms ns : Members) → PatchOf card lang ms → PatchOf card lang ns → ms ≡ ns
 one-patch card lang ms ns p q =
     let e : object ms ≡ object ns =
     ap (λ (s : Property). s .content) (Option·some-injective (property (p .label) (object ms)) (property (q .label) (object ns)) (sym (p .stands) ∙ q .stands)) in
