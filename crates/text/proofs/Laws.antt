@@ -11,7 +11,8 @@ use lib.ListN.{length}
 use borrow.Author.Tests.{lt-ltb, le-ltb}
 use Rattle.text.specs.Limits.{Limits}
 use Rattle.text.specs.Chars.{seq2, seq3, seq4, stepAt}
-use Rattle.text.specs.Strings.{stringEnd, conts, utf8}
+use Rattle.text.specs.Strings.{stringEnd}
+use Rattle.text.specs.Utf8.{conts, utf8}
 use Rattle.text.specs.Reader.{valueWith, valueAt, elementsAt, membersAt, arrayAt, objectAt}
 use Rattle.text.specs.declared.Step.{Step}
 use Rattle.text.specs.declared.Step.the-variants.{Close, Char, Bad2, Bad3}

@@ -14,7 +14,7 @@ use native.Mathlib.Omega.{arith}
 use lib.ListN.{length, length-append}
 use borrow.Author.Tests.{ne-eqb, le-ltb, lt-ltb}
 use Rattle.laws.proofs.Branches.{if-less, if-equal}
-use Rattle.text.specs.Strings.{utf8}
+use Rattle.text.specs.Utf8.{utf8}
 use Rattle.text.specs.Spelling.{Good, Bare, HexDigit, decimal, small, FourDigits, four, Short, quote, backslash, slash, backspace, form-feed, line-feed, carriage-return, tab, Spell, raw, short, unit, pair, Spells, none, more, utf8s}
 use Rattle.text.specs.Writing.{smallHex, shortOf, spelledByte, spelledBytes, spelled, SmallDigit, figure, letter, SpelledAs, itself, escaped, digits, SpelledAll, SpelledName}
 use Rattle.text.specs.Writing as W

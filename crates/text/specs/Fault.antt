@@ -12,13 +12,9 @@ use Rattle.text.specs.Text.{byteAt}
 use Rattle.text.specs.Spelling.{Spells}
 use Rattle.text.specs.Broken.{Ill}
 use Rattle.text.specs.Tree.{Forest}
-use Rattle.text.specs.Sheet.{numbers, refused}
-use Rattle.text.specs.Reader.{bad}
-use Rattle.text.specs.Whole.{readOf}
 use Rattle.text.specs.Placed.{Quoted}
 use Rattle.text.specs.Grammar.{JsonText, rootOf}
 use Rattle.text.specs.Seats.{Head, Seat, top, Sits, Named}
-use Rattle.text.specs.declared.Refusal.{Refusal}
 
 -- some text of the grammar begins with the first p bytes
 pub record Begins (t : List ℕ) (p : ℕ) : Type 0 where
@@ -79,9 +75,3 @@ pub record FirstFault (L : Limits) (t : List ℕ) (n p : ℕ) : Type 0 where
   pub fault : FaultAt L t n p
   pub no-earlier : (m q : ℕ) → FaultAt L t m q → q < p → ⊥
   pub no-smaller : (m : ℕ) → FaultAt L t m p → m < n → ⊥
-
--- reading refuses the text with these two numbers of the sheet
-pub record Refuses (L : Limits) (t : List ℕ) (n p : ℕ) : Type 0 where
-  pub refusal : Refusal
-  pub answer : readOf L t ≡ bad refusal
-  pub sheet : refused refusal ≡ numbers n p 0

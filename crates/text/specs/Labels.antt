@@ -2,7 +2,7 @@
 use Prim.Native.Nat.{ℕ}
 use mathlib.Core.Path.{_≡_}
 use mathlib.Core.List.{List, [], _∷_, _++_}
-use Rattle.text.specs.Doc.{Name, Doc, scalar, array, object, Members, empty, member}
+use Rattle.text.specs.Document.{Name, Doc, scalar, array, object, Members, empty, member}
 use Rattle.text.specs.Spelling.{Spells, utf8s}
 
 -- what is written says the name: between its quotes it spells code points whose UTF-8 is the name

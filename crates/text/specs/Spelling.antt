@@ -5,7 +5,7 @@ use Prim.Native.Nat.{ℕ, _+_, _*_, _%_, _≤_, _<_}
 use mathlib.Core.Path.{_≡_}
 use mathlib.Core.List.{List, [], _∷_, _++_}
 use mathlib.Core.Logic.{_⊎_}
-use Rattle.text.specs.Strings.{utf8}
+use Rattle.text.specs.Utf8.{utf8}
 
 -- a Unicode scalar value: at most U+10FFFF, and no surrogate
 pub record UnicodeScalar (c : ℕ) : Type 0 where
@@ -67,12 +67,3 @@ pub data Spells : List ℕ → List ℕ → Type 0 where
 unfoldable pub utf8s : List ℕ → List ℕ
 utf8s [] = []
 utf8s (c ∷ cs) = utf8 c ++ utf8s cs
-
--- UTF-8 by its table (RFC 3629, section 3): a code point and its bytes, each with the bits that it carries; no sequence is longer than it must be
-pub data Utf8 : (code : ℕ) → List ℕ → Type 0 where
-  one-byte : {c : ℕ} → c < 0x80 → Utf8 c (c ∷ [])
-  two-bytes : {x y : ℕ} → x < 0x20 → y < 0x40 → 0x80 ≤ x * 0x40 + y → Utf8 (x * 0x40 + y) ((0xC0 + x) ∷ (0x80 + y) ∷ [])
-  three-bytes : {x y z : ℕ} → x < 0x10 → y < 0x40 → z < 0x40 → 0x800 ≤ x * 0x1000 + y * 0x40 + z
-      → Utf8 (x * 0x1000 + y * 0x40 + z) ((0xE0 + x) ∷ (0x80 + y) ∷ (0x80 + z) ∷ [])
-  four-bytes : {x y z w : ℕ} → x < 0x8 → y < 0x40 → z < 0x40 → w < 0x40 → 0x10000 ≤ x * 0x40000 + y * 0x1000 + z * 0x40 + w
-      → Utf8 (x * 0x40000 + y * 0x1000 + z * 0x40 + w) ((0xF0 + x) ∷ (0x80 + y) ∷ (0x80 + z) ∷ (0x80 + w) ∷ [])

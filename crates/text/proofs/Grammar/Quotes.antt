@@ -14,7 +14,8 @@ use Rattle.laws.proofs.Branches.{if-equal}
 use Rattle.laws.proofs.Places.{inside}
 use Rattle.laws.proofs.Splits.{first-there, beyond, within, there-part, length-part}
 use Rattle.text.specs.Text.{byteAt}
-use Rattle.text.specs.Strings.{utf8, stringEnd}
+use Rattle.text.specs.Strings.{stringEnd}
+use Rattle.text.specs.Utf8.{utf8}
 use Rattle.text.specs.Spelling.{Bare, HexDigit, Short, FourDigits, four, Spell, raw, short, unit, pair, Spells}
 use Rattle.text.specs.Broken.{HexDigits, Cut, control, ended, letter, digit, Aims, high, escape}
 use Rattle.text.specs.Abnf.{Star}

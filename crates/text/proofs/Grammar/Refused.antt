@@ -16,11 +16,11 @@ use Rattle.text.specs.Tree.{Forest}
 use Rattle.text.specs.declared.Paper.{Paper}
 use Rattle.text.specs.Sheet.{numbers, refused}
 use Rattle.text.specs.Reader.{Read, good, bad}
-use Rattle.text.specs.Whole.{endOf, readOf}
+use Rattle.text.specs.Whole.{endOf, readOf, Refuses}
 use Rattle.text.specs.Grammar.{value}
 use Rattle.text.specs.Seats.{Seat, top}
 use Rattle.text.specs.Meaning.{Accepts}
-use Rattle.text.specs.Fault.{Begins, TreeBreaks, Violated, FaultAt, grammar, violated, InEach, FirstFault, Refuses}
+use Rattle.text.specs.Fault.{Begins, TreeBreaks, Violated, FaultAt, grammar, violated, InEach, FirstFault}
 use Rattle.text.specs.declared.Refusal.{Refusal}
 use Rattle.text.specs.declared.Refusal.the-variants.{TooLong, Grammar, Character, Repeated, Deep, Many, Small}
 use Rattle.text.proofs.Induction.{read-accepted}
