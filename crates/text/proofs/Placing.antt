@@ -17,14 +17,14 @@ use Rattle.text.specs.Tokens.{skip, kindBy, tokenAt}
 use Rattle.text.specs.Tree.{Bracket, square, curly, bracketKind, Forest, none, leaf, node, join}
 use Rattle.text.specs.Grammar.{closing}
 use Rattle.text.specs.Firsts.{HasFirst, kindAt, nameStart, nameEnd, startAt, endAt, insideAt, restAt, ScalarKind, Kinds}
-use Rattle.text.specs.Placed.{Quoted, Unnamed, NameIn, Numeral, TokenIn, null, falsity, truth, number, string, Spot, Placed, nothing, token, box}
+use Rattle.text.specs.Placed.{Quoted, Unnamed, NameIn, TokenIn, null, falsity, truth, number, string, Spot, Placed, nothing, token, box}
 use Rattle.text.specs.Reader.{good, valueAt}
 use Rattle.text.specs.Whole.{readOf}
 use Rattle.text.specs.declared.Token.the-variants.{End}
 use Rattle.text.proofs.Laws.{end-inside}
 use Rattle.text.proofs.Induction.{Rules, value-induction, read-accepted}
 use Rattle.text.proofs.TokenEnds.{skip-span}
-use Rattle.text.proofs.TokenBytes.{kind-inside, string-quoted, token-ends, token-in}
+use Rattle.text.proofs.TokenBytes.{kind-first, kind-inside, string-quoted, token-ends, token-in}
 
 -- ---- more room, and one after the other ----
 
@@ -80,13 +80,6 @@ string-of e (truth k) = absurd (omega arith)
 string-of e (number n) = absurd (omega arith)
 string-of e (string q) = q
 
-number-of : {t : List ℕ} {kind from to : ℕ} → kind ≡ 4 → TokenIn t kind from to → Numeral t from to
-number-of e (null k) = absurd (omega arith)
-number-of e (falsity k) = absurd (omega arith)
-number-of e (truth k) = absurd (omega arith)
-number-of e (number n) = n
-number-of e (string q) = absurd (omega arith)
-
 -- from a place to another lies something that is not empty
 pub record Within (from to start end : ℕ) : Type 0 where
   pub low : from ≤ start
@@ -130,7 +123,7 @@ module _ (L : Limits) (t : List ℕ) where
         some = omega (arith, span .later);
         inside = span .inside;
         placed = λ b from name le.
-            let spot : Spot t b from kind ns ne at to = record { name = name; start = le; some = omega (arith, span .later); inside = span .inside; begins = k } in
+            let spot : Spot t b from kind ns ne at to = record { name = name; start = le; some = omega (arith, span .later); inside = span .inside; begins = kind-first (byteAt t at) kind (s .least) k } in
             token spot (token-in t kind at to s k e) (nothing here);
       }
 
@@ -146,7 +139,7 @@ module _ (L : Limits) (t : List ℕ) where
         some = omega (arith, r .after);
         inside = omega arith;
         placed = λ c from name le.
-            let spot : Spot t c from (bracketKind b) ns ne edge (at + 1) = record { name = name; start = le; some = omega (arith, r .after); inside = omega arith; begins = k } in
+            let spot : Spot t c from (bracketKind b) ns ne edge (at + 1) = record { name = name; start = le; some = omega (arith, r .after); inside = omega arith; begins = kind-first (byteAt t edge) (bracketKind b) (bracket-kind b) k } in
             box spot last within (nothing here);
       }
 
@@ -268,12 +261,9 @@ module _ {t : List ℕ} {b : Bracket} {from to : ℕ} where
   pub bounds : {f : Forest} → Placed t b f from to → HasFirst f → Within from to (startAt f) (endAt f)
   bounds p s = omega (arith, spot p s .start, spot p s .some, in-order (rest-at p s))
 
-  -- a string's inside, and a number
+  -- a string's inside
   pub string-at : {f : Forest} → Placed t b f from to → HasFirst f → kindAt f ≡ 5 → Quoted t (startAt f + 1) (endAt f - 1)
   string-at {f} p s e = string-of e (token-at p s (omega arith))
-
-  pub number-at : {f : Forest} → Placed t b f from to → HasFirst f → kindAt f ≡ 4 → Numeral t (startAt f) (endAt f)
-  number-at {f} p s e = number-of e (token-at p s (omega arith))
 
 -- the name of a member
 pub name-at : {t : List ℕ} {f : Forest} {from to : ℕ} → Placed t curly f from to → HasFirst f → Quoted t (nameStart f) (nameEnd f)

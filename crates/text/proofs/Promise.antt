@@ -24,7 +24,7 @@
 --     elements-at, members-at          what is inside an array or an object stands strictly within it
 --     rest-at               what follows it is placed too
 --     name-at, no-name-at   a member's name stands in quotes, before its value, and spells; elements and the root have the name 0, 0
---     token-at, string-at, number-at   the bytes of a value by its kind; a string's inside spells
+--     token-at, string-at   the bytes of a value by its kind; a string's inside spells
 --     placed-kinds          values that hold no others have kinds 1 to 5
 --
 -- The document of a text and its tree (specs/Doc.antt):
@@ -100,7 +100,6 @@ pub use Rattle.text.proofs.Placing.{
   next-after,
   token-at,
   string-at,
-  number-at,
   elements-at,
   members-at,
   rest-at,
