@@ -14,15 +14,15 @@ pub data HexDigits : List ℕ → Type 0 where
 -- the beginning of a character and the byte after it, 256 at the end of the text, with which RFC 8259's grammar doesn't go on: a control or the
 -- end where a character must stand, no letter of an escape, no hexadecimal digit where one of four must stand
 pub data Cut : (begun : List ℕ) (next : ℕ) → Type 0 where
-  control : {b : ℕ} → b < 32 → Cut [] b
+  control : {b : ℕ} → b < 0x20 → Cut [] b
   ended : {b : ℕ} → 256 ≤ b → Cut [] b
-  letter : {b : ℕ} → (b ≡ 117 → ⊥) → ((c : ℕ) → Short b c → ⊥) → Cut (92 ∷ []) b
-  digit : {w : List ℕ} {b : ℕ} → HexDigits w → length w < 4 → ((v : ℕ) → HexDigit b v → ⊥) → Cut (92 ∷ 117 ∷ w) b
+  letter : {b : ℕ} → (b ≡ 0x75 → ⊥) → ((c : ℕ) → Short b c → ⊥) → Cut (0x5C ∷ []) b
+  digit : {w : List ℕ} {b : ℕ} → HexDigits w → length w < 4 → ((v : ℕ) → HexDigit b v → ⊥) → Cut (0x5C ∷ 0x75 ∷ w) b
 
 -- bytes that begin as only a character does: with a byte of 128 or more, or with a complete \u escape
 pub data Aims : List ℕ → Type 0 where
-  high : {b : ℕ} {r : List ℕ} → 128 ≤ b → b < 256 → Aims (b ∷ r)
-  escape : {w : List ℕ} {u : ℕ} → FourDigits w u → (r : List ℕ) → Aims (92 ∷ 117 ∷ w ++ r)
+  high : {b : ℕ} {r : List ℕ} → 0x80 ≤ b → b < 0x100 → Aims (b ∷ r)
+  escape : {w : List ℕ} {u : ℕ} → FourDigits w u → (r : List ℕ) → Aims (0x5C ∷ 0x75 ∷ w ++ r)
 
 -- 01: bytes that begin so, and with no character: ill-formed UTF-8, a surrogate that stands alone, a noncharacter
 pub record Ill (bytes : List ℕ) : Type 0 where

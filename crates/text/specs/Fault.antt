@@ -36,7 +36,7 @@ pub data StringAt (h : Head) : (j : ℕ) → Type 0 where
 -- the value h, which stands at the seat d, breaks one of the rules 3 to 6 at a place
 pub data ValueBreaks (L : Limits) (t : List ℕ) (d : Seat) (h : Head) : (number place : ℕ) → Type 0 where
   -- in a string that opens at j, behind characters that are spelled: bytes that aim at a character and spell none
-  character : {j p : ℕ} {codes : List ℕ} → StringAt h j → byteAt t j ≡ 34 → j < p → Spells (partOf t (j + 1) p) codes → Ill (drop p t)
+  character : {j p : ℕ} {codes : List ℕ} → StringAt h j → byteAt t j ≡ 0x22 → j < p → Spells (partOf t (j + 1) p) codes → Ill (drop p t)
       → ValueBreaks L t d h 3 p
   -- a name, closed, that spells what the name of a member before it in its object spells; it counts whatever follows it. The other name spells too:
   -- one that does not breaks 3 at a smaller place, which comes first

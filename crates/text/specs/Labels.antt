@@ -9,7 +9,7 @@ use Rattle.text.specs.Spelling.{Spells, utf8s}
 pub record Labelled (name : Name) (label : List ℕ) : Type 0 where
   pub inside : List ℕ
   pub codes : List ℕ
-  pub quoted : label ≡ 34 ∷ inside ++ (34 ∷ [])
+  pub quoted : label ≡ 0x22 ∷ inside ++ (0x22 ∷ [])
   pub spells : Spells inside codes
   pub says : name ≡ utf8s codes
 
