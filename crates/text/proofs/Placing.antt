@@ -81,7 +81,7 @@ string-of e (number n) = absurd (omega arith)
 string-of e (string q) = q
 
 -- from a place to another lies something that is not empty
-pub record Within (from to start end : ℕ) : Type 0 where
+pub record LiesIn (from to start end : ℕ) : Type 0 where
   pub low : from ≤ start
   pub some : start < end
   pub high : end ≤ to
@@ -100,7 +100,7 @@ record Seated (t : List ℕ) (ns ne at : ℕ) (f : Forest) (to : ℕ) : Type 0 w
   placed : (b : Bracket) (from : ℕ) → NameIn t b from ns ne at → from ≤ at → Placed t b f from to
 
 -- items after a bracket up to a place
-record Row (t : List ℕ) (b : Bracket) (edge at : ℕ) (f : Forest) : Type 0 where
+record ItemsUpTo (t : List ℕ) (b : Bracket) (edge at : ℕ) (f : Forest) : Type 0 where
   after : edge < at
   within : at ≤ length t
   placed : Placed t b f (edge + 1) at
@@ -127,7 +127,7 @@ module _ (L : Limits) (t : List ℕ) where
             token spot (token-in t kind at to s k e) (nothing here);
       }
 
-  box-seated : (b : Bracket) (ns ne edge at : ℕ) (f : Forest) → kindBy (byteAt t edge) ≡ bracketKind b → Row t b edge at f → byteAt t at ≡ closing b
+  box-seated : (b : Bracket) (ns ne edge at : ℕ) (f : Forest) → kindBy (byteAt t edge) ≡ bracketKind b → ItemsUpTo t b edge at f → byteAt t at ≡ closing b
       → Seated t ns ne edge (node b ns ne edge (at + 1) f none) (at + 1)
   box-seated b ns ne edge at f k r e =
       let l = closing-byte t b at e in
@@ -143,21 +143,21 @@ module _ (L : Limits) (t : List ℕ) where
             box spot last within (nothing here);
       }
 
-  row-start : (b : Bracket) (edge : ℕ) → kindBy (byteAt t edge) ≡ bracketKind b → Row t b edge (skip t (edge + 1)) none
+  row-start : (b : Bracket) (edge : ℕ) → kindBy (byteAt t edge) ≡ bracketKind b → ItemsUpTo t b edge (skip t (edge + 1)) none
   row-start b edge k =
       let l = kind-inside t edge (bracketKind b) (bracket-kind b) k in
       let span = skip-span t (edge + 1) (omega arith) in
       record { after = omega (arith, span .later); within = span .inside; placed = nothing (span .later) }
 
-  row-comma : (b : Bracket) (edge at : ℕ) (f : Forest) → Row t b edge at f → byteAt t at ≡ 44 → Row t b edge (skip t (at + 1)) f
+  row-comma : (b : Bracket) (edge at : ℕ) (f : Forest) → ItemsUpTo t b edge at f → byteAt t at ≡ 44 → ItemsUpTo t b edge (skip t (at + 1)) f
   row-comma b edge at f r e =
       let l = inside t at (omega arith) in
       let span = skip-span t (at + 1) (omega arith) in
       let far : at ≤ skip t (at + 1) = omega (arith, span .later) in
       record { after = omega (arith, r .after); within = span .inside; placed = widen far (r .placed) }
 
-  row-item : (b : Bracket) (edge at vat ns ne to : ℕ) (done f : Forest) → Row t b edge at done → NameIn t b at ns ne vat → at ≤ vat → Seated t ns ne vat f to
-      → Row t b edge (skip t to) (join done f)
+  row-item : (b : Bracket) (edge at vat ns ne to : ℕ) (done f : Forest) → ItemsUpTo t b edge at done → NameIn t b at ns ne vat → at ≤ vat → Seated t ns ne vat f to
+      → ItemsUpTo t b edge (skip t to) (join done f)
   row-item b edge at vat ns ne to done f r name le v =
       let span = skip-span t to (v .inside) in
       record {
@@ -166,8 +166,8 @@ module _ (L : Limits) (t : List ℕ) where
         placed = widen (span .later) (placed-join (r .placed) (v .placed b at name le));
       }
 
-  row-member : (edge at end to : ℕ) (done f : Forest) → Row t curly edge at done → byteAt t at ≡ 34 → stringEnd t (at + 1) ≡ End end
-      → byteAt t (skip t end) ≡ 58 → Seated t (at + 1) (end - 1) (skip t (skip t end + 1)) f to → Row t curly edge (skip t to) (join done f)
+  row-member : (edge at end to : ℕ) (done f : Forest) → ItemsUpTo t curly edge at done → byteAt t at ≡ 34 → stringEnd t (at + 1) ≡ End end
+      → byteAt t (skip t end) ≡ 58 → Seated t (at + 1) (end - 1) (skip t (skip t end + 1)) f to → ItemsUpTo t curly edge (skip t to) (join done f)
   row-member edge at end to done f r q e c v =
       let ends = end-inside t (at + 1) end e in
       let span = skip-span t end (ends .within) in
@@ -179,7 +179,7 @@ module _ (L : Limits) (t : List ℕ) where
       (omega (arith, ends .after))
       v
 
-  placed-rules : Rules L t (λ depth ns ne at f to. Seated t ns ne at f to) (λ b depth edge at f. Row t b edge at f)
+  placed-rules : Rules L t (λ depth ns ne at f to. Seated t ns ne at f to) (λ b depth edge at f. ItemsUpTo t b edge at f)
   placed-rules =
       record {
         token = λ depth ns ne at kind to s k e. token-seated ns ne at kind to s k e;
@@ -258,7 +258,7 @@ module _ {t : List ℕ} {b : Bracket} {from to : ℕ} where
   rest-at (box p c within rest) s = rest
 
   -- it lies between the two places
-  pub bounds : {f : Forest} → Placed t b f from to → HasFirst f → Within from to (startAt f) (endAt f)
+  pub bounds : {f : Forest} → Placed t b f from to → HasFirst f → LiesIn from to (startAt f) (endAt f)
   bounds p s = omega (arith, spot p s .start, spot p s .some, in-order (rest-at p s))
 
   -- a string's inside

@@ -94,7 +94,7 @@ pub use Rattle.text.proofs.Placing.{
   in-order,
   token-kind,
   placed-kinds,
-  Within,
+  LiesIn,
   spot,
   bounds,
   next-after,
@@ -165,7 +165,7 @@ whole-good L words t f to e = go (readOf L t) refl e
 -- an answer and a table that meet reading's contract
 module _ (L : Limits) (words : ℕ) (t table : List ℕ) where
   -- accepted: the tree, and what is promised of it
-  pub record Tabled (n : ℕ) : Type 0 where
+  pub record AcceptedWhole (n : ℕ) : Type 0 where
     pub tree : Forest
     pub end : ℕ
     pub whole : wholeOf L words t ≡ good tree end
@@ -173,7 +173,7 @@ module _ (L : Limits) (words : ℕ) (t table : List ℕ) where
     pub room : rowWords * n ≤ words
     pub filled-by : Filled L t table n tree
 
-  tabled : (f : Forest) (to : ℕ) → table ≡ tableOf words (wholeOf L words t) → wholeOf L words t ≡ good f to → Tabled (size f)
+  tabled : (f : Forest) (to : ℕ) → table ≡ tableOf words (wholeOf L words t) → wholeOf L words t ≡ good f to → AcceptedWhole (size f)
   tabled f to is w =
       let fits = whole-good L words t f to w in
       record {
@@ -185,10 +185,10 @@ module _ (L : Limits) (words : ℕ) (t table : List ℕ) where
         filled-by = record { promised = promised L t f to (fits .read); stands = table-stands words f to (is ∙ ap (tableOf words) w) };
       }
 
-  pub rows-tree : (n : ℕ) → Reads L words t (Rows n) table → Tabled n
+  pub rows-tree : (n : ℕ) → Reads L words t (Rows n) table → AcceptedWhole n
   rows-tree n h = go (wholeOf L words t) refl (answer-is (Rows n) (wholeOf L words t) (h .answered))
     where
-      go : (r : Read) → wholeOf L words t ≡ r → Rows n ≡ answerOf (wholeOf L words t) → Tabled n
+      go : (r : Read) → wholeOf L words t ≡ r → Rows n ≡ answerOf (wholeOf L words t) → AcceptedWhole n
       go (good f to) w q =
           let answer : Rows n ≡ Rows (size f) = q ∙ ap answerOf w in
           let same : n ≡ size f = cc in
@@ -199,15 +199,15 @@ module _ (L : Limits) (words : ℕ) (t table : List ℕ) where
           absurd (omega arith)
 
   -- refused: the definition refuses so, and the table is zero
-  pub record Refuses (r : Refusal) : Type 0 where
+  pub record RefusedWhole (r : Refusal) : Type 0 where
     pub whole : wholeOf L words t ≡ bad r
     pub cleared : table ≡ filled words []
 
-  pub refusal-is : (r : Refusal) → Reads L words t (Refused r) table → Refuses r
+  pub refusal-is : (r : Refusal) → Reads L words t (Refused r) table → RefusedWhole r
   unfolding tableOf
   refusal-is r h = go (wholeOf L words t) refl (answer-is (Refused r) (wholeOf L words t) (h .answered))
     where
-      go : (R : Read) → wholeOf L words t ≡ R → Refused r ≡ answerOf (wholeOf L words t) → Refuses r
+      go : (R : Read) → wholeOf L words t ≡ R → Refused r ≡ answerOf (wholeOf L words t) → RefusedWhole r
       go (good f to) w q =
           let answer : Refused r ≡ Rows (size f) = q ∙ ap answerOf w in
           let z : _≡_ {A = ℕ} 0 1 = cc in

@@ -26,8 +26,8 @@ use Rattle.text.specs.Placed.{Quoted, FirstByte, TokenIn, null, falsity,
 use Rattle.text.specs.declared.Token.the-variants.{End, No2}
 use Rattle.text.proofs.TokenEnds.{Span, token-span}
 use Rattle.text.proofs.Spelling.Ends.{ended-spells}
-use Rattle.text.proofs.Grammar.Stands.{Stands, stands-to, stands-inside}
-use Rattle.text.proofs.Grammar.Exact.{Standing}
+use Rattle.text.proofs.Grammar.Stands.{BytesStand, stands-to, stands-inside}
+use Rattle.text.proofs.Grammar.Exact.{HasWord}
 use Rattle.text.proofs.Grammar.Number.{digit-tells, number-exact}
 
 -- ---- the kind of a first byte ----
@@ -71,19 +71,19 @@ kind-inside t i k h e = elim (decLe (length t) i) [
 
 -- ---- literals ----
 
-pub record Word (t bs : List ℕ) (i to : ℕ) : Type 0 where
+pub record LiteralAt (t bs : List ℕ) (i to : ℕ) : Type 0 where
   pub end : to ≡ i + length bs
   pub is : partOf t i to ≡ bs
 
-pub word-bytes : (t bs : List ℕ) (i to : ℕ) → to ≤ length t → wordAt t bs i ≡ End to → Word t bs i to
+pub word-bytes : (t bs : List ℕ) (i to : ℕ) → to ≤ length t → wordAt t bs i ≡ End to → LiteralAt t bs i to
 unfolding wordAt
 word-bytes t [] i to k e =
     let same : i ≡ to = cc in
     record { end = omega arith; is = rw (← same) (part-none t i (omega arith)) }
 word-bytes t (b ∷ bs) i to k e = go (eqb (byteAt t i) b) refl e (word-bytes t bs (i + 1) to k)
   where
-    go : (x : Bool) → eqb (byteAt t i) b ≡ x → cond x (wordAt t bs (i + 1)) (No2 i) ≡ End to → (wordAt t bs (i + 1) ≡ End to → Word t bs (i + 1) to)
-        → Word t (b ∷ bs) i to
+    go : (x : Bool) → eqb (byteAt t i) b ≡ x → cond x (wordAt t bs (i + 1)) (No2 i) ≡ End to → (wordAt t bs (i + 1) ≡ End to → LiteralAt t bs (i + 1) to)
+        → LiteralAt t (b ∷ bs) i to
     go true q r more =
         let w = more r in
         let first = eqb-true (byteAt t i) b q in
@@ -93,14 +93,14 @@ word-bytes t (b ∷ bs) i to k e = go (eqb (byteAt t i) b) refl e (word-bytes t 
 -- ---- numbers ----
 
 -- bytes that stand from a place to another are the part between the two
-stands-part : {t : List ℕ} {at to : ℕ} {w : List ℕ} → Stands t at to w → at ≤ length t → partOf t at to ≡ w
-stands-part {t} {at} Stands.done l = part-none t at l
-stands-part {t} {at} {to} (Stands.next e i s) l =
+stands-part : {t : List ℕ} {at to : ℕ} {w : List ℕ} → BytesStand t at to w → at ≤ length t → partOf t at to ≡ w
+stands-part {t} {at} BytesStand.done l = part-none t at l
+stands-part {t} {at} {to} (BytesStand.next e i s) l =
     part-more t at to (omega (arith, stands-to s)) (stands-inside s (omega arith)) ∙ rw (e, stands-part s (omega arith))
 
 pub number-bytes : (t : List ℕ) (i to : ℕ) → i ≤ length t → numberAt t i ≡ End to → Number (partOf t i to)
 number-bytes t i to l e =
-    let s : Standing t Number i to = rw e at (number-exact t .told i l) in
+    let s : HasWord t Number i to = rw e at (number-exact t .told i l) in
     rw (stands-part (s .stands) l) (s .is)
 
 -- ---- strings ----
