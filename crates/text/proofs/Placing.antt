@@ -1,6 +1,6 @@
 -- The values of an accepted text stand in it as specs/Placed.antt says.
 --     placed-text                                       an accepted text
---     spot, token-at, elements-at, members-at, rest-at  what that says of the first of some values, of what is inside it and of what follows
+--     spot, no-name-at                                  what that says of the first of some values
 --     single-value                                      an accepted value is one value
 --     placed-kinds                                      the kinds of values that hold no others are 1 to 5
 -- Assumes nothing.
@@ -16,8 +16,8 @@ use Rattle.text.specs.Strings.{stringEnd}
 use Rattle.text.specs.Tokens.{skip, kindBy, tokenAt}
 use Rattle.text.specs.Tree.{Bracket, square, curly, bracketKind, Forest, none, leaf, node, join}
 use Rattle.text.specs.Grammar.{closing}
-use Rattle.text.specs.Firsts.{HasFirst, kindAt, nameStart, nameEnd, startAt, endAt, insideAt, restAt, ScalarKind, Kinds}
-use Rattle.text.specs.Placed.{Quoted, Unnamed, NameIn, TokenIn, null, falsity, truth, number, string, Spot, Placed, nothing, token, box}
+use Rattle.text.specs.Firsts.{HasFirst, kindAt, nameStart, nameEnd, startAt, endAt, restAt, ScalarKind, Kinds}
+use Rattle.text.specs.Placed.{Unnamed, NameIn, TokenIn, null, falsity, truth, number, string, Spot, Placed, nothing, token, box}
 use Rattle.text.specs.Reader.{good, valueAt}
 use Rattle.text.specs.Whole.{readOf}
 use Rattle.text.specs.declared.Token.the-variants.{End}
@@ -33,11 +33,6 @@ earlier-name t square early from ns ne at l n = n
 earlier-name t curly early from ns ne at l n = record { quoted = n .quoted; after = omega (arith, n .after); before = n .before }
 
 module _ {t : List ℕ} where
-  pub in-order : {b : Bracket} {f : Forest} {from to : ℕ} → Placed t b f from to → from ≤ to
-  in-order (nothing h) = h
-  in-order (token s k rest) = omega (arith, s .start, s .some, in-order rest)
-  in-order (box s c within rest) = omega (arith, s .start, s .some, in-order rest)
-
   pub widen : {b : Bracket} {f : Forest} {from to far : ℕ} → to ≤ far → Placed t b f from to → Placed t b f from far
   widen {b} {f} {from} {to} {far} l (nothing h) = let k : from ≤ far = omega arith in nothing k
   widen l (token s k rest) = token s k (widen l rest)
@@ -72,19 +67,6 @@ token-kind (falsity e) = omega arith
 token-kind (truth e) = omega arith
 token-kind (number n) = omega arith
 token-kind (string q) = omega arith
-
-string-of : {t : List ℕ} {kind from to : ℕ} → kind ≡ 5 → TokenIn t kind from to → Quoted t (from + 1) (to - 1)
-string-of e (null k) = absurd (omega arith)
-string-of e (falsity k) = absurd (omega arith)
-string-of e (truth k) = absurd (omega arith)
-string-of e (number n) = absurd (omega arith)
-string-of e (string q) = q
-
--- from a place to another lies something that is not empty
-pub record LiesIn (from to start end : ℕ) : Type 0 where
-  pub low : from ≤ start
-  pub some : start < end
-  pub high : end ≤ to
 
 pub placed-kinds : {t : List ℕ} {b : Bracket} {f : Forest} {from to : ℕ} → Placed t b f from to → Kinds f
 placed-kinds (nothing h) = tt
@@ -231,48 +213,6 @@ module _ {t : List ℕ} {b : Bracket} {from to : ℕ} where
   spot (token p k rest) s = p
   spot (box p c within rest) s = p
 
-  -- the bytes of a value that holds no others
-  pub token-at : {f : Forest} → Placed t b f from to → HasFirst f → kindAt f < 6 → TokenIn t (kindAt f) (startAt f) (endAt f)
-  token-at (nothing h) s l = absurd s
-  token-at (token p k rest) s l = k
-  token-at (box {c = square} p c within rest) s l = absurd (omega arith)
-  token-at (box {c = curly} p c within rest) s l = absurd (omega arith)
-
-  -- what is inside it stands strictly within it: elements in an array, members in an object
-  pub elements-at : {f : Forest} → Placed t b f from to → HasFirst f → kindAt f ≡ 6 → Placed t square (insideAt f) (startAt f + 1) (endAt f - 1)
-  elements-at (nothing h) s e = absurd s
-  elements-at (token p k rest) s e = absurd (omega (arith, token-kind k .most))
-  elements-at (box {c = square} p c within rest) s e = within
-  elements-at (box {c = curly} p c within rest) s e = absurd (omega arith)
-
-  pub members-at : {f : Forest} → Placed t b f from to → HasFirst f → kindAt f ≡ 7 → Placed t curly (insideAt f) (startAt f + 1) (endAt f - 1)
-  members-at (nothing h) s e = absurd s
-  members-at (token p k rest) s e = absurd (omega (arith, token-kind k .most))
-  members-at (box {c = square} p c within rest) s e = absurd (omega arith)
-  members-at (box {c = curly} p c within rest) s e = within
-
-  -- what follows it stands after its end
-  pub rest-at : {f : Forest} → Placed t b f from to → HasFirst f → Placed t b (restAt f) (endAt f) to
-  rest-at (nothing h) s = absurd s
-  rest-at (token p k rest) s = rest
-  rest-at (box p c within rest) s = rest
-
-  -- it lies between the two places
-  pub bounds : {f : Forest} → Placed t b f from to → HasFirst f → LiesIn from to (startAt f) (endAt f)
-  bounds p s = omega (arith, spot p s .start, spot p s .some, in-order (rest-at p s))
-
-  -- a string's inside
-  pub string-at : {f : Forest} → Placed t b f from to → HasFirst f → kindAt f ≡ 5 → Quoted t (startAt f + 1) (endAt f - 1)
-  string-at {f} p s e = string-of e (token-at p s (omega arith))
-
--- the name of a member
-pub name-at : {t : List ℕ} {f : Forest} {from to : ℕ} → Placed t curly f from to → HasFirst f → Quoted t (nameStart f) (nameEnd f)
-name-at p s = spot p s .name .quoted
-
 -- the root and an element have the name 0, 0
 pub no-name-at : {t : List ℕ} {f : Forest} {from to : ℕ} → Placed t square f from to → HasFirst f → Unnamed (nameStart f) (nameEnd f)
 no-name-at p s = spot p s .name
-
--- one value ends before the next one starts
-pub next-after : {t : List ℕ} {b : Bracket} {f : Forest} {from to : ℕ} → Placed t b f from to → HasFirst f → HasFirst (restAt f) → endAt f ≤ startAt (restAt f)
-next-after p s n = spot (rest-at p s) n .start

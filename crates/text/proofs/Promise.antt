@@ -5,7 +5,7 @@
 --                           that stands in the text (`Placed`, specs/Placed.antt), names distinct, limits kept
 --     refusal-is            after `Refused r` the definition refuses with r, and the table is zero
 --     whole-bad             what is refused of the text is refused whatever the table's room
---     paper-unique, refused-unique, answer-is, same-outcome      the answer and the table are determined
+--     paper-unique, answer-is, same-outcome      the answer and the table are determined
 --
 -- The values that stand in a table from a row on, first value first (specs/Standing.antt, specs/Firsts.antt):
 --     first-row                its six words: kind, name start and end, start and end, number of values below; and the row is inside the table
@@ -14,21 +14,16 @@
 --     alone                 it stands there by itself, whatever follows
 --     some-at, none-at      there is a value before the end of the rows, and none at it
 --     start-at              the start of each value, by its row
---     stands-unique, value-unique      a table has one tree only
+--     stands-unique         a table has one tree only
 --     rows-length           six words to a value
 --     Going .., Keeping ..  walks along the values between two rows
 --
 -- The same values in the text:
---     spot, bounds          its name's places, that it is not empty, inside the text and between the places around it; its first byte begins its kind
---     next-after            it ends before the next one starts
---     elements-at, members-at          what is inside an array or an object stands strictly within it
---     rest-at               what follows it is placed too
---     name-at, no-name-at   a member's name stands in quotes, before its value, and spells; elements and the root have the name 0, 0
---     token-at, string-at   the bytes of a value by its kind; a string's inside spells
+--     spot                  its name's places, that it is not empty and inside the text; its first byte begins its kind
+--     no-name-at            elements and the root have the name 0, 0
 --     placed-kinds          values that hold no others have kinds 1 to 5
 --
 -- The document of a text and its tree (specs/Doc.antt):
---     doc-first             it is that of the first value alone
 --     doc-kind, doc-token, doc-scalar, doc-below, doc-array, doc-object      its kind, token and parts are those of the row
 --     members-first, members-none      the members, one value after the other
 --     content-part, label-part         the content of a string and a name as written are parts of the text
@@ -56,7 +51,7 @@ use Rattle.text.proofs.Fewer.{value-fits}
 use Rattle.text.proofs.Placing.{placed-text, single-value}
 use Rattle.text.proofs.Documents.{distinct-names}
 pub use Rattle.text.proofs.Fewer.{whole-bad}
-pub use Rattle.text.proofs.Outcomes.{paper-unique, refused-unique, answerOf, answer-is, same-outcome}
+pub use Rattle.text.proofs.Outcomes.{paper-unique, answerOf, answer-is, same-outcome}
 pub use Rattle.text.proofs.Standing.{
   rows-length,
   FirstRow,
@@ -65,13 +60,11 @@ pub use Rattle.text.proofs.Standing.{
   next,
   alone,
   first-and-rest,
-  first-size,
   after,
   within,
   some-at,
   none-at,
   stands-unique,
-  value-unique,
   filled-stands,
   table-stands,
   start-at,
@@ -83,7 +76,6 @@ pub use Rattle.text.proofs.Standing.{
   hit-any,
   ended,
   Keeping,
-  keeps-start,
   keeps-here,
   keeps-on,
   keeps-hit,
@@ -91,23 +83,12 @@ pub use Rattle.text.proofs.Standing.{
   keeps-ended,
 }
 pub use Rattle.text.proofs.Placing.{
-  in-order,
   token-kind,
   placed-kinds,
-  LiesIn,
   spot,
-  bounds,
-  next-after,
-  token-at,
-  string-at,
-  elements-at,
-  members-at,
-  rest-at,
-  name-at,
   no-name-at,
 }
 pub use Rattle.text.proofs.Documents.{
-  doc-first,
   doc-kind,
   doc-token,
   doc-scalar,
