@@ -1,4 +1,5 @@
--- Documents: what a text says, without places, rows or white space. Judging and localizing are defined on documents alone.
+-- Documents: what a text says, without places, rows or white space. What a card breaks and how it is patched are defined on documents alone; the patched
+-- card is then written, and judged as any text is.
 -- Assumes nothing: these are definitions.
 use Prim.Native.Nat.{ℕ, suc, _+_}
 use mathlib.Core.List.{List, []}
