@@ -55,8 +55,8 @@ by-kind b k e p1 p2 p3 p4 p5 p6 p7 p8 p0 =
 pub kind-first : (b k : ℕ) → 0 < k → kindBy b ≡ k → FirstByte k b
 kind-first b k h e =
     by-kind b k e (λ x y. rw (x, ← y) FirstByte.null) (λ x y. rw (x, ← y) FirstByte.falsity) (λ x y. rw (x, ← y) FirstByte.truth)
-    (λ x y. rw (x, ← y) FirstByte.minus) (λ x y. rw (x, ← y) FirstByte.quote) (λ x y. rw (x, ← y) (FirstByte.opens square))
-    (λ x y. rw (x, ← y) (FirstByte.opens curly)) (λ x y. rw (← y) (FirstByte.digit (digit-tells .sure b x))) (λ y. absurd (omega arith))
+    (λ x y. rw (x, ← y) FirstByte.minus) (λ x y. rw (x, ← y) FirstByte.quote) (λ x y. rw (x, ← y) (FirstByte.bracket square))
+    (λ x y. rw (x, ← y) (FirstByte.bracket curly)) (λ x y. rw (← y) (FirstByte.digit (digit-tells .sure b x))) (λ y. absurd (omega arith))
 
 -- where a kind begins, the text has not ended
 pub kind-inside : (t : List ℕ) (i k : ℕ) → 0 < k → kindBy (byteAt t i) ≡ k → i < length t

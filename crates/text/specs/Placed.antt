@@ -60,7 +60,7 @@ pub data FirstByte : (kind byte : ℕ) → Type 0 where
   minus : FirstByte 4 0x2D
   digit : {x : ℕ} → Between 0x30 0x39 x → FirstByte 4 x
   quote : FirstByte 5 0x22
-  opens : (b : Bracket) → FirstByte (bracketKind b) (opening b)
+  bracket : (b : Bracket) → FirstByte (bracketKind b) (opening b)
 
 -- A value of a kind in a container of such a bracket, with its name's places and its own: it starts at or after `from`, it is not empty, it is inside
 -- the text, and its first byte begins its kind.
