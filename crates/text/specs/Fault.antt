@@ -11,7 +11,7 @@ use Rattle.text.specs.Limits.{Limits}
 use Rattle.text.specs.Text.{byteAt}
 use Rattle.text.specs.Spelling.{Spells}
 use Rattle.text.specs.Broken.{Ill}
-use Rattle.text.specs.Tree.{Forest}
+use Rattle.text.specs.Forest.{Forest}
 use Rattle.text.specs.Placed.{Quoted}
 use Rattle.text.specs.Grammar.{JsonText, rootOf}
 use Rattle.text.specs.Seats.{Head, Seat, top, Sits, Named}

@@ -16,11 +16,11 @@
 pub mod Limits
 pub mod Text
 pub mod Sheet
--- what a text means, without a reader: characters, the grammar, and the tree of values with its rows
+-- what a text means, without a reader: characters, the grammar, and the tree of values
 pub mod Utf8
 pub mod Spelling
 pub mod Abnf
-pub mod Tree
+pub mod Forest
 pub mod Grammar
 pub mod Rfc
 -- where values stand, what is accepted, and what is refused
@@ -34,10 +34,11 @@ pub mod Document
 pub mod Distinct
 pub mod Labels
 pub mod Telling
--- how it is computed: strings, tokens, values, whole texts, the document of a text
+-- how it is computed: strings, tokens, the rows of a tree, values, whole texts, the document of a text
 pub mod Chars
 pub mod Strings
 pub mod Tokens
+pub mod Tree
 pub mod Reader
 pub mod Whole
 pub mod Fewer

@@ -9,7 +9,7 @@ use Rattle.laws.specs.Lists.{partOf}
 use Rattle.text.specs.Text.{byteAt, bytes}
 use Rattle.text.specs.Spelling.{Spells}
 use Rattle.text.specs.Abnf.{Between}
-use Rattle.text.specs.Tree.{Bracket, square, curly, bracketKind, Forest, none, leaf, node}
+use Rattle.text.specs.Forest.{Bracket, square, curly, bracketKind, Forest, none, leaf, node}
 use Rattle.text.specs.Grammar.{Number, opening, closing}
 
 -- ---- strings and names
