@@ -22,8 +22,7 @@ use Rattle.text.specs.Tree.{Forest, size, treeRows}
 use Rattle.text.specs.Seats.{Head, leafHead, Seat, top, Sits}
 use Rattle.text.specs.Standing.{RowAt}
 use Rattle.text.specs.Sheet.{numbers}
-use Rattle.text.specs.Strings.{utf8}
-use Rattle.text.specs.Spelling.{Utf8}
+use Rattle.text.specs.Utf8.{utf8, Utf8}
 use Rattle.text.specs.Whole.{Reads}
 use Rattle.text.specs.Doc.{Name, Doc, scalar, array, object, Members, docOf, kindOf, tokenOf, below, countAll}
 use Rattle.text.specs.Distinct.{Distinct}

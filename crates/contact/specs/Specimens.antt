@@ -14,7 +14,8 @@ use Rattle.laws.specs.Order.{orderOf}
 use Rattle.text.specs.Limits.{Limits, rowWords, base}
 use Rattle.text.specs.Text.{bytes}
 use Rattle.text.specs.Chars.{digitOf, hex4Of, digitAt, hex4At, checkedAt, tailOf, seq2, seq3, seq4, tailAt, rawAt, letterOf, lowAt, pairAt, unitAt, onHex, escapeAt, stepBy}
-use Rattle.text.specs.Strings.{stringEnd, conts, utf8, pieceBy, decodeFrom}
+use Rattle.text.specs.Strings.{stringEnd, pieceBy, decodeFrom}
+use Rattle.text.specs.Utf8.{conts, utf8}
 use Rattle.text.specs.Tokens.{runEnd, wordAt, digitsAt, minusEnd, intAt, fracAt, signEnd, expAt, numberAt, kindBy, tokenAt}
 use Rattle.text.specs.Tree.{size, rowsOf, startsOf, join}
 use Rattle.text.specs.Reader.{scalarWith, scalarAt, closeOf, container, deep, valueWith, afterItem, itemsFrom, insideOf, named, colonAt, memberWith, memberOf, valueAt, elementsAt, membersAt, arrayAt, objectAt}

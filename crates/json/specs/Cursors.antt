@@ -5,7 +5,8 @@ use mathlib.Core.Bool.{cond}
 use lib.Dec.{ltb, eqb}
 use Rattle.text.specs.Text.{byteAt}
 use Rattle.text.specs.Chars.{escapeAt}
-use Rattle.text.specs.Strings.{conts, decodeFrom}
+use Rattle.text.specs.Strings.{decodeFrom}
+use Rattle.text.specs.Utf8.{conts}
 use Rattle.text.specs.declared.Step.{Step}
 use Rattle.text.specs.declared.Step.the-variants.{Close, Char, Bad2, Bad3}
 use Rattle.json.specs.declared.decode.Cursor.{Cursor}

@@ -5,7 +5,8 @@ use text::Step;
 ghost use mathlib.Core.Path.{_≡_};
 ghost use Prim.Native.Nat.{ℕ};
 ghost use mathlib.Core.List.{List, _++_};
-ghost use Rattle.text.specs.Strings.{utf8, decodeFrom};
+ghost use Rattle.text.specs.Utf8.{utf8};
+ghost use Rattle.text.specs.Strings.{decodeFrom};
 ghost use Rattle.json.specs.Cursors.{cursor, rest, unread, firstOf, freshOf, nextOf};
 
 // A place in a string's inner bytes, and the continuation bytes (at most three) of the code point `code` that are still to be handed out.

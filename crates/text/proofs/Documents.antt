@@ -1,5 +1,5 @@
 -- From a text's tree to its document (specs/Doc.antt): what a tree's values are in it, so that rows can be read for a document.
---     doc-first, doc-kind, doc-token, doc-below, members-first      the parts of a value are those of the first value of the tree
+--     doc-kind, doc-token, doc-below, members-first                 the parts of a value are those of the first value of the tree
 --     content-part, label-part                                      the content of a string and the name as written are parts of the text
 --     count-members, count-doc, count-root                          a document has as many values as the tree
 --     distinct-names                                                where a repeated name is refused, the names of an accepted text are distinct
@@ -27,18 +27,11 @@ use Rattle.text.specs.Tokens.{skip}
 use Rattle.text.specs.Whole.{readOf}
 use Rattle.text.specs.Doc.{Name, Doc, scalar, array, object, Members, empty, member, boxed, labelAt, membersOf, docOf, kindOf, tokenOf, below, countOf, countAll, property, seek}
 use Rattle.text.specs.Distinct.{Distinct, DistinctEntries, DistinctMembers}
-use Rattle.text.proofs.Standing.{firstOf, first-and-rest}
+use Rattle.text.proofs.Standing.{first-and-rest}
 use Rattle.text.proofs.Induction.{Rules, value-induction, read-accepted}
 
 module _ (t : List ℕ) where
   -- ---- the first value of a tree ----
-
-  -- a document is that of the first value alone
-  pub doc-first : (f : Forest) → docOf t (firstOf f) ≡ docOf t f
-  unfolding docOf
-  doc-first T.none = refl
-  doc-first (leaf kind ns ne from to rest) = refl
-  doc-first (node b ns ne from to inside rest) = refl
 
   -- its kind is the row's
   pub doc-kind : (f : Forest) → HasFirst f → kindOf (docOf t f) ≡ kindAt f

@@ -115,14 +115,14 @@ module _ (N : Name → List ℕ → Type 0) (T : ℕ → List ℕ → Type 0) wh
 
 module _ (t : List ℕ) (K : (kind : ℕ) → (token : List ℕ) → Type 0)
     (h : (kind from to : ℕ) → TokenIn t kind from to → K kind (partOf t from to)) where
-  abbrev Inside : Bracket → Members → Type 0
-  Inside = EveryIn Labelled K
+  abbrev EveryInside : Bracket → Members → Type 0
+  EveryInside = EveryIn Labelled K
 
   name-said : (b : Bracket) (from ns ne at : ℕ) → NameIn t b from ns ne at → LabelIn Labelled b (nameOf t ns ne) (labelAt t ns ne)
   name-said square from ns ne at n = no-label t (n .start) (n .end)
   name-said curly from ns ne at n = label-said t ns ne (n .quoted)
 
-  members-said : {b : Bracket} {f : Forest} {from to : ℕ} → Placed t b f from to → Inside b (membersOf t f)
+  members-said : {b : Bracket} {f : Forest} {from to : ℕ} → Placed t b f from to → EveryInside b (membersOf t f)
   unfolding membersOf
   members-said {b} (nothing k) = every-none Labelled K b
   members-said {b} {f} {from} (token {kind = kind} {ns = ns} {ne = ne} {at = at} {end = end} {rest = rest} s k p) =

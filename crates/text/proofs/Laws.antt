@@ -16,7 +16,8 @@ use Rattle.text.specs.Limits.{Limits}
 use Rattle.text.specs.Text.{bytes, Codes}
 use Rattle.text.specs.Text as T
 use Rattle.text.specs.Chars.{seq2, seq3, seq4, stepAt}
-use Rattle.text.specs.Strings.{stringEnd, conts, utf8}
+use Rattle.text.specs.Strings.{stringEnd}
+use Rattle.text.specs.Utf8.{conts, utf8}
 use Rattle.text.specs.Reader.{valueWith, valueAt, elementsAt, membersAt, arrayAt, objectAt}
 use Rattle.text.specs.declared.Step.{Step}
 use Rattle.text.specs.declared.Step.the-variants.{Close, Char, Bad2, Bad3}
@@ -32,16 +33,16 @@ letters (S._∷_ c s) = T.more (letters s)
 
 -- ---- where a string ends ----
 
-pub record Ends (t : List ℕ) (i e : ℕ) : Type 0 where
+pub record EndInside (t : List ℕ) (i e : ℕ) : Type 0 where
   pub after : i < e
   pub within : e ≤ length t
 
 -- by the number of bytes left, f
-ends : (f : ℕ) (t : List ℕ) (i e : ℕ) → length t - i < f → stringEnd t i ≡ End e → Ends t i e
+ends : (f : ℕ) (t : List ℕ) (i e : ℕ) → length t - i < f → stringEnd t i ≡ End e → EndInside t i e
 ends zero t i e h q = absurd (omega arith)
 ends (suc f) t i e h q = go (stepAt t i) refl (λ j l g. ends f t j e l g)
   where
-    go : (s : Step) → stepAt t i ≡ s → ((j : ℕ) → length t - j < f → stringEnd t j ≡ End e → Ends t j e) → Ends t i e
+    go : (s : Step) → stepAt t i ≡ s → ((j : ℕ) → length t - j < f → stringEnd t j ≡ End e → EndInside t j e) → EndInside t i e
     go Close p more =
         let r : End (i + 1) ≡ End e = sym (end-at t i Close p) ∙ q in
         let k : i + 1 ≡ e = cc in
@@ -60,7 +61,7 @@ ends (suc f) t i e h q = go (stepAt t i) refl (λ j l g. ends f t j e l g)
         let z : _≡_ {A = ℕ} 0 1 = cc in
         absurd (omega arith)
 
-pub end-inside : (t : List ℕ) (i e : ℕ) → stringEnd t i ≡ End e → Ends t i e
+pub end-inside : (t : List ℕ) (i e : ℕ) → stringEnd t i ≡ End e → EndInside t i e
 end-inside t i e q = ends (suc (length t - i)) t i e (omega arith) q
 
 -- ---- the UTF-8 of a raw character ----

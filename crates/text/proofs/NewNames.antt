@@ -1,6 +1,5 @@
 -- How a new name is spelled (specs/Writing.antt):
---     spelled-as           a byte is spelled as the rules of `SpelledAs` say, and no other way
---     spelled-name         and so a name, by `SpelledName`
+--     spelled-name         a name is spelled as the rules of `SpelledName` say, and no other way
 --     respelled            what `spelled` writes between its quotes spells the name's code points again
 --     new-label            so it says the name
 --     shortest, label-shortest     and nothing shorter does
@@ -14,7 +13,7 @@ use native.Mathlib.Omega.{arith}
 use lib.ListN.{length, length-append}
 use borrow.Author.Tests.{ne-eqb, le-ltb, lt-ltb}
 use Rattle.laws.proofs.Branches.{if-less, if-equal}
-use Rattle.text.specs.Strings.{utf8}
+use Rattle.text.specs.Utf8.{utf8}
 use Rattle.text.specs.Spelling.{Good, Bare, HexDigit, decimal, small, FourDigits, four, Short, quote, backslash, slash, backspace, form-feed, line-feed, carriage-return, tab, Spell, raw, short, unit, pair, Spells, none, more, utf8s}
 use Rattle.text.specs.Writing.{smallHex, shortOf, spelledByte, spelledBytes, spelled, SmallDigit, figure, letter, SpelledAs, itself, escaped, digits, SpelledAll, SpelledName}
 use Rattle.text.specs.Writing as W
@@ -169,10 +168,6 @@ rules-byte (digits {d} {e} {x} {y} n m p q) =
     let i : (x * 16 + y) / 16 ≡ x = omega (arith, digit-low q) in
     let j : (x * 16 + y) % 16 ≡ y = omega (arith, digit-low q) in
     rw (k .0, lt-ltb (x * 16 + y) 32 (k .1), i, j, digit-hex p, digit-hex q)
-
--- theorem: each byte is spelled by the rules, and one way only
-pub spelled-as : (b : ℕ) (w : List ℕ) → SpelledAs b w ↔ (w ≡ spelledByte b)
-spelled-as b w = (rules-byte, λ e. rw e (byte-rules b))
 
 all-spelled : {n w : List ℕ} → SpelledAll n w → w ≡ spelledBytes n
 all-spelled W.none = refl

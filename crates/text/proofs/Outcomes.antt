@@ -15,7 +15,6 @@ use Rattle.text.specs.declared.Paper.{Paper}
 use Rattle.text.specs.Sheet.{refused, paper}
 use Rattle.text.specs.Reader.{Read, good, bad}
 use Rattle.text.specs.Whole.{sheetOf, Reads}
-use Rattle.text.specs.declared.Refusal.{Refusal}
 use Rattle.text.specs.declared.Refusal.the-variants.{TooLong, Grammar, Character, Repeated, Deep, Many, Small}
 use Rattle.text.specs.declared.Reading.{Reading}
 use Rattle.text.specs.declared.Reading.the-variants.{Rows, Refused}
@@ -45,10 +44,6 @@ back-paper (Refused (Small n)) = refl
 
 pub paper-unique : (r s : Reading) → paper r ≡ paper s → r ≡ s
 paper-unique r s e = sym (back-paper r) ∙ ap back e ∙ back-paper s
-
-pub refused-unique : (r s : Refusal) → refused r ≡ refused s → r ≡ s
-unfolding paper
-refused-unique r s e = let h : Refused r ≡ Refused s = paper-unique (Refused r) (Refused s) e in cc
 
 -- the answer that stands for what a reading gives
 abbrev pub answerOf : Read → Reading

@@ -1,6 +1,6 @@
 -- The values of an accepted text stand in it as specs/Placed.antt says.
 --     placed-text                                       an accepted text
---     spot, token-at, elements-at, members-at, rest-at  what that says of the first of some values, of what is inside it and of what follows
+--     spot, no-name-at                                  what that says of the first of some values
 --     single-value                                      an accepted value is one value
 --     placed-kinds                                      the kinds of values that hold no others are 1 to 5
 -- Assumes nothing.
@@ -16,15 +16,15 @@ use Rattle.text.specs.Strings.{stringEnd}
 use Rattle.text.specs.Tokens.{skip, kindBy, tokenAt}
 use Rattle.text.specs.Tree.{Bracket, square, curly, bracketKind, Forest, none, leaf, node, join}
 use Rattle.text.specs.Grammar.{closing}
-use Rattle.text.specs.Firsts.{HasFirst, kindAt, nameStart, nameEnd, startAt, endAt, insideAt, restAt, ScalarKind, Kinds}
-use Rattle.text.specs.Placed.{Quoted, Unnamed, NameIn, Numeral, TokenIn, null, falsity, truth, number, string, Spot, Placed, nothing, token, box}
+use Rattle.text.specs.Firsts.{HasFirst, kindAt, nameStart, nameEnd, startAt, endAt, restAt, ScalarKind, Kinds}
+use Rattle.text.specs.Placed.{Unnamed, NameIn, TokenIn, null, falsity, truth, number, string, Spot, Placed, nothing, token, box}
 use Rattle.text.specs.Reader.{good, valueAt}
 use Rattle.text.specs.Whole.{readOf}
 use Rattle.text.specs.declared.Token.the-variants.{End}
 use Rattle.text.proofs.Laws.{end-inside}
 use Rattle.text.proofs.Induction.{Rules, value-induction, read-accepted}
 use Rattle.text.proofs.TokenEnds.{skip-span}
-use Rattle.text.proofs.TokenBytes.{kind-inside, string-quoted, token-ends, token-in}
+use Rattle.text.proofs.TokenBytes.{kind-first, kind-inside, string-quoted, token-ends, token-in}
 
 -- ---- more room, and one after the other ----
 
@@ -33,11 +33,6 @@ earlier-name t square early from ns ne at l n = n
 earlier-name t curly early from ns ne at l n = record { quoted = n .quoted; after = omega (arith, n .after); before = n .before }
 
 module _ {t : List ℕ} where
-  pub in-order : {b : Bracket} {f : Forest} {from to : ℕ} → Placed t b f from to → from ≤ to
-  in-order (nothing h) = h
-  in-order (token s k rest) = omega (arith, s .start, s .some, in-order rest)
-  in-order (box s c within rest) = omega (arith, s .start, s .some, in-order rest)
-
   pub widen : {b : Bracket} {f : Forest} {from to far : ℕ} → to ≤ far → Placed t b f from to → Placed t b f from far
   widen {b} {f} {from} {to} {far} l (nothing h) = let k : from ≤ far = omega arith in nothing k
   widen l (token s k rest) = token s k (widen l rest)
@@ -73,26 +68,6 @@ token-kind (truth e) = omega arith
 token-kind (number n) = omega arith
 token-kind (string q) = omega arith
 
-string-of : {t : List ℕ} {kind from to : ℕ} → kind ≡ 5 → TokenIn t kind from to → Quoted t (from + 1) (to - 1)
-string-of e (null k) = absurd (omega arith)
-string-of e (falsity k) = absurd (omega arith)
-string-of e (truth k) = absurd (omega arith)
-string-of e (number n) = absurd (omega arith)
-string-of e (string q) = q
-
-number-of : {t : List ℕ} {kind from to : ℕ} → kind ≡ 4 → TokenIn t kind from to → Numeral t from to
-number-of e (null k) = absurd (omega arith)
-number-of e (falsity k) = absurd (omega arith)
-number-of e (truth k) = absurd (omega arith)
-number-of e (number n) = n
-number-of e (string q) = absurd (omega arith)
-
--- from a place to another lies something that is not empty
-pub record Within (from to start end : ℕ) : Type 0 where
-  pub low : from ≤ start
-  pub some : start < end
-  pub high : end ≤ to
-
 pub placed-kinds : {t : List ℕ} {b : Bracket} {f : Forest} {from to : ℕ} → Placed t b f from to → Kinds f
 placed-kinds (nothing h) = tt
 placed-kinds (token s k rest) = (token-kind k, placed-kinds rest)
@@ -107,7 +82,7 @@ record Seated (t : List ℕ) (ns ne at : ℕ) (f : Forest) (to : ℕ) : Type 0 w
   placed : (b : Bracket) (from : ℕ) → NameIn t b from ns ne at → from ≤ at → Placed t b f from to
 
 -- items after a bracket up to a place
-record Row (t : List ℕ) (b : Bracket) (edge at : ℕ) (f : Forest) : Type 0 where
+record ItemsUpTo (t : List ℕ) (b : Bracket) (edge at : ℕ) (f : Forest) : Type 0 where
   after : edge < at
   within : at ≤ length t
   placed : Placed t b f (edge + 1) at
@@ -130,11 +105,11 @@ module _ (L : Limits) (t : List ℕ) where
         some = omega (arith, span .later);
         inside = span .inside;
         placed = λ b from name le.
-            let spot : Spot t b from kind ns ne at to = record { name = name; start = le; some = omega (arith, span .later); inside = span .inside; begins = k } in
+            let spot : Spot t b from kind ns ne at to = record { name = name; start = le; some = omega (arith, span .later); inside = span .inside; begins = kind-first (byteAt t at) kind (s .least) k } in
             token spot (token-in t kind at to s k e) (nothing here);
       }
 
-  box-seated : (b : Bracket) (ns ne edge at : ℕ) (f : Forest) → kindBy (byteAt t edge) ≡ bracketKind b → Row t b edge at f → byteAt t at ≡ closing b
+  box-seated : (b : Bracket) (ns ne edge at : ℕ) (f : Forest) → kindBy (byteAt t edge) ≡ bracketKind b → ItemsUpTo t b edge at f → byteAt t at ≡ closing b
       → Seated t ns ne edge (node b ns ne edge (at + 1) f none) (at + 1)
   box-seated b ns ne edge at f k r e =
       let l = closing-byte t b at e in
@@ -146,25 +121,25 @@ module _ (L : Limits) (t : List ℕ) where
         some = omega (arith, r .after);
         inside = omega arith;
         placed = λ c from name le.
-            let spot : Spot t c from (bracketKind b) ns ne edge (at + 1) = record { name = name; start = le; some = omega (arith, r .after); inside = omega arith; begins = k } in
+            let spot : Spot t c from (bracketKind b) ns ne edge (at + 1) = record { name = name; start = le; some = omega (arith, r .after); inside = omega arith; begins = kind-first (byteAt t edge) (bracketKind b) (bracket-kind b) k } in
             box spot last within (nothing here);
       }
 
-  row-start : (b : Bracket) (edge : ℕ) → kindBy (byteAt t edge) ≡ bracketKind b → Row t b edge (skip t (edge + 1)) none
+  row-start : (b : Bracket) (edge : ℕ) → kindBy (byteAt t edge) ≡ bracketKind b → ItemsUpTo t b edge (skip t (edge + 1)) none
   row-start b edge k =
       let l = kind-inside t edge (bracketKind b) (bracket-kind b) k in
       let span = skip-span t (edge + 1) (omega arith) in
       record { after = omega (arith, span .later); within = span .inside; placed = nothing (span .later) }
 
-  row-comma : (b : Bracket) (edge at : ℕ) (f : Forest) → Row t b edge at f → byteAt t at ≡ 44 → Row t b edge (skip t (at + 1)) f
+  row-comma : (b : Bracket) (edge at : ℕ) (f : Forest) → ItemsUpTo t b edge at f → byteAt t at ≡ 44 → ItemsUpTo t b edge (skip t (at + 1)) f
   row-comma b edge at f r e =
       let l = inside t at (omega arith) in
       let span = skip-span t (at + 1) (omega arith) in
       let far : at ≤ skip t (at + 1) = omega (arith, span .later) in
       record { after = omega (arith, r .after); within = span .inside; placed = widen far (r .placed) }
 
-  row-item : (b : Bracket) (edge at vat ns ne to : ℕ) (done f : Forest) → Row t b edge at done → NameIn t b at ns ne vat → at ≤ vat → Seated t ns ne vat f to
-      → Row t b edge (skip t to) (join done f)
+  row-item : (b : Bracket) (edge at vat ns ne to : ℕ) (done f : Forest) → ItemsUpTo t b edge at done → NameIn t b at ns ne vat → at ≤ vat → Seated t ns ne vat f to
+      → ItemsUpTo t b edge (skip t to) (join done f)
   row-item b edge at vat ns ne to done f r name le v =
       let span = skip-span t to (v .inside) in
       record {
@@ -173,8 +148,8 @@ module _ (L : Limits) (t : List ℕ) where
         placed = widen (span .later) (placed-join (r .placed) (v .placed b at name le));
       }
 
-  row-member : (edge at end to : ℕ) (done f : Forest) → Row t curly edge at done → byteAt t at ≡ 34 → stringEnd t (at + 1) ≡ End end
-      → byteAt t (skip t end) ≡ 58 → Seated t (at + 1) (end - 1) (skip t (skip t end + 1)) f to → Row t curly edge (skip t to) (join done f)
+  row-member : (edge at end to : ℕ) (done f : Forest) → ItemsUpTo t curly edge at done → byteAt t at ≡ 34 → stringEnd t (at + 1) ≡ End end
+      → byteAt t (skip t end) ≡ 58 → Seated t (at + 1) (end - 1) (skip t (skip t end + 1)) f to → ItemsUpTo t curly edge (skip t to) (join done f)
   row-member edge at end to done f r q e c v =
       let ends = end-inside t (at + 1) end e in
       let span = skip-span t end (ends .within) in
@@ -186,7 +161,7 @@ module _ (L : Limits) (t : List ℕ) where
       (omega (arith, ends .after))
       v
 
-  placed-rules : Rules L t (λ depth ns ne at f to. Seated t ns ne at f to) (λ b depth edge at f. Row t b edge at f)
+  placed-rules : Rules L t (λ depth ns ne at f to. Seated t ns ne at f to) (λ b depth edge at f. ItemsUpTo t b edge at f)
   placed-rules =
       record {
         token = λ depth ns ne at kind to s k e. token-seated ns ne at kind to s k e;
@@ -238,51 +213,6 @@ module _ {t : List ℕ} {b : Bracket} {from to : ℕ} where
   spot (token p k rest) s = p
   spot (box p c within rest) s = p
 
-  -- the bytes of a value that holds no others
-  pub token-at : {f : Forest} → Placed t b f from to → HasFirst f → kindAt f < 6 → TokenIn t (kindAt f) (startAt f) (endAt f)
-  token-at (nothing h) s l = absurd s
-  token-at (token p k rest) s l = k
-  token-at (box {c = square} p c within rest) s l = absurd (omega arith)
-  token-at (box {c = curly} p c within rest) s l = absurd (omega arith)
-
-  -- what is inside it stands strictly within it: elements in an array, members in an object
-  pub elements-at : {f : Forest} → Placed t b f from to → HasFirst f → kindAt f ≡ 6 → Placed t square (insideAt f) (startAt f + 1) (endAt f - 1)
-  elements-at (nothing h) s e = absurd s
-  elements-at (token p k rest) s e = absurd (omega (arith, token-kind k .most))
-  elements-at (box {c = square} p c within rest) s e = within
-  elements-at (box {c = curly} p c within rest) s e = absurd (omega arith)
-
-  pub members-at : {f : Forest} → Placed t b f from to → HasFirst f → kindAt f ≡ 7 → Placed t curly (insideAt f) (startAt f + 1) (endAt f - 1)
-  members-at (nothing h) s e = absurd s
-  members-at (token p k rest) s e = absurd (omega (arith, token-kind k .most))
-  members-at (box {c = square} p c within rest) s e = absurd (omega arith)
-  members-at (box {c = curly} p c within rest) s e = within
-
-  -- what follows it stands after its end
-  pub rest-at : {f : Forest} → Placed t b f from to → HasFirst f → Placed t b (restAt f) (endAt f) to
-  rest-at (nothing h) s = absurd s
-  rest-at (token p k rest) s = rest
-  rest-at (box p c within rest) s = rest
-
-  -- it lies between the two places
-  pub bounds : {f : Forest} → Placed t b f from to → HasFirst f → Within from to (startAt f) (endAt f)
-  bounds p s = omega (arith, spot p s .start, spot p s .some, in-order (rest-at p s))
-
-  -- a string's inside, and a number
-  pub string-at : {f : Forest} → Placed t b f from to → HasFirst f → kindAt f ≡ 5 → Quoted t (startAt f + 1) (endAt f - 1)
-  string-at {f} p s e = string-of e (token-at p s (omega arith))
-
-  pub number-at : {f : Forest} → Placed t b f from to → HasFirst f → kindAt f ≡ 4 → Numeral t (startAt f) (endAt f)
-  number-at {f} p s e = number-of e (token-at p s (omega arith))
-
--- the name of a member
-pub name-at : {t : List ℕ} {f : Forest} {from to : ℕ} → Placed t curly f from to → HasFirst f → Quoted t (nameStart f) (nameEnd f)
-name-at p s = spot p s .name .quoted
-
 -- the root and an element have the name 0, 0
 pub no-name-at : {t : List ℕ} {f : Forest} {from to : ℕ} → Placed t square f from to → HasFirst f → Unnamed (nameStart f) (nameEnd f)
 no-name-at p s = spot p s .name
-
--- one value ends before the next one starts
-pub next-after : {t : List ℕ} {b : Bracket} {f : Forest} {from to : ℕ} → Placed t b f from to → HasFirst f → HasFirst (restAt f) → endAt f ≤ startAt (restAt f)
-next-after p s n = spot (rest-at p s) n .start

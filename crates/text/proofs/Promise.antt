@@ -5,7 +5,7 @@
 --                           that stands in the text (`Placed`, specs/Placed.antt), names distinct, limits kept
 --     refusal-is            after `Refused r` the definition refuses with r, and the table is zero
 --     whole-bad             what is refused of the text is refused whatever the table's room
---     paper-unique, refused-unique, answer-is, same-outcome      the answer and the table are determined
+--     paper-unique, answer-is, same-outcome      the answer and the table are determined
 --
 -- The values that stand in a table from a row on, first value first (specs/Standing.antt, specs/Firsts.antt):
 --     first-row                its six words: kind, name start and end, start and end, number of values below; and the row is inside the table
@@ -14,21 +14,16 @@
 --     alone                 it stands there by itself, whatever follows
 --     some-at, none-at      there is a value before the end of the rows, and none at it
 --     start-at              the start of each value, by its row
---     stands-unique, value-unique      a table has one tree only
+--     stands-unique         a table has one tree only
 --     rows-length           six words to a value
 --     Going .., Keeping ..  walks along the values between two rows
 --
 -- The same values in the text:
---     spot, bounds          its name's places, that it is not empty, inside the text and between the places around it; its first byte begins its kind
---     next-after            it ends before the next one starts
---     elements-at, members-at          what is inside an array or an object stands strictly within it
---     rest-at               what follows it is placed too
---     name-at, no-name-at   a member's name stands in quotes, before its value, and spells; elements and the root have the name 0, 0
---     token-at, string-at, number-at   the bytes of a value by its kind; a string's inside spells
+--     spot                  its name's places, that it is not empty and inside the text; its first byte begins its kind
+--     no-name-at            elements and the root have the name 0, 0
 --     placed-kinds          values that hold no others have kinds 1 to 5
 --
 -- The document of a text and its tree (specs/Doc.antt):
---     doc-first             it is that of the first value alone
 --     doc-kind, doc-token, doc-scalar, doc-below, doc-array, doc-object      its kind, token and parts are those of the row
 --     members-first, members-none      the members, one value after the other
 --     content-part, label-part         the content of a string and a name as written are parts of the text
@@ -56,7 +51,7 @@ use Rattle.text.proofs.Fewer.{value-fits}
 use Rattle.text.proofs.Placing.{placed-text, single-value}
 use Rattle.text.proofs.Documents.{distinct-names}
 pub use Rattle.text.proofs.Fewer.{whole-bad}
-pub use Rattle.text.proofs.Outcomes.{paper-unique, refused-unique, answerOf, answer-is, same-outcome}
+pub use Rattle.text.proofs.Outcomes.{paper-unique, answerOf, answer-is, same-outcome}
 pub use Rattle.text.proofs.Standing.{
   rows-length,
   FirstRow,
@@ -65,13 +60,11 @@ pub use Rattle.text.proofs.Standing.{
   next,
   alone,
   first-and-rest,
-  first-size,
   after,
   within,
   some-at,
   none-at,
   stands-unique,
-  value-unique,
   filled-stands,
   table-stands,
   start-at,
@@ -83,7 +76,6 @@ pub use Rattle.text.proofs.Standing.{
   hit-any,
   ended,
   Keeping,
-  keeps-start,
   keeps-here,
   keeps-on,
   keeps-hit,
@@ -91,24 +83,12 @@ pub use Rattle.text.proofs.Standing.{
   keeps-ended,
 }
 pub use Rattle.text.proofs.Placing.{
-  in-order,
   token-kind,
   placed-kinds,
-  Within,
   spot,
-  bounds,
-  next-after,
-  token-at,
-  string-at,
-  number-at,
-  elements-at,
-  members-at,
-  rest-at,
-  name-at,
   no-name-at,
 }
 pub use Rattle.text.proofs.Documents.{
-  doc-first,
   doc-kind,
   doc-token,
   doc-scalar,
@@ -166,7 +146,7 @@ whole-good L words t f to e = go (readOf L t) refl e
 -- an answer and a table that meet reading's contract
 module _ (L : Limits) (words : ℕ) (t table : List ℕ) where
   -- accepted: the tree, and what is promised of it
-  pub record Tabled (n : ℕ) : Type 0 where
+  pub record AcceptedWhole (n : ℕ) : Type 0 where
     pub tree : Forest
     pub end : ℕ
     pub whole : wholeOf L words t ≡ good tree end
@@ -174,7 +154,7 @@ module _ (L : Limits) (words : ℕ) (t table : List ℕ) where
     pub room : rowWords * n ≤ words
     pub filled-by : Filled L t table n tree
 
-  tabled : (f : Forest) (to : ℕ) → table ≡ tableOf words (wholeOf L words t) → wholeOf L words t ≡ good f to → Tabled (size f)
+  tabled : (f : Forest) (to : ℕ) → table ≡ tableOf words (wholeOf L words t) → wholeOf L words t ≡ good f to → AcceptedWhole (size f)
   tabled f to is w =
       let fits = whole-good L words t f to w in
       record {
@@ -186,10 +166,10 @@ module _ (L : Limits) (words : ℕ) (t table : List ℕ) where
         filled-by = record { promised = promised L t f to (fits .read); stands = table-stands words f to (is ∙ ap (tableOf words) w) };
       }
 
-  pub rows-tree : (n : ℕ) → Reads L words t (Rows n) table → Tabled n
+  pub rows-tree : (n : ℕ) → Reads L words t (Rows n) table → AcceptedWhole n
   rows-tree n h = go (wholeOf L words t) refl (answer-is (Rows n) (wholeOf L words t) (h .answered))
     where
-      go : (r : Read) → wholeOf L words t ≡ r → Rows n ≡ answerOf (wholeOf L words t) → Tabled n
+      go : (r : Read) → wholeOf L words t ≡ r → Rows n ≡ answerOf (wholeOf L words t) → AcceptedWhole n
       go (good f to) w q =
           let answer : Rows n ≡ Rows (size f) = q ∙ ap answerOf w in
           let same : n ≡ size f = cc in
@@ -200,15 +180,15 @@ module _ (L : Limits) (words : ℕ) (t table : List ℕ) where
           absurd (omega arith)
 
   -- refused: the definition refuses so, and the table is zero
-  pub record Refuses (r : Refusal) : Type 0 where
+  pub record RefusedWhole (r : Refusal) : Type 0 where
     pub whole : wholeOf L words t ≡ bad r
     pub cleared : table ≡ filled words []
 
-  pub refusal-is : (r : Refusal) → Reads L words t (Refused r) table → Refuses r
+  pub refusal-is : (r : Refusal) → Reads L words t (Refused r) table → RefusedWhole r
   unfolding tableOf
   refusal-is r h = go (wholeOf L words t) refl (answer-is (Refused r) (wholeOf L words t) (h .answered))
     where
-      go : (R : Read) → wholeOf L words t ≡ R → Refused r ≡ answerOf (wholeOf L words t) → Refuses r
+      go : (R : Read) → wholeOf L words t ≡ R → Refused r ≡ answerOf (wholeOf L words t) → RefusedWhole r
       go (good f to) w q =
           let answer : Refused r ≡ Rows (size f) = q ∙ ap answerOf w in
           let z : _≡_ {A = ℕ} 0 1 = cc in

@@ -2,7 +2,7 @@
 --     rows-length                    a value takes one row, and those inside it one each
 --     first-row                         the six words of a row are those of the first value
 --     inside, after, alone           what is inside the first value stands from the next row on; what follows it, `below + 1` rows further
---     stands-unique, value-unique    a table says which values stand in it: no two trees stand at one row and end before the same row
+--     stands-unique                  a table says which values stand in it: no two trees stand at one row and end before the same row
 --     filled-stands, table-stands    the table that reading leaves: the tree stands in it from row 0 on
 --     start-at                       the place where a value starts is a word of its row
 --     Going, Keeping and their laws  a walk along the values that stand between two rows, and one that keeps what is known of them
@@ -193,25 +193,6 @@ stands-unique {t} {k} {end} (node b ns ne from to inside1 rest) (node b2 ns2 ne2
     let r = stands-unique rest rest2 (p .1) (q .1) (after f tt h) (rw n at (after g tt i)) in
     cc (a .name-start, c .name-start, a .name-end, c .name-end, a .start, c .start, a .finish, c .finish)
 
-first-kinds : (f : Forest) → Kinds f → Kinds (firstOf f)
-first-kinds none p = tt
-first-kinds (leaf kind ns ne from to rest) p = (p .0, tt)
-first-kinds (node b ns ne from to inside rest) p = (p .0, tt)
-
-pub first-size : (f : Forest) → HasFirst f → size (firstOf f) ≡ 1 + belowAt f
-unfolding size
-first-size none s = absurd s
-first-size (leaf kind ns ne from to rest) s = omega arith
-first-size (node b ns ne from to inside rest) s = omega arith
-
--- and no two values, whatever follows them
-pub value-unique : {t : List ℕ} {k : ℕ} (f g : Forest) → HasFirst f → HasFirst g → Kinds f → Kinds g → Stands t k f → Stands t k g → firstOf f ≡ firstOf g
-value-unique {t} {k} f g p q x y h i =
-    let n : k + size (firstOf g) ≡ k + size (firstOf f) = omega (arith, first-row f p h .below, first-row g q i .below, first-size f p, first-size g q) in
-    stands-unique (firstOf f) (firstOf g) (first-kinds f x) (first-kinds g y)
-    (record { stands = alone f p h; ends = refl })
-    (record { stands = alone g q i; ends = n })
-
 -- ---- the table that reading leaves ----
 
 pub filled-stands : (words : ℕ) (f : Forest) → StandsTo (filled words (rowsOf f)) 0 (size f) f
@@ -296,9 +277,6 @@ module _ {A : Type 0} (t : List ℕ) (from end : ℕ) (f : Forest → A) where
 module _ {A : Type 0} (P : Forest → Type 0) (keep : (ws : Forest) → HasFirst ws → P ws → P (restAt ws)) (t : List ℕ) (from end : ℕ) (f : Forest → A) where
   abbrev pub Keeping : ℕ → Type 0
   Keeping at = (vs : Forest) → P vs → StandsTo t from end vs → (ws : Forest) × P ws × StandsTo t at end ws × (f vs ≡ f ws)
-
-  pub keeps-start : Keeping from
-  keeps-start vs p s = (vs, p, s, refl)
 
   module _ (at : ℕ) (g : Keeping at) where
     pub keeps-here : (vs : Forest) → P vs → StandsTo t from end vs → at < end → (ws : Forest) × HasFirst ws × P ws × StandsTo t at end ws × (f vs ≡ f ws)

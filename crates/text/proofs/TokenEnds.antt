@@ -1,7 +1,7 @@
 -- Where white space, literals, numbers and strings end:
 --     run-on, run-end        a run's own equation: a byte of it, and then the run from the next place on
 --     run-byte, run-span     a byte of a run stands inside the text; a run ends where it starts or later, inside the text
---     skip-span, digits-end  the same for white space and for digits
+--     skip-span              the same for white space
 --     token-span             a token ends after its first byte, inside the text
 -- Assumes nothing.
 use mathlib.Core.Path.{_≡_, refl, subst, _∙_}
@@ -68,9 +68,6 @@ module _ (is : ℕ → Bool) (t : List ℕ) (ends : is 256 ≡ false) where
 module _ (t : List ℕ) where
   pub skip-span : (i : ℕ) → i ≤ length t → Span t i (skip t i)
   skip-span = run-span isSpace t refl
-
-  pub digits-end : (i : ℕ) → isDigit (byteAt t i) ≡ false → digitsEnd t i ≡ i
-  digits-end = run-end isDigit t refl
 
 -- ---- tokens ----
 

@@ -11,21 +11,18 @@ use Rattle.text.specs.Limits.{Limits}
 use Rattle.text.specs.Text.{byteAt}
 use Rattle.text.specs.Spelling.{Spells}
 use Rattle.text.specs.Broken.{Ill}
-use Rattle.text.specs.Tree.{Forest}
-use Rattle.text.specs.Sheet.{numbers, refused}
-use Rattle.text.specs.Reader.{bad}
-use Rattle.text.specs.Whole.{readOf}
+use Rattle.text.specs.Forest.{Forest}
 use Rattle.text.specs.Placed.{Quoted}
 use Rattle.text.specs.Grammar.{JsonText, rootOf}
 use Rattle.text.specs.Seats.{Head, Seat, top, Sits, Named}
-use Rattle.text.specs.declared.Refusal.{Refusal}
 
 -- some text of the grammar begins with the first p bytes
 pub record Begins (t : List ℕ) (p : ℕ) : Type 0 where
   pub rest : List ℕ
   pub is : JsonText (take p t ++ rest)
 
--- 2: the first p bytes begin a text of the grammar; the first p + 1 begin none, or the text is over and is none
+-- 2: it is not RFC 8259's grammar; the place is the first byte that can't continue, or the text's length where it ends early.
+-- So the first p bytes begin a text of the grammar; the first p + 1 begin none, or the text is over and is none
 pub record NotGrammar (t : List ℕ) (p : ℕ) : Type 0 where
   pub within : p ≤ length t
   pub begins : Begins t p
@@ -39,16 +36,17 @@ pub data StringAt (h : Head) : (j : ℕ) → Type 0 where
 
 -- the value h, which stands at the seat d, breaks one of the rules 3 to 6 at a place
 pub data ValueBreaks (L : Limits) (t : List ℕ) (d : Seat) (h : Head) : (number place : ℕ) → Type 0 where
-  -- in a string that opens at j, behind characters that are spelled: bytes that aim at a character and spell none
-  character : {j p : ℕ} {codes : List ℕ} → StringAt h j → byteAt t j ≡ 34 → j < p → Spells (partOf t (j + 1) p) codes → Ill (drop p t)
+  -- 3: ill-formed UTF-8, a lone surrogate or a noncharacter; the place is the first byte of that sequence or escape.
+  -- So in a string that opens at j, behind characters that are spelled: bytes that aim at a character and spell none
+  character : {j p : ℕ} {codes : List ℕ} → StringAt h j → byteAt t j ≡ 0x22 → j < p → Spells (partOf t (j + 1) p) codes → Ill (drop p t)
       → ValueBreaks L t d h 3 p
-  -- a name, closed, that spells what the name of a member before it in its object spells; it counts whatever follows it. The other name spells too:
-  -- one that does not breaks 3 at a smaller place, which comes first
+  -- 4: the object has a member of that name already, compared decoded; the place is the opening quote of the later name.
+  -- The name is closed, and counts whatever follows it. The other name spells too: one that does not breaks 3 at a smaller place, which comes first
   repeated : {p e : ℕ} {codes : List ℕ} → L .unique ≡ true → h .ns ≡ p + 1 → Quoted t (p + 1) e → Spells (partOf t (p + 1) e) codes → Named t codes (d .beside)
       → ValueBreaks L t d h 4 p
-  -- an array or object inside as many others as may be open at once
+  -- 5: one array or object too many is open; the place is its bracket. So it stands inside as many others as may be open at once
   deep : h .holds ≡ true → d .inside ≡ L .depth → ValueBreaks L t d h 5 (h .from)
-  -- a value after as many others as there may be
+  -- 6: one value too many; the place is its first byte. So it stands after as many others as there may be
   many : d .after ≡ L .values → ValueBreaks L t d h 6 (h .from)
 
 -- some value of the tree f breaks the rule n at p
@@ -65,23 +63,17 @@ pub record Violated (L : Limits) (t : List ℕ) (n p : ℕ) : Type 0 where
   pub is : JsonText (take (p + 1) t ++ rest)
   pub broken : TreeBreaks L t (rootOf is) n p
 
--- a fault of any of 2 to 6
+-- a fault of any of 2 to 6: 2 by the grammar, 3 to 6 by a value
 pub data FaultAt (L : Limits) (t : List ℕ) : (number place : ℕ) → Type 0 where
   grammar : {p : ℕ} → NotGrammar t p → FaultAt L t 2 p
   violated : {n p : ℕ} → Violated L t n p → FaultAt L t n p
 
--- even in each such text a value breaks the rule at p
+-- not only in some text of the grammar that goes on so, but in each, a value breaks the rule at p
 abbrev pub InEach : Limits → List ℕ → (number place : ℕ) → Type 0
 InEach L t n p = (rest : List ℕ) (d : JsonText (take (p + 1) t ++ rest)) → TreeBreaks L t (rootOf d) n p
 
--- the fault of the smallest place, then of the smaller number
+-- of 2 to 6 the sheet takes the smallest place, and at one place the smaller number: there is no fault before p, and at p none of a smaller number
 pub record FirstFault (L : Limits) (t : List ℕ) (n p : ℕ) : Type 0 where
   pub fault : FaultAt L t n p
   pub no-earlier : (m q : ℕ) → FaultAt L t m q → q < p → ⊥
   pub no-smaller : (m : ℕ) → FaultAt L t m p → m < n → ⊥
-
--- reading refuses the text with these two numbers of the sheet
-pub record Refuses (L : Limits) (t : List ℕ) (n p : ℕ) : Type 0 where
-  pub refusal : Refusal
-  pub answer : readOf L t ≡ bad refusal
-  pub sheet : refused refusal ≡ numbers n p 0

@@ -12,7 +12,7 @@ use lib.ListN.{length}
 use Rattle.text.specs.Text.{bytes}
 use Rattle.text.specs.Spelling.{FourDigits, Short}
 use Rattle.text.specs.Abnf.{Byte, Between, Just, Exactly, Seq, Or, Opt, Star}
-use Rattle.text.specs.Tree.{Bracket, square, curly, Forest, none, leaf, node, join}
+use Rattle.text.specs.Forest.{Bracket, square, curly, Forest, none, leaf, node, join}
 
 -- ---- section 2: white space
 

@@ -2,14 +2,14 @@
 use Prim.Native.Nat.{ℕ}
 use mathlib.Core.Path.{_≡_}
 use mathlib.Core.List.{List, [], _∷_, _++_}
-use Rattle.text.specs.Doc.{Name, Doc, scalar, array, object, Members, empty, member}
+use Rattle.text.specs.Document.{Name, Doc, scalar, array, object, Members, empty, member}
 use Rattle.text.specs.Spelling.{Spells, utf8s}
 
 -- what is written says the name: between its quotes it spells code points whose UTF-8 is the name
 pub record Labelled (name : Name) (label : List ℕ) : Type 0 where
   pub inside : List ℕ
   pub codes : List ℕ
-  pub quoted : label ≡ 34 ∷ inside ++ (34 ∷ [])
+  pub quoted : label ≡ 0x22 ∷ inside ++ (0x22 ∷ [])
   pub spells : Spells inside codes
   pub says : name ≡ utf8s codes
 

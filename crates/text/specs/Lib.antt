@@ -1,10 +1,40 @@
--- The definitions in the order in which they are read: none uses a later one. In comments 01 is the rules paper.
+-- What a JSON text means, and then how that is computed. None uses a later one, but for Telling, which says of `contentOf` (Strings) that it is what
+-- a string spells. In comments 01 is the rules paper.
+--
+-- One text walked through: {"a":[1]}, nine bytes; places count from 0.
+--     spelling    the name's inside, from place 2 up to 3, spells one code point, U+0061
+--     grammar     json-text: no white space, the value, no white space. The value: full curly, of one member "a" : value;
+--                 that value: full square, of one element; that element: simple numeral, the digit 1
+--     tree        node curly, no name, 0 to 9; inside it node square, name 2 to 3, 5 to 8; inside that leaf 4 (a number), no name, 6 to 7
+--     seats       the object: inside 0 containers, after 0 values; the array: inside 1, after 1; the number: inside 2, after 2
+--     rows        kind, name start, name end, value start, value end, values below:  7 0 0 0 9 2,  6 2 3 5 8 1,  4 0 0 6 7 0
+--     accepted    depth 2, values 3: with a limit of 1 on the depth the first fault is 5 at place 5, with one of 2 on the values 6 at place 6
+--     a fault     without its last brace the text has the fault 2 at place 8, its length: the eight bytes begin a text, and are none
+--     document    object of member a, written "a", whose value is array of an entry without a name, scalar 4 with the token 1
 
 -- limits and bytes, and the refusal sheet
 pub mod Limits
 pub mod Text
 pub mod Sheet
--- what reading answers: strings, tokens, the tree and its rows, values, whole texts
+-- what a text means, without a reader: characters, the grammar, and the tree of values
+pub mod Utf8
+pub mod Spelling
+pub mod Abnf
+pub mod Forest
+pub mod Grammar
+pub mod Rfc
+-- where values stand, what is accepted, and what is refused
+pub mod Seats
+pub mod Placed
+pub mod Meaning
+pub mod Broken
+pub mod Fault
+-- what a text says
+pub mod Document
+pub mod Distinct
+pub mod Labels
+pub mod Telling
+-- how it is computed: strings, tokens, the rows of a tree, values, whole texts, the document of a text
 pub mod Chars
 pub mod Strings
 pub mod Tokens
@@ -12,24 +42,11 @@ pub mod Tree
 pub mod Reader
 pub mod Whole
 pub mod Fewer
--- what that means, without a reader: strings, the grammar, what is accepted, what is refused
-pub mod Spelling
-pub mod Broken
-pub mod Abnf
-pub mod Grammar
-pub mod Rfc
-pub mod Seats
-pub mod Placed
-pub mod Meaning
-pub mod Fault
--- what the layers above rely on: the rows in a table, documents, the promise
+pub mod Doc
+-- what the layers above rely on: the rows in a table, the first of some values, the promise
 pub mod Standing
 pub mod Firsts
-pub mod Doc
-pub mod Distinct
 pub mod Promised
 -- documents as texts
 pub mod Writing
-pub mod Labels
-pub mod Telling
 pub mod Writable

@@ -8,7 +8,7 @@ use lib.ListN.{length}
 use Rattle.laws.specs.Lists.{partOf}
 use Rattle.text.specs.Limits.{Limits}
 use Rattle.text.specs.Spelling.{Spells}
-use Rattle.text.specs.Tree.{Forest, size}
+use Rattle.text.specs.Forest.{Forest, size}
 use Rattle.text.specs.Placed.{Quoted}
 use Rattle.text.specs.Grammar.{JsonText, rootOf, depthOf}
 use Rattle.text.specs.Seats.{Head, Seat, top, Sits, Named}

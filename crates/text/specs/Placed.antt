@@ -4,15 +4,13 @@
 use Prim.Native.Nat.{ℕ, _+_, _-_, _≤_, _<_}
 use mathlib.Core.Path.{_≡_}
 use mathlib.Core.List.{List}
-use mathlib.Core.Bool.{Bool, true, cond}
 use lib.ListN.{length}
-use lib.Dec.{eqb}
 use Rattle.laws.specs.Lists.{partOf}
 use Rattle.text.specs.Text.{byteAt, bytes}
 use Rattle.text.specs.Spelling.{Spells}
-use Rattle.text.specs.Tokens.{isDigit, kindBy}
-use Rattle.text.specs.Tree.{Bracket, square, curly, bracketKind, Forest, none, leaf, node}
-use Rattle.text.specs.Grammar.{closing}
+use Rattle.text.specs.Abnf.{Between}
+use Rattle.text.specs.Forest.{Bracket, square, curly, bracketKind, Forest, none, leaf, node}
+use Rattle.text.specs.Grammar.{Number, opening, closing}
 
 -- ---- strings and names
 
@@ -21,8 +19,8 @@ pub record Quoted (t : List ℕ) (i e : ℕ) : Type 0 where
   pub first : 0 < i
   pub ordered : i ≤ e
   pub inside : e < length t
-  pub opens : byteAt t (i - 1) ≡ 34
-  pub closes : byteAt t e ≡ 34
+  pub opens : byteAt t (i - 1) ≡ 0x22
+  pub closes : byteAt t e ≡ 0x22
   pub codes : List ℕ
   pub spells : Spells (partOf t i e) codes
 
@@ -44,24 +42,25 @@ NameIn t curly from ns ne at = MemberName t from ns ne at
 
 -- ---- values that hold no others
 
--- a byte that a number may have: a digit, a sign, a point, a letter of an exponent
-abbrev pub isNumeric : ℕ → Bool
-isNumeric b = cond (isDigit b) true (cond (eqb b 43) true (cond (eqb b 45) true (cond (eqb b 46) true (cond (eqb b 69) true (eqb b 101)))))
-
--- bytes of a number, the first a digit or a minus; that they keep the grammar is said in Meaning.antt
-pub record Numeral (t : List ℕ) (from to : ℕ) : Type 0 where
-  pub first : cond (isDigit (byteAt t from)) true (eqb (byteAt t from) 45) ≡ true
-  pub each : (i : ℕ) → from ≤ i → i < to → isNumeric (byteAt t i) ≡ true
-
 -- what stands from a place to another, by its kind: 1 null, 2 false, 3 true, 4 a number, 5 a string with its quotes
 pub data TokenIn (t : List ℕ) : (kind from to : ℕ) → Type 0 where
   null : {from to : ℕ} → partOf t from to ≡ bytes "null" → TokenIn t 1 from to
   falsity : {from to : ℕ} → partOf t from to ≡ bytes "false" → TokenIn t 2 from to
   truth : {from to : ℕ} → partOf t from to ≡ bytes "true" → TokenIn t 3 from to
-  number : {from to : ℕ} → Numeral t from to → TokenIn t 4 from to
+  number : {from to : ℕ} → Number (partOf t from to) → TokenIn t 4 from to
   string : {from to : ℕ} → Quoted t (from + 1) (to - 1) → TokenIn t 5 from to
 
 -- ---- values
+
+-- the first byte of a value of a kind: n, f and t of the three words, a minus or a digit, a quote, a bracket or a brace
+pub data FirstByte : (kind byte : ℕ) → Type 0 where
+  null : FirstByte 1 0x6E
+  falsity : FirstByte 2 0x66
+  truth : FirstByte 3 0x74
+  minus : FirstByte 4 0x2D
+  digit : {x : ℕ} → Between 0x30 0x39 x → FirstByte 4 x
+  quote : FirstByte 5 0x22
+  bracket : (b : Bracket) → FirstByte (bracketKind b) (opening b)
 
 -- A value of a kind in a container of such a bracket, with its name's places and its own: it starts at or after `from`, it is not empty, it is inside
 -- the text, and its first byte begins its kind.
@@ -70,7 +69,7 @@ pub record Spot (t : List ℕ) (b : Bracket) (from kind ns ne at end : ℕ) : Ty
   pub start : from ≤ at
   pub some : at < end
   pub inside : end ≤ length t
-  pub begins : kindBy (byteAt t at) ≡ kind
+  pub begins : FirstByte kind (byteAt t at)
 
 -- From `from` up to `to` stand these values, as the items of a container of such a bracket.
 pub data Placed (t : List ℕ) : Bracket → Forest → (from to : ℕ) → Type 0 where

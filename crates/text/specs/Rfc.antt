@@ -7,7 +7,7 @@
 -- Assumes nothing: these are definitions.
 use Prim.Native.Nat.{ℕ}
 use mathlib.Core.List.{List, [], _∷_, _++_}
-use Rattle.text.specs.Tree.{Bracket, square, curly}
+use Rattle.text.specs.Forest.{Bracket, square, curly}
 use Rattle.text.specs.Grammar.{Ws, JsonString, Simple, IsSimple, opening, Part, value, item, items, closing}
 
 -- a structural character c with the white space a before it and b after it, and then w

@@ -5,7 +5,7 @@ use mathlib.Core.List.{List}
 use mathlib.Core.Bool.{Bool, true, false}
 use Rattle.laws.specs.Lists.{partOf}
 use Rattle.text.specs.Spelling.{Spells}
-use Rattle.text.specs.Tree.{Bracket, bracketKind, Forest, none, leaf, node, size, join}
+use Rattle.text.specs.Forest.{Bracket, bracketKind, Forest, none, leaf, node, size, join}
 
 -- a value without what is inside it: may it hold others (is it an array or an object)? and the six words of its row
 pub record Head : Type 0 where

@@ -5,7 +5,7 @@ use Prim.Native.Nat.{ℕ, _+_, _*_, _%_, _≤_, _<_}
 use mathlib.Core.Path.{_≡_}
 use mathlib.Core.List.{List, [], _∷_, _++_}
 use mathlib.Core.Logic.{_⊎_}
-use Rattle.text.specs.Strings.{utf8}
+use Rattle.text.specs.Utf8.{utf8}
 
 -- a Unicode scalar value: at most U+10FFFF, and no surrogate
 pub record UnicodeScalar (c : ℕ) : Type 0 where
@@ -24,39 +24,39 @@ pub record Good (c : ℕ) : Type 0 where
 
 -- what may stand raw: no control, no quote, no backslash
 pub record Bare (c : ℕ) : Type 0 where
-  pub no-control : 32 ≤ c
-  pub no-quote : c ≡ 34 → ⊥
-  pub no-backslash : c ≡ 92 → ⊥
+  pub no-control : 0x20 ≤ c
+  pub no-quote : c ≡ 0x22 → ⊥
+  pub no-backslash : c ≡ 0x5C → ⊥
 
--- a hexadecimal digit and its value; small and capital letters are the same
+-- a hexadecimal digit and its value: 0 to 9 are %x30-39; A to F are %x41-46 and a to f %x61-66, so 0x37 and 0x57 stand ten below them
 pub data HexDigit : (byte value : ℕ) → Type 0 where
-  decimal : {v : ℕ} → v < 10 → HexDigit (48 + v) v
-  capital : {v : ℕ} → 10 ≤ v → v < 16 → HexDigit (55 + v) v
-  small : {v : ℕ} → 10 ≤ v → v < 16 → HexDigit (87 + v) v
+  decimal : {v : ℕ} → v < 10 → HexDigit (0x30 + v) v
+  capital : {v : ℕ} → 10 ≤ v → v < 16 → HexDigit (0x37 + v) v
+  small : {v : ℕ} → 10 ≤ v → v < 16 → HexDigit (0x57 + v) v
 
 -- four of them, the first the highest
 pub data FourDigits : List ℕ → (value : ℕ) → Type 0 where
   four : {a b c d w x y z : ℕ} → HexDigit a w → HexDigit b x → HexDigit c y → HexDigit d z
-      → FourDigits (a ∷ b ∷ c ∷ d ∷ []) (w * 4096 + x * 256 + y * 16 + z)
+      → FourDigits (a ∷ b ∷ c ∷ d ∷ []) (w * 0x1000 + x * 0x100 + y * 0x10 + z)
 
--- the letter after the backslash of a short escape, and the character that it stands for
+-- the letter after the backslash of a short escape (" \ / b f n r t), and the character that it stands for
 pub data Short : (letter code : ℕ) → Type 0 where
-  quote : Short 34 34
-  backslash : Short 92 92
-  slash : Short 47 47
-  backspace : Short 98 8
-  form-feed : Short 102 12
-  line-feed : Short 110 10
-  carriage-return : Short 114 13
-  tab : Short 116 9
+  quote : Short 0x22 0x22
+  backslash : Short 0x5C 0x5C
+  slash : Short 0x2F 0x2F
+  backspace : Short 0x62 0x08
+  form-feed : Short 0x66 0x0C
+  line-feed : Short 0x6E 0x0A
+  carriage-return : Short 0x72 0x0D
+  tab : Short 0x74 0x09
 
 -- a character and the bytes that spell it: itself in UTF-8, a short escape, \u and four digits, or a surrogate pair of two such escapes
 pub data Spell : List ℕ → (code : ℕ) → Type 0 where
   raw : {c : ℕ} → Good c → Bare c → Spell (utf8 c) c
-  short : {b c : ℕ} → Short b c → Spell (92 ∷ b ∷ []) c
-  unit : {w : List ℕ} {c : ℕ} → Good c → FourDigits w c → Spell (92 ∷ 117 ∷ w) c
+  short : {b c : ℕ} → Short b c → Spell (0x5C ∷ b ∷ []) c
+  unit : {w : List ℕ} {c : ℕ} → Good c → FourDigits w c → Spell (0x5C ∷ 0x75 ∷ w) c
   pair : {v w : List ℕ} {h l : ℕ} → FourDigits v (0xD800 + h) → h < 0x400 → FourDigits w (0xDC00 + l) → l < 0x400
-      → Good (0x10000 + h * 0x400 + l) → Spell (92 ∷ 117 ∷ v ++ 92 ∷ 117 ∷ w) (0x10000 + h * 0x400 + l)
+      → Good (0x10000 + h * 0x400 + l) → Spell (0x5C ∷ 0x75 ∷ v ++ 0x5C ∷ 0x75 ∷ w) (0x10000 + h * 0x400 + l)
 
 -- a list of characters and the bytes that spell it
 pub data Spells : List ℕ → List ℕ → Type 0 where
@@ -67,12 +67,3 @@ pub data Spells : List ℕ → List ℕ → Type 0 where
 unfoldable pub utf8s : List ℕ → List ℕ
 utf8s [] = []
 utf8s (c ∷ cs) = utf8 c ++ utf8s cs
-
--- UTF-8 by its table (RFC 3629, section 3): a code point and its bytes, each with the bits that it carries; no sequence is longer than it must be
-pub data Utf8 : (code : ℕ) → List ℕ → Type 0 where
-  one-byte : {c : ℕ} → c < 0x80 → Utf8 c (c ∷ [])
-  two-bytes : {x y : ℕ} → x < 0x20 → y < 0x40 → 0x80 ≤ x * 0x40 + y → Utf8 (x * 0x40 + y) ((0xC0 + x) ∷ (0x80 + y) ∷ [])
-  three-bytes : {x y z : ℕ} → x < 0x10 → y < 0x40 → z < 0x40 → 0x800 ≤ x * 0x1000 + y * 0x40 + z
-      → Utf8 (x * 0x1000 + y * 0x40 + z) ((0xE0 + x) ∷ (0x80 + y) ∷ (0x80 + z) ∷ [])
-  four-bytes : {x y z w : ℕ} → x < 0x8 → y < 0x40 → z < 0x40 → w < 0x40 → 0x10000 ≤ x * 0x40000 + y * 0x1000 + z * 0x40 + w
-      → Utf8 (x * 0x40000 + y * 0x1000 + z * 0x40 + w) ((0xF0 + x) ∷ (0x80 + y) ∷ (0x80 + z) ∷ (0x80 + w) ∷ [])

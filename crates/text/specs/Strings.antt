@@ -1,13 +1,14 @@
 -- Where a string ends, and what its bytes decode to.
 -- Assumes nothing: these are definitions.
-use Prim.Native.Nat.{ℕ, _+_, _-_, _/_, _%_}
+use Prim.Native.Nat.{ℕ, _+_, _-_}
 use mathlib.Core.List.{List, [], _∷_, _++_}
 use mathlib.Core.Bool.{cond}
 use lib.ListN.{length}
-use lib.Dec.{ltb, eqb}
+use lib.Dec.{eqb}
 use Rattle.laws.specs.Lists.{partOf}
 use Rattle.text.specs.Text.{byteAt}
 use Rattle.laws.specs.Scan.{scan}
+use Rattle.text.specs.Utf8.{utf8}
 use Rattle.text.specs.Chars.{escapeAt, stepAt}
 use Rattle.text.specs.declared.Step.{Step}
 use Rattle.text.specs.declared.Step.the-variants.{Close, Char, Bad2, Bad3}
@@ -30,24 +31,6 @@ endBody t k i = onStep k i (stepAt t i)
 -- from a place inside a string: the place after its closing quote, or the first refusal
 unfoldable pub stringEnd : List ℕ → ℕ → Token
 stringEnd t i = scan (endBody t) (No2 0) (length t) i
-
--- ---- UTF-8 (RFC 3629)
-
--- the last `left` continuation bytes of a code point; there are at most three
-unfoldable pub conts : ℕ → ℕ → List ℕ
-conts left code =
-    cond (eqb left 0) []
-    (cond (eqb left 1) ((128 + code % 64) ∷ [])
-    (cond (eqb left 2) ((128 + code / 64 % 64) ∷ (128 + code % 64) ∷ [])
-    ((128 + code / 4096 % 64) ∷ (128 + code / 64 % 64) ∷ (128 + code % 64) ∷ [])))
-
--- the bytes of a code point
-unfoldable pub utf8 : ℕ → List ℕ
-utf8 code =
-    cond (ltb code 128) (code ∷ [])
-    (cond (ltb code 2048) ((192 + code / 64 % 32) ∷ conts 1 code)
-    (cond (ltb code 65536) ((224 + code / 4096 % 16) ∷ conts 2 code)
-    ((240 + code / 262144 % 8) ∷ conts 3 code)))
 
 -- ---- decoding (01: names and strings are decoded before use)
 

@@ -5,8 +5,8 @@ use mathlib.Core.Path.{_≡_}
 use mathlib.Core.List.{List, [], _++_}
 use lib.ListN.{length}
 use Rattle.text.specs.Strings.{contentOf}
-use Rattle.text.specs.Tree.{square, curly, Forest, none, leaf, node}
-use Rattle.text.specs.Doc.{Name, Doc, scalar, array, object, Members, empty, member}
+use Rattle.text.specs.Forest.{square, curly, Forest, none, leaf, node}
+use Rattle.text.specs.Document.{Name, Doc, scalar, array, object, Members, empty, member}
 use Rattle.text.specs.Labels.{Labelled}
 
 -- the bytes of a text from one place up to another

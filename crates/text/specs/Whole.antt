@@ -13,6 +13,7 @@ use Rattle.text.specs.Tree.{size, treeRows}
 use Rattle.text.specs.Reader.{Read, good, bad, valueAt}
 use Rattle.text.specs.declared.Paper.{Paper}
 use Rattle.text.specs.Sheet.{numbers, refused, paper}
+use Rattle.text.specs.declared.Refusal.{Refusal}
 use Rattle.text.specs.declared.Refusal.the-variants.{TooLong, Grammar, Small}
 use Rattle.text.specs.declared.Reading.{Reading}
 
@@ -26,6 +27,12 @@ unfoldable pub readOf : Limits → List ℕ → Read
 readOf L t =
     let all = endOf t (valueAt L t (L .depth) 0 0 (skip t 0) 0) in
     cond (ltb (L .bytes) (length t)) (bad TooLong) all
+
+-- reading refuses the text with these two numbers of the sheet
+pub record Refuses (L : Limits) (t : List ℕ) (n p : ℕ) : Type 0 where
+  pub refusal : Refusal
+  pub answer : readOf L t ≡ bad refusal
+  pub sheet : refused refusal ≡ numbers n p 0
 
 -- 7, after all others: the table has fewer whole rows than the text has values
 unfoldable pub fitOf : (words : ℕ) → Read → Read

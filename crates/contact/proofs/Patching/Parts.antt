@@ -8,7 +8,7 @@ use lib.Dec.{eqb}
 use borrow.Author.Tests.{eqb-true, eqb-false, ne-eqb}
 use Rattle.laws.proofs.Bools.{byTest}
 use Rattle.text.specs.Doc.{Name}
-use Rattle.text.specs.Strings.{utf8}
+use Rattle.text.specs.Utf8.{utf8}
 use Rattle.text.specs.Spelling.{Good, utf8s}
 use Rattle.text.specs.Writing.{spelled}
 use Rattle.text.specs.Labels.{Labelled}

@@ -22,13 +22,13 @@ use Rattle.text.specs.Meaning.{Accepts}
 use Rattle.text.specs.declared.Token.the-variants.{End}
 use Rattle.text.specs.declared.Refusal.{Refusal}
 use Rattle.text.proofs.Induction.{read-accepted}
-use Rattle.text.proofs.Grammar.Exact.{Past}
+use Rattle.text.proofs.Grammar.Exact.{PastPlace}
 use Rattle.text.proofs.Grammar.Quotes.{quotedAt}
 use Rattle.text.proofs.Grammar.Trees.{in-deep, in-few}
 use Rattle.text.proofs.Grammar.Sound.{Parsed, placeOf}
 use Rattle.text.proofs.Grammar.Told.{three-end}
 use Rattle.text.proofs.Grammar.Wrong.{Wrong, string, name, again, deep, many, Kept}
-use Rattle.text.proofs.Grammar.Meets.{Numbered, Near, read, broken}
+use Rattle.text.proofs.Grammar.Meets.{Numbered, NearAnswer, read, broken}
 use Rattle.text.proofs.Grammar.Rules.{quoted-end, sane-string, sane-name, sane-new}
 use Rattle.text.proofs.Grammar.Wholes.{root, root-told, root-within, self, read-inside, read-text}
 
@@ -81,8 +81,8 @@ module _ (L : Limits) (t : List ℕ) where
   pub answered : (d : JsonText t) → Answered (rootOf d) (root L t)
   answered d = let m = self L t (root L t) refl d in go (root L t) (root-within L t) (m .end) (m .is) (m .ends)
     where
-      go : (R : Read) → placeOf R ≤ length t → (end : ℕ) → Near L t (length t + 1) top (rootOf d) end R
-          → (end ≤ length t → (skip t end ≡ length t) ⊎ Past (length t + 1) (length t) (skip t end)) → Answered (rootOf d) R
+      go : (R : Read) → placeOf R ≤ length t → (end : ℕ) → NearAnswer L t (length t + 1) top (rootOf d) end R
+          → (end ≤ length t → (skip t end ≡ length t) ⊎ PastPlace (length t + 1) (length t) (skip t end)) → Answered (rootOf d) R
       go R i end read o = ended end (⊎-elim (λ u. u) (λ u. absurd (omega (arith, u .word))) (o i))
       go R i end (broken j w n) o = stopped j w n
 

@@ -93,14 +93,14 @@ from-rfc (RfcText.json-text {s} {w} {r} p d q) =
     rw e at (json-text (star-join p (h .space-before)) (h .is) (star-join (h .space-behind) q))
 
 -- and the other way: what is left over is white space behind the part
-record Bare (a : Part) (w : List ℕ) : Type 0 where
+record SpaceBehind (a : Part) (w : List ℕ) : Type 0 where
   core : List ℕ
   behind : List ℕ
   is : Rfc a core
   space-behind : Ws behind
   all : w ≡ core ++ behind
 
-bare : {a : Part} {w : List ℕ} → Is a w → Bare a w
+bare : {a : Part} {w : List ℕ} → Is a w → SpaceBehind a w
 bare (simple {w} k l) = record { core = w; behind = []; is = Rfc.simple k l; space-behind = Star.none; all = sym (append-nil w) }
 bare (empty {s} k p) =
     record {

@@ -23,17 +23,17 @@ use Rattle.text.specs.declared.Token.the-variants.{End, No2, No3}
 use Rattle.text.specs.declared.Refusal.{Refusal}
 use Rattle.text.specs.declared.Refusal.the-variants.{Deep, Character, Repeated}
 use Rattle.text.proofs.Grammar.Stands.{clash, Like, stands-inside, like-tail, like-skip, like-here}
-use Rattle.text.proofs.Grammar.Exact.{Past, Said, Goes}
+use Rattle.text.proofs.Grammar.Exact.{PastPlace, TokenSays, TokenFollows}
 use Rattle.text.proofs.Grammar.Quotes.{quotedAt, bad-later, string-exact}
 use Rattle.text.proofs.Grammar.Words.{Behind, close, comma as a-comma, simple-first, simple-opens, token-simple, kind-text, skip-follow, skip-inside}
 use Rattle.text.proofs.Grammar.Trees.{Either-of, first, later, in-join, in-none}
-use Rattle.text.proofs.Grammar.Names.{Names, names-join, known-named}
+use Rattle.text.proofs.Grammar.Names.{NamesSpell, names-join, known-named}
 use Rattle.text.proofs.Grammar.Wrong.{rank, Wrong, string, name, again, many, no-string}
 use Rattle.text.proofs.Grammar.Wrong as W
 use Rattle.text.proofs.Grammar.Sound.{placeOf, byte-opening, glue-end}
 use Rattle.text.proofs.Grammar.Told.{itemAt, quote-first, item-names, no-two, no-end, three-end, same-three}
 use Rattle.text.proofs.Grammar.Within.{item-within}
-use Rattle.text.proofs.Grammar.Meets.{numberOf, numbered-has, Reads, past, same, wrong, high-closing, first as lead-first, space-behind}
+use Rattle.text.proofs.Grammar.Meets.{numberOf, numbered-has, MeetsNew, past, same, wrong, high-closing, first as lead-first, space-behind}
 use Rattle.text.proofs.Grammar.Follow.{opens-deep, opens, counts-at, skip-like, skip-stuck, turn, follow}
 use Rattle.text.proofs.Grammar.Low.{Name-wrong, spelled, known, Whence, by-name, within, low}
 use Rattle.text.proofs.Grammar.Rules.{wrong-number}
@@ -144,7 +144,7 @@ module _ (L : Limits) (t : List ℕ) (q : ℕ) where
   -- something wrong behind an item and a comma
   module _ (b : Bracket) (c : Seat) (more : Forest → ℕ → Read) (m x : ℕ) (lt : x < q) where
     comma-time : {T : Forest} {to : ℕ} {s r : List ℕ} (w : List ℕ) {R : Read} → to + length s + 1 + length r ≤ x → placeOf R ≤ length t → Ws s → Ws r → isSpace (byteAt w 0) ≡ false
-        → Like t q to (s ++ 44 ∷ (r ++ w)) → Reads L t q c T to R
+        → Like t q to (s ++ 44 ∷ (r ++ w)) → MeetsNew L t q c T to R
         → ((y : ℕ) → y ≡ to + length s + 1 + length r → y ≤ length t → c .after + size T ≤ L .values → R ≡ good T to → In-time m x (more T y))
         → In-time m x (afterItem t (closing b) (c .beside) more R)
     unfolding afterItem
@@ -174,7 +174,7 @@ module _ (L : Limits) (t : List ℕ) (q : ℕ) where
     begin = at + length v + length s + 1 + length r
 
     colon-time : (m x : ℕ) → begin ≤ x → x < q → (begin ≤ length t → In-time m x (valueAt L t depth (at + 1) (at + length v - 1) begin (c .after)))
-        → (end : ℕ) → end ≤ length t → (end ≡ at + length v) ⊎ Past q (at + length v) end → In-time m x (colonAt t (valueAt L t depth) at end (c .after))
+        → (end : ℕ) → end ≤ length t → (end ≡ at + length v) ⊎ PastPlace q (at + length v) end → In-time m x (colonAt t (valueAt L t depth) at end (c .after))
     unfolding colonAt
     colon-time m x far lt g end j (inr u) = absurd (omega (arith, u .word))
     colon-time m x far lt g end j (inl e) =
@@ -211,7 +211,7 @@ module _ (L : Limits) (t : List ℕ) (q : ℕ) where
           clash (named t (nameOf t (at + 1) (a - 1)) (c .beside)) (known-named t (rw (l, l₂) at n)) (new b)
 
       new-time : (e : Seat) (f : Head) (m x : ℕ) → Sits c (treeOf d (at + 1) (at + length v - 1) begin) e f → Wrong L t e f m x → x < q → a ≤ length t
-          → (a ≡ at + length v) ⊎ Past q (at + length v) a
+          → (a ≡ at + length v) ⊎ PastPlace q (at + length v) a
           → Good-names (c .beside) (at + 1) → (begin ≤ length t → Calm c (treeOf d (at + 1) (at + length v - 1) begin) (valueAt L t depth (at + 1) (at + length v - 1) begin (c .after)))
           → Whence L t (c .beside) (at + 1) begin m x → In-time m x (colonAt t (valueAt L t depth) at a (c .after))
       new-time e f m x j y lt n u names g (by-name b) = absurd (names m x b lt)
@@ -221,7 +221,7 @@ module _ (L : Limits) (t : List ℕ) (q : ℕ) where
     member-time : (Good-names (c .beside) (at + 1) → begin ≤ length t → Calm c (treeOf d (at + 1) (at + length v - 1) begin)
         (valueAt L t depth (at + 1) (at + length v - 1) begin (c .after)))
         → (e : Seat) (f : Head) (m x : ℕ) → Sits c (treeOf d (at + 1) (at + length v - 1) begin) e f → Wrong L t e f m x → x < q
-        → (key : Token) → quotedAt t at ≡ key → Said t JsonString at key → Goes q (at + length v) key → Whence L t (c .beside) (at + 1) begin m x
+        → (key : Token) → quotedAt t at ≡ key → TokenSays t JsonString at key → TokenFollows q (at + length v) key → Whence L t (c .beside) (at + 1) begin m x
         → In-time m x (memberWith L t (valueAt L t depth) (c .beside) at (c .after) key)
     unfolding memberWith
     member-time g e f m x j y lt (No2 a) k n u (by-name (spelled b o₂ z₂)) = let l : b ≡ at = omega arith in no-two k (rw l at z₂)
@@ -242,7 +242,7 @@ module _ (L : Limits) (t : List ℕ) (q : ℕ) where
 comma-calm : (L : Limits) (t : List ℕ) (q : ℕ) (b : Bracket) (depth turns : ℕ) (c : Seat) (at : ℕ) (s r w : List ℕ) (to : ℕ) (T S : Forest)
     → c .inside + depth ≡ L .depth → length t < turns + at → at ≤ length t → Ws s → Ws r → isSpace (byteAt w 0) ≡ false → Like t q to (s ++ 44 ∷ (r ++ w))
     → ((e : Seat) (h : Head) (m x : ℕ) → Sits (behind c T) S e h → Wrong L t e h m x → to + length s + 1 + length r ≤ x)
-    → Calm L t q c T (itemAt L t depth b (c .beside) at (c .after)) → Reads L t q c T to (itemAt L t depth b (c .beside) at (c .after))
+    → Calm L t q c T (itemAt L t depth b (c .beside) at (c .after)) → MeetsNew L t q c T to (itemAt L t depth b (c .beside) at (c .after))
     → ((left y : ℕ) → length t < suc left + at → y ≡ to + length s + 1 + length r → y ≤ length t → c .after + size T ≤ L .values
     → itemAt L t depth b (c .beside) at (c .after) ≡ good T to → Calm L t q (behind c T) S (itemsFrom t (itemAt L t depth b) (closing b) left y (c .after + size T) (join (c .beside) T)))
     → Calm L t q c (join T S) (itemsFrom t (itemAt L t depth b) (closing b) turns at (c .after) (c .beside))
@@ -268,7 +268,7 @@ Calms L t q (item b) w d =
     → Calm L t q c (treeOf d 0 0 at) (itemAt L t depth b (c .beside) at (c .after))
 Calms L t q (items b) w d =
     (r : List ℕ) (depth turns : ℕ) (c : Seat) (at : ℕ) → c .inside + depth ≡ L .depth → c .after ≤ L .values → length t < turns + at → at ≤ length t → Like t q at (w ++ closing b ∷ r)
-    → Names t (c .beside) → Calm L t q c (treeOf d 0 0 at) (itemsFrom t (itemAt L t depth b) (closing b) turns at (c .after) (c .beside))
+    → NamesSpell t (c .beside) → Calm L t q c (treeOf d 0 0 at) (itemsFrom t (itemAt L t depth b) (closing b) turns at (c .after) (c .beside))
 
 -- a value without a name has no wrong one
 pub no-names : (L : Limits) (t : List ℕ) (q : ℕ) (before : Forest) → Good-names L t q before 0
@@ -293,7 +293,7 @@ calm L t q (full {s} {w} b p d) = λ z o depth c ns ne at room few i h g.
     container-calm L t q b (treeOf d 0 0 (at + 1 + length s)) (at + length s + length w + 2) c ns ne at g (like-here h)
     (λ e y m x j v. omega (arith, low L t d (under c) e y m x (at + 1 + length s) j v)) (λ e y m x j v. low L t (full b p d) c e y m x ns ne at j v)
     (λ depth r j m. inside-calm L t q b depth c d z at (omega arith) p l
-    (λ k. calm L t q d z depth (suc (length t)) (under c) (at + 1 + length s) r (omega arith) (omega arith) k (like-skip s l) Names.no-more)) depth room
+    (λ k. calm L t q d z depth (suc (length t)) (under c) (at + 1 + length s) r (omega arith) (omega arith) k (like-skip s l) NamesSpell.no-more)) depth room
 calm L t q (element d) = λ s o depth c at room few i h. calm L t q d s o depth c 0 0 at room few i h (no-names L t q (c .beside))
 calm L t q (member {m = v} {s} {r} {w} g p o d) = λ z b depth c at room few i h.
     let l = rw (glue-end 58 v s r w z) at h in

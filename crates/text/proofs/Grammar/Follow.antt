@@ -21,18 +21,18 @@ use Rattle.text.specs.Seats.{Seat, under, behind, Sits}
 use Rattle.text.specs.declared.Token.{Token}
 use Rattle.text.specs.declared.Token.the-variants.{End, No2, No3}
 use Rattle.text.proofs.Grammar.Stands.{by-order, Like, stands-inside, like-none, like-tail, like-skip, like-here}
-use Rattle.text.proofs.Grammar.Exact.{Said, Past, Goes}
+use Rattle.text.proofs.Grammar.Exact.{TokenSays, PastPlace, TokenFollows}
 use Rattle.text.proofs.Grammar.Quotes.{quotedAt, string-exact}
 use Rattle.text.proofs.Grammar.Words.{Behind, close, comma as a-comma, simpleOf, simple-exact, simple-first, simple-opens, token-simple, kind-text, kind-way, skip-follow, skip-later, skip-inside}
 use Rattle.text.proofs.Grammar.Trees.{join-none, in-left}
-use Rattle.text.proofs.Grammar.Names.{Names, names-join, named-known}
+use Rattle.text.proofs.Grammar.Names.{NamesSpell, names-join, named-known}
 use Rattle.text.proofs.Grammar.Wrong.{Wrong, string, name, again, many}
 use Rattle.text.proofs.Grammar.Wrong as W
 use Rattle.text.proofs.Grammar.Sound.{placeOf, byte-opening, glued, glue-end}
 use Rattle.text.proofs.Grammar.Told.{itemAt, quote-first, item-names}
 use Rattle.text.proofs.Grammar.Rules.{end-quoted}
 use Rattle.text.proofs.Grammar.Within.{value-later, item-within, items-later}
-use Rattle.text.proofs.Grammar.Meets.{simple-long, third, fourth, fifth, sixth, Meets, past, same, wrong, Reads, meets-close, meets-join, firstly, dark-closing, high-closing, first, space-behind, length-glued, three-text}
+use Rattle.text.proofs.Grammar.Meets.{simple-long, third, fourth, fifth, sixth, Meets, past, same, wrong, MeetsNew, meets-close, meets-join, firstly, dark-closing, high-closing, first, space-behind, length-glued, three-text}
 
 module _ (L : Limits) (t : List ℕ) where
   -- ---- the value at a first byte ----
@@ -62,15 +62,15 @@ module _ (L : Limits) (t : List ℕ) where
 
     scalar-follow : (w : List ℕ) (k : Simple) (s : List ℕ) (c : Seat) (ns ne at : ℕ) → c .after ≤ L .values → at ≤ length t → at < q → IsSimple k w → Behind (byteAt s 0)
         → Like t q at (w ++ s)
-        → Reads L t q c (leaf (simpleKind k) ns ne at (at + length w) none) (at + length w) (scalarAt L t (simpleKind k) ns ne at (c .after))
+        → MeetsNew L t q c (leaf (simpleKind k) ns ne at (at + length w) none) (at + length w) (scalarAt L t (simpleKind k) ns ne at (c .after))
     unfolding scalarAt scalarWith size
     scalar-follow w k s c ns ne at few i b l o h =
-        if-most (Reads L t q c (leaf (simpleKind k) ns ne at (at + length w) none) (at + length w)) (L .values) (c .after)
+        if-most (MeetsNew L t q c (leaf (simpleKind k) ns ne at (at + length w) none) (at + length w)) (L .values) (c .after)
         (λ m. wrong Sits.leaf-here (many (omega arith)) sixth (inr (omega (arith, simple-long k w l))))
         (λ m. rw (token-simple t k at (rw (like-here h b) (simple-opens k w s l))) (go m (simpleOf t k at) refl (simple-exact t k .follow q at w s i l o h)))
       where
-        go : c .after < L .values → (key : Token) → simpleOf t k at ≡ key → Goes q (at + length w) key
-            → Reads L t q c (leaf (simpleKind k) ns ne at (at + length w) none) (at + length w) (scalarWith (simpleKind k) ns ne at key)
+        go : c .after < L .values → (key : Token) → simpleOf t k at ≡ key → TokenFollows q (at + length w) key
+            → MeetsNew L t q c (leaf (simpleKind k) ns ne at (at + length w) none) (at + length w) (scalarWith (simpleKind k) ns ne at key)
         go m (End to) e (inl u) = rw u (same (omega arith))
         go m (End to) e (inr u) = past (u .word) (u .answer)
         go m (No2 x) e u = past (u .word) (u .answer)
@@ -79,9 +79,9 @@ module _ (L : Limits) (t : List ℕ) where
     -- ---- a container, from what is inside it ----
 
     container-follow : (b : Bracket) (f : Forest) (to : ℕ) (c : Seat) (ns ne at : ℕ) → at < to → c .after ≤ L .values → at ≤ length t → (at < q → byteAt t at ≡ opening b)
-        → ((depth : ℕ) → c .inside + 1 + depth ≡ L .depth → at + 1 ≤ length t → c .after < L .values → Reads L t q (under c) f to
+        → ((depth : ℕ) → c .inside + 1 + depth ≡ L .depth → at + 1 ≤ length t → c .after < L .values → MeetsNew L t q (under c) f to
         (insideOf t (itemAt L t depth b) (closing b) (at + 1) (c .after + 1)))
-        → (depth : ℕ) → c .inside + depth ≡ L .depth → Reads L t q c (node b ns ne at to f none) to (valueAt L t depth ns ne at (c .after))
+        → (depth : ℕ) → c .inside + depth ≡ L .depth → MeetsNew L t q c (node b ns ne at to f none) to (valueAt L t depth ns ne at (c .after))
     unfolding container deep
     container-follow b f to c ns ne at far few i e g zero room =
         by-order at q (λ l. rw (opens-deep b ns ne at (c .after) (e l)) (wrong Sits.node-here (W.Wrong.deep refl (omega arith)) fifth (inr far)))
@@ -91,7 +91,7 @@ module _ (L : Limits) (t : List ℕ) where
         (λ l.
         let j = inside t at (rw (e l) (byte-opening b)) in
         rw (opens b depth ns ne at (c .after) (e l))
-        (if-most (Reads L t q c (node b ns ne at to f none) to) (L .values) (c .after)
+        (if-most (MeetsNew L t q c (node b ns ne at to f none) to) (L .values) (c .after)
         (λ m. wrong Sits.node-here (many (omega arith)) sixth (inr far))
         (λ m. meets-close L t q b ns ne at (g depth (omega arith) (omega arith) m))))
         (λ l. past (omega arith) (omega (arith, value-later L t (suc depth) ns ne at (c .after) i)))
@@ -103,7 +103,7 @@ module _ (L : Limits) (t : List ℕ) where
 
     -- another byte behind it
     pub skip-stuck : {at : ℕ} {s : List ℕ} (l : List ℕ) → at ≤ length t → Ws s → isSpace (byteAt l 0) ≡ false → Like t q at (s ++ l) → (byteAt t (skip t at) ≡ byteAt l 0 → ⊥)
-        → Past q (at + length s) (skip t at)
+        → PastPlace q (at + length s) (skip t at)
     skip-stuck {at} {s} l i c o h n =
         ⊎-elim
         (λ (e : skip t at ≡ at + length s). by-order (at + length s) q (λ k. absurd (n (rw e (like-here (like-skip s h) k)))) (λ k. record { word = k; answer = omega arith }))
@@ -113,11 +113,11 @@ module _ (L : Limits) (t : List ℕ) where
 
     module _ (b : Bracket) (depth : ℕ) (c : Seat) (room : c .inside + 1 + depth ≡ L .depth) (few : c .after < L .values) where
       inside-empty : {s : List ℕ} (r : List ℕ) (at : ℕ) → at + 1 ≤ length t → Ws s → Like t q (at + 1) (s ++ closing b ∷ r)
-          → Reads L t q (under c) none (at + length s + 2) (insideOf t (itemAt L t depth b) (closing b) (at + 1) (c .after + 1))
+          → MeetsNew L t q (under c) none (at + length s + 2) (insideOf t (itemAt L t depth b) (closing b) (at + 1) (c .after + 1))
       unfolding insideOf size
       inside-empty {s} r at i p h =
           let x = skip t (at + 1) in
-          let P = Reads L t q (under c) none (at + length s + 2) in
+          let P = MeetsNew L t q (under c) none (at + length s + 2) in
           if-equal P (byteAt t x) (closing b)
           (λ e. ⊎-elim (λ (u : x ≡ at + 1 + length s). let two : x + 1 ≡ at + length s + 2 = omega arith in rw two (same (omega arith)))
           (λ u. past (omega (arith, u .word)) (omega (arith, u .answer))) (skip-follow t (closing b ∷ r) i p (dark-closing b) h))
@@ -127,13 +127,13 @@ module _ (L : Limits) (t : List ℕ) where
       inside-full : {s w : List ℕ} (d : Is (items b) w) (r : List ℕ) (at : ℕ) (f : Forest) → at + 1 ≤ length t → Ws s → Like t q (at + 1) (s ++ (w ++ closing b ∷ r))
           → ((x : ℕ) → x ≡ at + 1 + length s → x ≤ length t → Meets L t q (under c) (join none f) f (at + 1 + length s + length w + 1)
           (itemsFrom t (itemAt L t depth b) (closing b) (suc (length t)) x (c .after + 1) none))
-          → Reads L t q (under c) f (at + length s + length w + 2) (insideOf t (itemAt L t depth b) (closing b) (at + 1) (c .after + 1))
+          → MeetsNew L t q (under c) f (at + length s + length w + 2) (insideOf t (itemAt L t depth b) (closing b) (at + 1) (c .after + 1))
       unfolding insideOf join
       inside-full {s} {w} d r at f i p h m =
           let x = skip t (at + 1) in
           let two : at + 1 + length s + length w + 1 ≡ at + length s + length w + 2 = omega arith in
           let o = first d (closing b ∷ r) in
-          if-equal (Reads L t q (under c) f (at + length s + length w + 2)) (byteAt t x) (closing b)
+          if-equal (MeetsNew L t q (under c) f (at + length s + length w + 2)) (byteAt t x) (closing b)
           (λ e. let u = skip-stuck (w ++ closing b ∷ r) i p (o .dark) h (λ k. o .apart-from b (sym k ∙ e)) in past (omega (arith, u .word)) (omega (arith, u .answer)))
           (λ e. ⊎-elim (λ u. rw two at (m x u (skip-inside t (at + 1) i))) (λ u. past (omega (arith, u .word))
           (omega (arith, u .answer, items-later L t depth b (suc (length t)) x (c .after + 1) none (skip-inside t (at + 1) i)))) (skip-follow t (w ++ closing b ∷ r) i p (o .dark) h))
@@ -157,7 +157,7 @@ module _ (L : Limits) (t : List ℕ) where
           if-equal (λ R. to ≤ placeOf R) (byteAt t (skip t to)) (closing b) (λ e. omega arith)
           (λ e. if-equal (λ R. to ≤ placeOf R) (byteAt t (skip t to)) 44 (λ k. omega (arith, over f to k)) (λ k. omega arith))
 
-      after-follow : {T G : Forest} (S : Forest) {to x : ℕ} {R : Read} → to ≤ x → placeOf R ≤ length t → Reads L t q c T to R
+      after-follow : {T G : Forest} (S : Forest) {to x : ℕ} {R : Read} → to ≤ x → placeOf R ≤ length t → MeetsNew L t q c T to R
           → (to ≤ length t → c .after + size T ≤ L .values → R ≡ good T to → Meets L t q c G (join T S) x (afterItem t (closing b) (c .beside) more (good T to)))
           → Meets L t q c G (join T S) x (afterItem t (closing b) (c .beside) more R)
       unfolding afterItem
@@ -167,7 +167,7 @@ module _ (L : Limits) (t : List ℕ) where
       after-follow S far i (wrong j w n (inr o)) g = wrong (in-left S j) w n (inr (omega arith))
 
       -- the last item
-      last-follow : {T : Forest} {to : ℕ} {s : List ℕ} (r : List ℕ) {R : Read} → placeOf R ≤ length t → Ws s → Like t q to (s ++ closing b ∷ r) → Reads L t q c T to R
+      last-follow : {T : Forest} {to : ℕ} {s : List ℕ} (r : List ℕ) {R : Read} → placeOf R ≤ length t → Ws s → Like t q to (s ++ closing b ∷ r) → MeetsNew L t q c T to R
           → Meets L t q c (join (c .beside) T) T (to + length s + 1) (afterItem t (closing b) (c .beside) more R)
       unfolding afterItem
       last-follow {T} {to} {s} r {R} i p h m =
@@ -184,7 +184,7 @@ module _ (L : Limits) (t : List ℕ) where
       -- an item and a comma
       comma-follow : {T : Forest} (S : Forest) {to z : ℕ} {s r : List ℕ} (w : List ℕ) {R : Read} → to + length s + 1 + length r ≤ z → placeOf R ≤ length t → Ws s → Ws r
           → isSpace (byteAt w 0) ≡ false
-          → Like t q to (s ++ 44 ∷ (r ++ w)) → Reads L t q c T to R
+          → Like t q to (s ++ 44 ∷ (r ++ w)) → MeetsNew L t q c T to R
           → ((y : ℕ) → y ≡ to + length s + 1 + length r → y ≤ length t → c .after + size T ≤ L .values → R ≡ good T to → Meets L t q (behind c T) (join (join (c .beside) T) S) S z (more T y))
           → Meets L t q c (join (c .beside) (join T S)) (join T S) z (afterItem t (closing b) (c .beside) more R)
       unfolding afterItem
@@ -218,11 +218,11 @@ module _ (L : Limits) (t : List ℕ) where
       abbrev end-of : ℕ
       end-of = at + length m + length s + 1 + length r + length w
 
-      colon-follow : ((ns ne at : ℕ) → at ≤ length t → Like t q at (w ++ z) → Reads L t q c (treeOf d ns ne at) (at + length w) (valueAt L t depth ns ne at (c .after)))
-          → (end : ℕ) → end ≤ length t → (end ≡ at + length m) ⊎ Past q (at + length m) end → Reads L t q c tree-of end-of (colonAt t (valueAt L t depth) at end (c .after))
+      colon-follow : ((ns ne at : ℕ) → at ≤ length t → Like t q at (w ++ z) → MeetsNew L t q c (treeOf d ns ne at) (at + length w) (valueAt L t depth ns ne at (c .after)))
+          → (end : ℕ) → end ≤ length t → (end ≡ at + length m) ⊎ PastPlace q (at + length m) end → MeetsNew L t q c tree-of end-of (colonAt t (valueAt L t depth) at end (c .after))
       unfolding colonAt
       colon-follow g end j u =
-          let P = Reads L t q c tree-of end-of in
+          let P = MeetsNew L t q c tree-of end-of in
           let dark = first d z .dark in
           let x = skip t end in
           let xl = skip-later t end in
@@ -254,16 +254,16 @@ module _ (L : Limits) (t : List ℕ) where
           past (omega (arith, v .word)) (v .answer))
           (λ e. past (omega (arith, e .word)) (omega (arith, e .answer))) u)
 
-      member-follow : Names t (c .beside) → ((ns ne at : ℕ) → at ≤ length t → Like t q at (w ++ z) → Reads L t q c (treeOf d ns ne at) (at + length w) (valueAt L t depth ns ne at (c .after)))
-          → (key : Token) → quotedAt t at ≡ key → Said t JsonString at key → Goes q (at + length m) key
-          → Reads L t q c tree-of end-of (memberWith L t (valueAt L t depth) (c .beside) at (c .after) key)
+      member-follow : NamesSpell t (c .beside) → ((ns ne at : ℕ) → at ≤ length t → Like t q at (w ++ z) → MeetsNew L t q c (treeOf d ns ne at) (at + length w) (valueAt L t depth ns ne at (c .after)))
+          → (key : Token) → quotedAt t at ≡ key → TokenSays t JsonString at key → TokenFollows q (at + length m) key
+          → MeetsNew L t q c tree-of end-of (memberWith L t (valueAt L t depth) (c .beside) at (c .after) key)
       unfolding memberWith
       member-follow names g (No2 x) e k u = past (omega (arith, u .word)) (u .answer)
       member-follow names g (No3 x) e k u =
           let f = firstly c d (at + 1) (at + length m - 1) (at + length m + length s + 1 + length r) in wrong (f .there) (name at (f .name) e) third
           (⊎-elim (λ a. inl (omega arith)) (λ a. inr (omega arith)) u)
       member-follow names g (End end) e k u =
-          let P = Reads L t q c tree-of end-of in
+          let P = MeetsNew L t q c tree-of end-of in
           let colon = colon-follow g end (stands-inside (k .stands) i) u in
           if-true P (L .unique)
           (λ v. if-true P (named t (nameOf t (at + 1) (end - 1)) (c .beside))
@@ -277,13 +277,13 @@ module _ (L : Limits) (t : List ℕ) where
 abbrev Follows : (L : Limits) (t : List ℕ) (q : ℕ) (a : Part) (w : List ℕ) → Is a w → Type 0
 Follows L t q value w d =
     (s : List ℕ) → Behind (byteAt s 0) → (depth : ℕ) (c : Seat) (ns ne at : ℕ) → c .inside + depth ≡ L .depth → c .after ≤ L .values → at ≤ length t → Like t q at (w ++ s)
-    → Reads L t q c (treeOf d ns ne at) (at + length w) (valueAt L t depth ns ne at (c .after))
+    → MeetsNew L t q c (treeOf d ns ne at) (at + length w) (valueAt L t depth ns ne at (c .after))
 Follows L t q (item b) w d =
-    (s : List ℕ) → Behind (byteAt s 0) → (depth : ℕ) (c : Seat) (at : ℕ) → c .inside + depth ≡ L .depth → c .after ≤ L .values → at ≤ length t → Like t q at (w ++ s) → Names t (c .beside)
-    → Reads L t q c (treeOf d 0 0 at) (at + length w) (itemAt L t depth b (c .beside) at (c .after))
+    (s : List ℕ) → Behind (byteAt s 0) → (depth : ℕ) (c : Seat) (at : ℕ) → c .inside + depth ≡ L .depth → c .after ≤ L .values → at ≤ length t → Like t q at (w ++ s) → NamesSpell t (c .beside)
+    → MeetsNew L t q c (treeOf d 0 0 at) (at + length w) (itemAt L t depth b (c .beside) at (c .after))
 Follows L t q (items b) w d =
     (r : List ℕ) (depth turns : ℕ) (c : Seat) (at : ℕ) → c .inside + depth ≡ L .depth → c .after ≤ L .values → length t < turns + at → at ≤ length t → Like t q at (w ++ closing b ∷ r)
-    → Names t (c .beside)
+    → NamesSpell t (c .beside)
     → Meets L t q c (join (c .beside) (treeOf d 0 0 at)) (treeOf d 0 0 at) (at + length w + 1) (itemsFrom t (itemAt L t depth b) (closing b) turns at (c .after) (c .beside))
 
 -- a turn
@@ -312,7 +312,7 @@ follow L t q (full {s} {w} b p d) = λ z o depth c ns ne at room few i h.
     rw e
     (container-follow L t q b T (at + length s + length w + 2) c ns ne at (omega arith) few i (like-here h)
     (λ depth r j m. inside-full L t q b depth c r m d z at T j p l
-    (λ x u k. rw u (follow L t q d z depth (suc (length t)) (under c) (at + 1 + length s) r (omega arith) (omega arith) (omega arith) (like-skip s l) Names.no-more))) depth room)
+    (λ x u k. rw u (follow L t q d z depth (suc (length t)) (under c) (at + 1 + length s) r (omega arith) (omega arith) (omega arith) (like-skip s l) NamesSpell.no-more))) depth room)
 follow L t q (element d) = λ s o depth c at room few i h names. follow L t q d s o depth c 0 0 at room few i h
 follow L t q (member {m} {s} {r} {w} g p o d) = λ z b depth c at room few i h names.
     let l = rw (glue-end 58 m s r w z) at h in

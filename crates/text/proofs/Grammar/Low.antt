@@ -13,14 +13,14 @@ use Rattle.text.specs.declared.Token.the-variants.{End, No3}
 use Rattle.text.proofs.Grammar.Stands.{clash}
 use Rattle.text.proofs.Grammar.Quotes.{quotedAt, bad-later}
 use Rattle.text.proofs.Grammar.Trees.{Either-of, first, later, in-join, in-none}
-use Rattle.text.proofs.Grammar.Names.{Known}
+use Rattle.text.proofs.Grammar.Names.{KnownName}
 use Rattle.text.proofs.Grammar.Wrong.{Wrong, string, name, again, deep, many, no-string}
 
 module _ (L : Limits) (t : List ℕ) where
   -- the name that starts at ns, after these values, is wrong
   pub data Name-wrong (before : Forest) (ns : ℕ) : (number place : ℕ) → Type 0 where
     spelled : (j : ℕ) {x : ℕ} → ns ≡ j + 1 → quotedAt t j ≡ No3 x → Name-wrong before ns 3 x
-    known : {e x : ℕ} → L .unique ≡ true → ns ≡ x + 1 → quotedAt t x ≡ End e → Known t (x + 1) (e - 1) before → Name-wrong before ns 4 x
+    known : {e x : ℕ} → L .unique ≡ true → ns ≡ x + 1 → quotedAt t x ≡ End e → KnownName t (x + 1) (e - 1) before → Name-wrong before ns 4 x
 
   pub data Whence (before : Forest) (ns at : ℕ) (m x : ℕ) : Type 0 where
     by-name : Name-wrong before ns m x → Whence before ns at m x

@@ -61,21 +61,21 @@ module _ (L : Limits) (t : List ℕ) (q : ℕ) where
     wrong : {d : Seat} {h : Head} {m x : ℕ} {r : Refusal} → Sits c T d h → Wrong L t d h m x → Numbered m x r → (q ≤ to) ⊎ (x < to) → Meets c f T to (bad r)
 
   -- all of them are new
-  abbrev pub Reads : Seat → Forest → ℕ → Read → Type 0
-  Reads c f to R = Meets c f f to R
+  abbrev pub MeetsNew : Seat → Forest → ℕ → Read → Type 0
+  MeetsNew c f to R = Meets c f f to R
 
   -- what an answer of a place before q says
-  pub data Near (c : Seat) (f : Forest) (to : ℕ) : Read → Type 0 where
-    read : Near c f to (good f to)
-    broken : {d : Seat} {h : Head} {m x : ℕ} {r : Refusal} → Sits c f d h → Wrong L t d h m x → Numbered m x r → Near c f to (bad r)
+  pub data NearAnswer (c : Seat) (f : Forest) (to : ℕ) : Read → Type 0 where
+    read : NearAnswer c f to (good f to)
+    broken : {d : Seat} {h : Head} {m x : ℕ} {r : Refusal} → Sits c f d h → Wrong L t d h m x → Numbered m x r → NearAnswer c f to (bad r)
 
-  pub near : {c : Seat} {f : Forest} {to : ℕ} {R : Read} → Reads c f to R → placeOf R < q → Near c f to R
+  pub near : {c : Seat} {f : Forest} {to : ℕ} {R : Read} → MeetsNew c f to R → placeOf R < q → NearAnswer c f to R
   near (past k h) l = absurd (omega arith)
   near (same h) l = read
   near (wrong i w n o) l = broken i w n
 
   -- a container around what is inside it
-  pub meets-close : {c : Seat} {f : Forest} {to : ℕ} {R : Read} (b : Bracket) (ns ne at : ℕ) → Reads (under c) f to R → Reads c (node b ns ne at to f none) to (closeOf b ns ne at R)
+  pub meets-close : {c : Seat} {f : Forest} {to : ℕ} {R : Read} (b : Bracket) (ns ne at : ℕ) → MeetsNew (under c) f to R → MeetsNew c (node b ns ne at to f none) to (closeOf b ns ne at R)
   unfolding closeOf size
   meets-close b ns ne at (past {R} k h) = past {R = closeOf b ns ne at R} k (rw (close-place b ns ne at R) h)
   meets-close b ns ne at (same h) = same (omega arith)
@@ -111,11 +111,11 @@ high-closing square = omega arith
 high-closing curly = omega arith
 
 -- a byte that begins a value is neither white space nor a closing byte
-pub record Leads (b : ℕ) : Type 0 where
+pub record BeginsValue (b : ℕ) : Type 0 where
   pub dark : isSpace b ≡ false
   pub apart-from : (k : Bracket) → b ≡ closing k → ⊥
 
-leads : (b : ℕ) → 0 < kindBy b → Leads b
+leads : (b : ℕ) → 0 < kindBy b → BeginsValue b
 unfolding kindBy
 leads b h = record { dark = go (isSpace b) refl; apart-from = λ k e. apart k (rw e at h) }
   where
@@ -158,7 +158,7 @@ first-kind (member (quoted g) p o d) r = omega arith
 first-kind (one {v} {s} d p) r = rw (append-assoc v s r) (first-kind d (s ++ r))
 first-kind (comma {v} {s} {r = x} {w} d p o e) r = rw (append-assoc v (s ++ 44 ∷ (x ++ w)) r) (first-kind d ((s ++ 44 ∷ (x ++ w)) ++ r))
 
-pub first : {a : Part} {w : List ℕ} → Is a w → (r : List ℕ) → Leads (byteAt (w ++ r) 0)
+pub first : {a : Part} {w : List ℕ} → Is a w → (r : List ℕ) → BeginsValue (byteAt (w ++ r) 0)
 first {w} d r = leads (byteAt (w ++ r) 0) (first-kind d r)
 
 -- white space may stand behind a value, and so may what may stand behind that

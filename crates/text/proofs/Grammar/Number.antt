@@ -14,11 +14,11 @@ use Rattle.text.specs.Grammar.{Digit, Digits, Int, Frac, E, Sign, Exp, N
 use Rattle.text.specs.declared.Token.{Token}
 use Rattle.text.specs.declared.Token.the-variants.{End, No2}
 use Rattle.text.proofs.Grammar.Stands.{clash}
-use Rattle.text.proofs.Grammar.Exact.{Exact, Tells, byteOf, runOf, seqOf, optOf, orOf, ends-exact, same-exact, byte-exact, run-exact, seq-exact, opt-exact, or-exact}
+use Rattle.text.proofs.Grammar.Exact.{Exact, TestOf, byteOf, runOf, seqOf, optOf, orOf, ends-exact, same-exact, byte-exact, run-exact, seq-exact, opt-exact, or-exact}
 
 -- ---- the tests ----
 
-pub just-tells : (c : ℕ) → c < 256 → Tells (λ x. x ≡ c) (λ x. eqb x c)
+pub just-tells : (c : ℕ) → c < 256 → TestOf (λ x. x ≡ c) (λ x. eqb x c)
 just-tells c h =
     record { sure = λ x e. eqb-true x c e; back = λ x e. eq-eqb x c e; small = λ x e. let k : x ≡ c = eqb-true x c e in omega arith }
 
@@ -26,7 +26,7 @@ just-tells c h =
 abbrev pub isOr : ℕ → ℕ → ℕ → Bool
 isOr a b x = cond (eqb x a) true (eqb x b)
 
-pub or-tells : (P : ℕ → Type 0) (a b : ℕ) → a < 256 → b < 256 → P a → P b → ((x : ℕ) → P x → isOr a b x ≡ true) → Tells P (isOr a b)
+pub or-tells : (P : ℕ → Type 0) (a b : ℕ) → a < 256 → b < 256 → P a → P b → ((x : ℕ) → P x → isOr a b x ≡ true) → TestOf P (isOr a b)
 or-tells P a b ha hb pa pb back =
     record {
       sure = λ x. if-equal (λ (c : Bool). c ≡ true → P x) x a (λ k e. rw k pa) (λ k e. rw (eqb-true x b e) pb);
@@ -34,14 +34,14 @@ or-tells P a b ha hb pa pb back =
       small = λ x. if-equal (λ (c : Bool). c ≡ true → x < 256) x a (λ k e. omega arith) (λ k e. omega (arith, eqb-true x b e));
     }
 
-e-tells : Tells E (isOr 101 69)
+e-tells : TestOf E (isOr 101 69)
 e-tells = or-tells E 101 69 (omega arith) (omega arith) E.small E.capital back
   where
     back : (x : ℕ) → E x → isOr 101 69 x ≡ true
     back x E.small = refl
     back x E.capital = refl
 
-sign-tells : Tells Sign (isOr 45 43)
+sign-tells : TestOf Sign (isOr 45 43)
 sign-tells = or-tells Sign 45 43 (omega arith) (omega arith) Sign.minus Sign.plus back
   where
     back : (x : ℕ) → Sign x → isOr 45 43 x ≡ true
@@ -62,7 +62,7 @@ in-between low high x b =
     let q = b .up-to in
     rw (le-ltb x low p, lt-ltb x (high + 1) (omega arith))
 
-pub between-tells : (low high : ℕ) → high < 256 → Tells (Between low high) (isBetween low (high + 1))
+pub between-tells : (low high : ℕ) → high < 256 → TestOf (Between low high) (isBetween low (high + 1))
 between-tells low high h =
     record {
       sure = λ x e. let k = between low (high + 1) x e in record { from = k .0; up-to = omega arith };
@@ -70,30 +70,30 @@ between-tells low high h =
       small = λ x e. let k = between low (high + 1) x e in omega arith;
     }
 
-pub digit-tells : Tells (Between 48 57) isDigit
+pub digit-tells : TestOf (Between 48 57) isDigit
 digit-tells = between-tells 48 57 (omega arith)
 
 -- ---- a word's first byte ----
 
-pub first-byte : {P : ℕ → Type 0} {is : ℕ → Bool} → Tells P is → (w s : List ℕ) → Byte P w → is (byteAt (w ++ s) 0) ≡ true
+pub first-byte : {P : ℕ → Type 0} {is : ℕ → Bool} → TestOf P is → (w s : List ℕ) → Byte P w → is (byteAt (w ++ s) 0) ≡ true
 first-byte h w s (Byte.byte {x} e) = h .back x e
 
-pub first-seq : {P : ℕ → Type 0} {is : ℕ → Bool} → Tells P is → (M : List ℕ → Type 0) (w s : List ℕ) → Seq (Byte P) M w → is (byteAt (w ++ s) 0) ≡ true
+pub first-seq : {P : ℕ → Type 0} {is : ℕ → Bool} → TestOf P is → (M : List ℕ → Type 0) (w s : List ℕ) → Seq (Byte P) M w → is (byteAt (w ++ s) 0) ≡ true
 first-seq h M w s (seq (Byte.byte {x} e) d) = h .back x e
 
 -- a digit is no sign and no point, and a point or an exponent's mark is no digit
-record Apart (x : ℕ) : Type 0 where
+record NoSign (x : ℕ) : Type 0 where
   no-minus : eqb x 45 ≡ false
   no-sign : isOr 45 43 x ≡ false
 
-digit-apart : (x : ℕ) → 48 ≤ x → Apart x
+digit-apart : (x : ℕ) → 48 ≤ x → NoSign x
 digit-apart x h =
     let a = ne-eqb x 45 (omega arith) in
     let b = ne-eqb x 43 (omega arith) in
     record { no-minus = a; no-sign = rw (a, b) }
 
 -- what may stand after a number
-pub record Ends (z : ℕ) : Type 0 where
+pub record AfterNumber (z : ℕ) : Type 0 where
   pub digits : isDigit z ≡ false
   pub dots : eqb z 46 ≡ false
   pub powers : isOr 101 69 z ≡ false
@@ -220,7 +220,7 @@ module _ (t : List ℕ) where
 
   -- ---- what stands after a part ends it ----
 
-  after-frac : (v s : List ℕ) → Opt Exp v → Ends (byteAt s 0) → (isDigit (byteAt (v ++ s) 0) ≡ false) × (eqb (byteAt (v ++ s) 0) 46 ≡ false)
+  after-frac : (v s : List ℕ) → Opt Exp v → AfterNumber (byteAt s 0) → (isDigit (byteAt (v ++ s) 0) ≡ false) × (eqb (byteAt (v ++ s) 0) 46 ≡ false)
   after-frac v s Opt.none o = (o .digits, o .dots)
   after-frac v s (Opt.some (seq (Byte.byte E.small) d)) o = (refl, refl)
   after-frac v s (Opt.some (seq (Byte.byte E.capital) d)) o = (refl, refl)
@@ -233,10 +233,10 @@ module _ (t : List ℕ) where
   after-minus v s (this (Byte.byte {x} e)) = (tt, rw e)
   after-minus v s (that (seq (Byte.byte {x} b) d)) = (tt, digit-apart x (omega (arith, b .from)) .no-minus)
 
-  pub number-exact : Exact t Number Ends (numberAt t)
+  pub number-exact : Exact t Number AfterNumber (numberAt t)
   unfolding numberAt minusOf
   number-exact =
       seq-exact t _ _ _ _ _ _
       (seq-exact t _ _ _ _ _ _ (seq-exact t _ _ _ _ _ _ minus-exact int-exact (λ v s d o. after-minus v s d)) frac-exact after-int)
-      (ends-exact Ends (λ z o. (o .digits, o .powers)) exp-exact)
+      (ends-exact AfterNumber (λ z o. (o .digits, o .powers)) exp-exact)
       after-frac

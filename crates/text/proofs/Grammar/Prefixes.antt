@@ -8,19 +8,19 @@ use native.Mathlib.Numerals.{add-one}
 use lib.ListN.{length, take, drop, length-append, List·getD-append}
 use lib.Seq.{drop-cons, drop-length, length-take-le, getD-take, getD-append-seam}
 use Rattle.text.specs.Text.{byteAt}
-use Rattle.text.proofs.Grammar.Stands.{by-order, Stands, Like, like-more, like-tail, like-here}
+use Rattle.text.proofs.Grammar.Stands.{by-order, BytesStand, Like, like-more, like-tail, like-here}
 
 pub byte-end : (t : List ℕ) → byteAt t (length t) ≡ 256
 byte-end [] = refl
 byte-end (x ∷ t) = byte-end t
 
 module _ {t : List ℕ} where
-  pub stands-drop : {at to : ℕ} {w : List ℕ} → Stands t at to w → drop at t ≡ w ++ drop to t
-  stands-drop Stands.done = refl
-  stands-drop {at} (Stands.next {x} e i s) = drop-cons t at 256 i ∙ rw (e, ← add-one at) (ap (λ (l : List ℕ). x ∷ l) (stands-drop s))
+  pub stands-drop : {at to : ℕ} {w : List ℕ} → BytesStand t at to w → drop at t ≡ w ++ drop to t
+  stands-drop BytesStand.done = refl
+  stands-drop {at} (BytesStand.next {x} e i s) = drop-cons t at 256 i ∙ rw (e, ← add-one at) (ap (λ (l : List ℕ). x ∷ l) (stands-drop s))
 
   -- what stands from the start to the end is the text
-  pub stands-whole : {w : List ℕ} → Stands t 0 (length t) w → w ≡ t
+  pub stands-whole : {w : List ℕ} → BytesStand t 0 (length t) w → w ≡ t
   stands-whole {w} s = sym (stands-drop s ∙ rw drop-length (append-nil w))
 
   -- what is like a text as far as a place begins as it does

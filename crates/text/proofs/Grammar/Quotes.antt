@@ -14,7 +14,8 @@ use Rattle.laws.proofs.Branches.{if-equal}
 use Rattle.laws.proofs.Places.{inside}
 use Rattle.laws.proofs.Splits.{first-there, beyond, within, there-part, length-part}
 use Rattle.text.specs.Text.{byteAt}
-use Rattle.text.specs.Strings.{utf8, stringEnd}
+use Rattle.text.specs.Strings.{stringEnd}
+use Rattle.text.specs.Utf8.{utf8}
 use Rattle.text.specs.Spelling.{Bare, HexDigit, Short, FourDigits, four, Spell, raw, short, unit, pair, Spells}
 use Rattle.text.specs.Broken.{HexDigits, Cut, control, ended, letter, digit, Aims, high, escape}
 use Rattle.text.specs.Abnf.{Star}
@@ -23,9 +24,9 @@ use Rattle.text.specs.declared.Token.{Token}
 use Rattle.text.specs.declared.Token.the-variants.{End, No2, No3}
 use Rattle.text.proofs.Spelling.Codes.{by-utf8}
 use Rattle.text.proofs.Spelling.Through.{SpellsTo}
-use Rattle.text.proofs.Spelling.Ends.{Closed, Refused2, Answers, answers, no3-ill}
-use Rattle.text.proofs.Grammar.Stands.{by-order, Stands, Like, stands-join, stands-split, stands-to, stands-inside, one-stands, like-none, like-join, like-more, like-stands, like-here, like-tail, like-stuck}
-use Rattle.text.proofs.Grammar.Exact.{Standing, Begun, Said, Goes, Exact}
+use Rattle.text.proofs.Spelling.Ends.{ClosedString, Refused2, StringAnswer, answers, no3-ill}
+use Rattle.text.proofs.Grammar.Stands.{by-order, BytesStand, Like, stands-join, stands-split, stands-to, stands-inside, one-stands, like-none, like-join, like-more, like-stands, like-here, like-tail, like-stuck}
+use Rattle.text.proofs.Grammar.Exact.{HasWord, Begun, TokenSays, TokenFollows, Exact}
 
 -- a string with its quotation marks
 abbrev pub quotedAt : List ℕ → ℕ → Token
@@ -44,8 +45,8 @@ letter-not-u Short.carriage-return e = omega arith
 letter-not-u Short.tab e = omega arith
 
 -- a letter of an escape, and a hexadecimal digit, whatever it stands for
-abbrev Letter : ℕ → Type 0
-Letter b = (c : ℕ) × Short b c
+abbrev EscapeLetter : ℕ → Type 0
+EscapeLetter b = (c : ℕ) × Short b c
 
 abbrev Hexadecimal : ℕ → Type 0
 Hexadecimal b = (v : ℕ) × HexDigit b v
@@ -128,19 +129,19 @@ cut-completed (digit d h n) = digits-completed d h
 -- ---- what is told ----
 
 -- a run that a list goes on with stands there
-split-stands : (t : List ℕ) (i : ℕ) (w r : List ℕ) → drop i t ≡ w ++ r → Stands t i (i + length w) w
-split-stands t i [] r e = rw add-zero Stands.done
+split-stands : (t : List ℕ) (i : ℕ) (w r : List ℕ) → drop i t ≡ w ++ r → BytesStand t i (i + length w) w
+split-stands t i [] r e = rw add-zero BytesStand.done
 split-stands t i (x ∷ w) r e =
     let l = within t i (x ∷ w) r e (omega arith) in
     let one : i + suc (length w) ≡ i + 1 + length w = omega arith in
-    rw one (Stands.next (first-there t i x (w ++ r) e 256) (omega arith) (split-stands t (i + 1) w r (beyond t i (x ∷ []) (w ++ r) e)))
+    rw one (BytesStand.next (first-there t i x (w ++ r) e 256) (omega arith) (split-stands t (i + 1) w r (beyond t i (x ∷ []) (w ++ r) e)))
 
 module _ (t : List ℕ) where
   -- what spells up to a place
-  spelled-stands : {i q : ℕ} (s : SpellsTo t i q) → Stands t i q (s .bytes)
+  spelled-stands : {i q : ℕ} (s : SpellsTo t i q) → BytesStand t i q (s .bytes)
   spelled-stands {i} s = rw (s .place) at (split-stands t i (s .bytes) (s .rest) (s .split))
 
-  closed-stands : {i e : ℕ} → Closed t i e → Stands t i (e - 1) (partOf t i (e - 1))
+  closed-stands : {i e : ℕ} → ClosedString t i e → BytesStand t i (e - 1) (partOf t i (e - 1))
   closed-stands {i} {e} a =
       let h = a .after in
       let l = a .within-text in
@@ -167,7 +168,7 @@ module _ (t : List ℕ) where
     cut-begun {p} a =
         let c = a .cut in
         let m = cut-completed (c .cut) in
-        let b : Stands t (a .from) p (c .begun) = rw (← c .place) at (split-stands t (a .from) (c .begun) (c .rest) (c .split)) in
+        let b : BytesStand t (a .from) p (c .begun) = rw (← c .place) at (split-stands t (a .from) (c .begun) (c .rest) (c .split)) in
         let s = spelled-stands (a .spells) in
         begun-string (a .spells) (c .begun ++ m .more) (m .is) (like-more (m .more) (like-stands b)) (omega (arith, stands-to s, stands-to b))
         (stands-inside b (stands-inside s (omega (arith, here))))
@@ -184,21 +185,21 @@ module _ (t : List ℕ) where
         begun-string s (92 ∷ 117 ∷ w) (four-chars d) (like-more (117 ∷ w) (like-stands x)) (omega (arith, stands-to k))
         (stands-inside x (stands-inside k (omega (arith, here))))
 
-    closed-string : {e : ℕ} → Closed t (at + 1) e → Standing t JsonString at e
+    closed-string : {e : ℕ} → ClosedString t (at + 1) e → HasWord t JsonString at e
     closed-string {e} a =
         let h = a .after in
-        let z : Stands t (e - 1) (e - 1 + 1) (34 ∷ []) = one-stands (a .quote) (omega arith) in
+        let z : BytesStand t (e - 1) (e - 1 + 1) (34 ∷ []) = one-stands (a .quote) (omega arith) in
         let o : e - 1 + 1 ≡ e = omega arith in
-        record { word = 34 ∷ partOf t (at + 1) (e - 1) ++ 34 ∷ []; is = quoted (spells-chars (a .spelled)); stands = Stands.next q here (stands-join (closed-stands a) (rw o at z)) }
+        record { word = 34 ∷ partOf t (at + 1) (e - 1) ++ 34 ∷ []; is = quoted (spells-chars (a .spelled)); stands = BytesStand.next q here (stands-join (closed-stands a) (rw o at z)) }
 
-    told-string : (k : Token) → Answers t (at + 1) k → Said t JsonString at k
+    told-string : (k : Token) → StringAnswer t (at + 1) k → TokenSays t JsonString at k
     told-string (End e) a = closed-string a
     told-string (No2 p) a = cut-begun a
     told-string (No3 p) a = aim-begun (a .spells) (a .ill .aims) refl
 
-  quoted-told : (at : ℕ) → at ≤ length t → Said t JsonString at (quotedAt t at)
+  quoted-told : (at : ℕ) → at ≤ length t → TokenSays t JsonString at (quotedAt t at)
   quoted-told at i =
-      if-equal (Said t JsonString at) (byteAt t at) 34 (λ q. told-string at q (stringEnd t (at + 1)) (answers t (at + 1)))
+      if-equal (TokenSays t JsonString at) (byteAt t at) 34 (λ q. told-string at q (stringEnd t (at + 1)) (answers t (at + 1)))
       (λ q. record { word = 34 ∷ 34 ∷ []; is = quoted Star.none; like = like-none (34 ∷ 34 ∷ []) (le-refl at); later = le-refl at; within = i })
 
 -- ---- what follows ----
@@ -214,7 +215,7 @@ record Rest (t : List ℕ) (q : ℕ) (s : List ℕ) (e i : ℕ) : Type 0 where
 data Ahead (t : List ℕ) (q : ℕ) (s : List ℕ) (e i : ℕ) : Type 0 where
   closing : i ≡ e → (i < q → byteAt t i ≡ 34) → Ahead t q s e i
   plain : (i < q → Plain (byteAt t i)) → Rest t q s e (i + 1) → Ahead t q s e i
-  escaped : (i < q → byteAt t i ≡ 92) → (i + 1 < q → Letter (byteAt t (i + 1))) → Rest t q s e (i + 2) → Ahead t q s e i
+  escaped : (i < q → byteAt t i ≡ 92) → (i + 1 < q → EscapeLetter (byteAt t (i + 1))) → Rest t q s e (i + 2) → Ahead t q s e i
   coded : (i < q → byteAt t i ≡ 92) → (i + 1 < q → byteAt t (i + 1) ≡ 117) → ((j : ℕ) → i + 2 ≤ j → j < i + 6 → j < q → Hexadecimal (byteAt t j))
       → Rest t q s e (i + 6) → Ahead t q s e i
 
@@ -255,14 +256,14 @@ module _ {t : List ℕ} {q : ℕ} {s : List ℕ} {e : ℕ} where
   over-plain {i} k p (escaped b l r) = absurd (p .no-backslash (b k))
   over-plain {i} k p (coded b l d r) = absurd (p .no-backslash (b k))
 
-  over-plains : {i to : ℕ} {w : List ℕ} → Plains w → Stands t i to w → Seen q e to → Rest t q s e i → Rest t q s e to
-  over-plains p Stands.done k r = r
-  over-plains {i} p (Stands.next b h st) k r =
+  over-plains : {i to : ℕ} {w : List ℕ} → Plains w → BytesStand t i to w → Seen q e to → Rest t q s e i → Rest t q s e to
+  over-plains p BytesStand.done k r = r
+  over-plains {i} p (BytesStand.next b h st) k r =
       let n = stands-to st in
       over-plains (p .1) st k (over-plain (k i (omega arith) (omega (arith, r .size))) (rw b (p .0)) (next r))
 
   -- an escape by a letter, and one by digits
-  over-letter : {i : ℕ} → i < q → (i + 1 ≤ e → i + 1 < q) → byteAt t i ≡ 92 → (byteAt t (i + 1) ≡ 117 → ⊥) → Ahead t q s e i → Rest t q s e (i + 2) × Letter (byteAt t (i + 1))
+  over-letter : {i : ℕ} → i < q → (i + 1 ≤ e → i + 1 < q) → byteAt t i ≡ 92 → (byteAt t (i + 1) ≡ 117 → ⊥) → Ahead t q s e i → Rest t q s e (i + 2) × EscapeLetter (byteAt t (i + 1))
   over-letter {i} k m b n (closing o c) = let h = c k in absurd (omega arith)
   over-letter {i} k m b n (plain c r) = absurd (c k .no-backslash b)
   over-letter {i} k m b n (escaped c l r) = (r, l (m (omega (arith, r .size))))
@@ -275,15 +276,15 @@ module _ {t : List ℕ} {q : ℕ} {s : List ℕ} {e : ℕ} where
   over-digits {i} k m b n (escaped c l r) = absurd (letter-not-u (l (m (omega (arith, r .size))) .1) n)
   over-digits {i} k m b n (coded c l d r) = (r, d)
 
-  over-four : {i to v : ℕ} {w : List ℕ} → FourDigits w v → Stands t i to (92 ∷ 117 ∷ w) → Seen q e to → Rest t q s e i → Rest t q s e to
-  over-four {i} (four d1 d2 d3 d4) (Stands.next a h (Stands.next b o (Stands.next x1 y1 (Stands.next x2 y2 (Stands.next x3 y3 (Stands.next x4 y4 Stands.done)))))) k r =
+  over-four : {i to v : ℕ} {w : List ℕ} → FourDigits w v → BytesStand t i to (92 ∷ 117 ∷ w) → Seen q e to → Rest t q s e i → Rest t q s e to
+  over-four {i} (four d1 d2 d3 d4) (BytesStand.next a h (BytesStand.next b o (BytesStand.next x1 y1 (BytesStand.next x2 y2 (BytesStand.next x3 y3 (BytesStand.next x4 y4 BytesStand.done)))))) k r =
       let six : i + 6 ≡ i + 1 + 1 + 1 + 1 + 1 + 1 = omega arith in
       rw six at (over-digits (k i (omega arith) (omega (arith, r .size))) (λ l. k (i + 1) (omega arith) l) a b (next r) .0)
 
   -- what spells a character
-  over-spelled : {i to c : ℕ} {w : List ℕ} → Spell w c → Stands t i to w → Seen q e to → Rest t q s e i → Rest t q s e to
+  over-spelled : {i to c : ℕ} {w : List ℕ} → Spell w c → BytesStand t i to w → Seen q e to → Rest t q s e i → Rest t q s e to
   over-spelled (raw {c} g u) st k r = over-plains (utf8-plain c u) st k r
-  over-spelled {i} (short m) (Stands.next a h (Stands.next b o Stands.done)) k r =
+  over-spelled {i} (short m) (BytesStand.next a h (BytesStand.next b o BytesStand.done)) k r =
       let two : i + 2 ≡ i + 1 + 1 = omega arith in
       rw two at (over-letter (k i (omega arith) (omega (arith, r .size))) (λ l. k (i + 1) (omega arith) l) a (λ z. letter-not-u m (sym b ∙ z)) (next r) .0)
   over-spelled (unit g d) st k r = over-four d st k r
@@ -292,8 +293,8 @@ module _ {t : List ℕ} {q : ℕ} {s : List ℕ} {e : ℕ} where
       let n = stands-to (c .2) in
       over-four f (c .2) k (over-four d (c .1) (λ j l. k j (omega arith)) r)
 
-  over-spells : {i to : ℕ} {w cs : List ℕ} → Spells w cs → Stands t i to w → Seen q e to → Rest t q s e i → Rest t q s e to
-  over-spells Spells.none Stands.done k r = r
+  over-spells : {i to : ℕ} {w cs : List ℕ} → Spells w cs → BytesStand t i to w → Seen q e to → Rest t q s e i → Rest t q s e to
+  over-spells Spells.none BytesStand.done k r = r
   over-spells (Spells.more {w} m d) st k r =
       let c = stands-split w st in
       let n = stands-to (c .2) in
@@ -313,21 +314,21 @@ module _ {t : List ℕ} {q : ℕ} {s : List ℕ} {e : ℕ} where
   small-here {i} k (escaped c l r) = omega (arith, c k)
   small-here {i} k (coded c l d r) = omega (arith, c k)
 
-  at-cut : {i p : ℕ} {w : List ℕ} → Cut w (byteAt t p) → Stands t i p w → Seen q e (p + 1) → Rest t q s e i → ⊥
-  at-cut {i} (control h) Stands.done k r = omega (arith, small-here (k i (omega arith) (omega (arith, r .size))) (next r))
-  at-cut {i} (ended h) Stands.done k r = omega (arith, small-here (k i (omega arith) (omega (arith, r .size))) (next r))
-  at-cut {i} (letter n m) (Stands.next a h Stands.done) k r =
+  at-cut : {i p : ℕ} {w : List ℕ} → Cut w (byteAt t p) → BytesStand t i p w → Seen q e (p + 1) → Rest t q s e i → ⊥
+  at-cut {i} (control h) BytesStand.done k r = omega (arith, small-here (k i (omega arith) (omega (arith, r .size))) (next r))
+  at-cut {i} (ended h) BytesStand.done k r = omega (arith, small-here (k i (omega arith) (omega (arith, r .size))) (next r))
+  at-cut {i} (letter n m) (BytesStand.next a h BytesStand.done) k r =
       let l = over-letter (k i (omega arith) (omega (arith, r .size))) (λ o. k (i + 1) (omega arith) o) a n (next r) .1 in
       m (l .0) (l .1)
-  at-cut {i} {p} (digit d h n) (Stands.next a o (Stands.next b u st)) k r =
+  at-cut {i} {p} (digit d h n) (BytesStand.next a o (BytesStand.next b u st)) k r =
       let l = stands-to st in
       let c = over-digits (k i (omega arith) (omega (arith, r .size))) (λ o. k (i + 1) (omega arith) o) a b (next r) in
       let g = c .1 p (omega arith) (omega arith) (k p (omega arith) (omega (arith, c .0 .size))) in
       n (g .0) (g .1)
 
-string-follow : (t : List ℕ) (q at : ℕ) (w s : List ℕ) → JsonString w → Like t q at (w ++ s) → Goes q (at + length w) (quotedAt t at)
+string-follow : (t : List ℕ) (q at : ℕ) (w s : List ℕ) → JsonString w → Like t q at (w ++ s) → TokenFollows q (at + length w) (quotedAt t at)
 string-follow t q at w s (quoted {w = v} d) l =
-    if-equal (Goes q (at + suc (length (v ++ 34 ∷ [])))) (byteAt t at) 34 (λ b. go (stringEnd t (at + 1)) (answers t (at + 1)))
+    if-equal (TokenFollows q (at + suc (length (v ++ 34 ∷ [])))) (byteAt t at) 34 (λ b. go (stringEnd t (at + 1)) (answers t (at + 1)))
     (λ b. let k = like-stuck l b in record { word = omega arith; answer = k })
   where
     -- behind the closing quote
@@ -337,7 +338,7 @@ string-follow t q at w s (quoted {w = v} d) l =
     rest : Rest t q s (at + 1 + length v) (at + 1)
     rest = record { word = v; is = d; like = rw (append-assoc v (34 ∷ []) s) at (like-tail l); size = refl }
 
-    closed : (e : ℕ) → Closed t (at + 1) e → Seen q (at + 1 + length v) (e - 1) → (e - 1 ≤ at + 1 + length v → e - 1 < q) → e ≡ at + 1 + length v + 1
+    closed : (e : ℕ) → ClosedString t (at + 1) e → Seen q (at + 1 + length v) (e - 1) → (e - 1 ≤ at + 1 + length v → e - 1 < q) → e ≡ at + 1 + length v + 1
     closed e a k m =
         let h = a .after in
         let r = over-spells (a .spelled) (closed-stands t a) k rest in
@@ -346,11 +347,11 @@ string-follow t q at w s (quoted {w = v} d) l =
     no-cut : (p : ℕ) → Refused2 t (at + 1) p → Seen q (at + 1 + length v) (p + 1) → ⊥
     no-cut p a k =
         let c = a .cut in
-        let b : Stands t (a .from) p (c .begun) = rw (← c .place) at (split-stands t (a .from) (c .begun) (c .rest) (c .split)) in
+        let b : BytesStand t (a .from) p (c .begun) = rw (← c .place) at (split-stands t (a .from) (c .begun) (c .rest) (c .split)) in
         let n = stands-to b in
         at-cut (c .cut) b k (over-spells (a .spells .spelled) (spelled-stands t (a .spells)) (λ j h. k j (omega arith)) rest)
 
-    go : (k : Token) → Answers t (at + 1) k → Goes q (at + suc (length (v ++ 34 ∷ []))) k
+    go : (k : Token) → StringAnswer t (at + 1) k → TokenFollows q (at + suc (length (v ++ 34 ∷ []))) k
     go (End e) a =
         by-order (at + 1 + length v) q
         (λ k. inl (omega (arith, size, closed e a (λ j h m. omega arith) (λ m. omega arith))))

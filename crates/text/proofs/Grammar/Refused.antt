@@ -16,11 +16,11 @@ use Rattle.text.specs.Tree.{Forest}
 use Rattle.text.specs.declared.Paper.{Paper}
 use Rattle.text.specs.Sheet.{numbers, refused}
 use Rattle.text.specs.Reader.{Read, good, bad}
-use Rattle.text.specs.Whole.{endOf, readOf}
+use Rattle.text.specs.Whole.{endOf, readOf, Refuses}
 use Rattle.text.specs.Grammar.{value}
 use Rattle.text.specs.Seats.{Seat, top}
 use Rattle.text.specs.Meaning.{Accepts}
-use Rattle.text.specs.Fault.{Begins, TreeBreaks, Violated, FaultAt, grammar, violated, InEach, FirstFault, Refuses}
+use Rattle.text.specs.Fault.{Begins, TreeBreaks, Violated, FaultAt, grammar, violated, InEach, FirstFault}
 use Rattle.text.specs.declared.Refusal.{Refusal}
 use Rattle.text.specs.declared.Refusal.the-variants.{TooLong, Grammar, Character, Repeated, Deep, Many, Small}
 use Rattle.text.proofs.Induction.{read-accepted}
@@ -29,7 +29,7 @@ use Rattle.text.proofs.Grammar.Stands.{by-order}
 use Rattle.text.proofs.Grammar.Words.{skip-later}
 use Rattle.text.proofs.Grammar.Sound.{Stopped, Told, Parsed, Viable, placeOf}
 use Rattle.text.proofs.Grammar.Wrong.{rank, Wrong}
-use Rattle.text.proofs.Grammar.Meets.{numberOf, numbered-has, Near, read, broken}
+use Rattle.text.proofs.Grammar.Meets.{numberOf, numbered-has, NearAnswer, read, broken}
 use Rattle.text.proofs.Grammar.Rules.{wrong-breaks, breaks-wrong, wrong-number}
 use Rattle.text.proofs.Grammar.Calm.{In-time, in-time}
 use Rattle.text.proofs.Grammar.Wholes.{root, root-told, self, other, other-calm, viable-begins, value-inside, read-inside, read-begins, read-text}
@@ -44,10 +44,10 @@ time-good (in-time h) e = let z : _≡_ {A = ℕ} 0 1 = cc in absurd (omega arit
 
 module _ (L : Limits) (t : List ℕ) where
   -- what an answer says of a text that it meets
-  near-good : {q end to : ℕ} {c : Seat} {f g : Forest} → Near L t q c g end (good f to) → (f ≡ g) × (to ≡ end)
+  near-good : {q end to : ℕ} {c : Seat} {f g : Forest} → NearAnswer L t q c g end (good f to) → (f ≡ g) × (to ≡ end)
   near-good read = (refl, refl)
 
-  near-bad : {q end : ℕ} {f : Forest} {r : Refusal} → Near L t q top f end (bad r) → (3 ≤ numberOf r) × TreeBreaks L t f (numberOf r) (placeOf (bad r))
+  near-bad : {q end : ℕ} {f : Forest} {r : Refusal} → NearAnswer L t q top f end (bad r) → (3 ≤ numberOf r) × TreeBreaks L t f (numberOf r) (placeOf (bad r))
   near-bad {r} (broken {d} {h} {m} {x} i w n) =
       let k = numbered-has n in
       let b : Wrong L t d h (numberOf r) (placeOf (bad r)) = rw (k .number, k .place) w in
@@ -162,19 +162,19 @@ module _ (L : Limits) (t : List ℕ) where
 -- ---- every answer ----
 
 -- what an answer means, where the text is not over the byte limit
-abbrev Means : Limits → List ℕ → Read → Type 0
-Means L t (good f to) = Accepts L t f × (to ≡ length t)
-Means L t (bad r) = On-sheet L t r
+abbrev RightAnswer : Limits → List ℕ → Read → Type 0
+RightAnswer L t (good f to) = Accepts L t f × (to ≡ length t)
+RightAnswer L t (bad r) = On-sheet L t r
 
-means : (L : Limits) (t : List ℕ) → length t ≤ L .bytes → Means L t (readOf L t)
+means : (L : Limits) (t : List ℕ) → length t ≤ L .bytes → RightAnswer L t (readOf L t)
 unfolding readOf endOf refused
 means L t short =
-    if-less (Means L t) (L .bytes) (length t) (λ h. absurd (omega arith)) (λ h. go (root L t) refl (root-told L t))
+    if-less (RightAnswer L t) (L .bytes) (length t) (λ h. absurd (omega arith)) (λ h. go (root L t) refl (root-told L t))
   where
-    go : (R : Read) → R ≡ root L t → Told (Parsed L t value (L .depth) top 0 0 (skip t 0)) (Viable L t value (skip t 0)) R → Means L t (endOf t R)
+    go : (R : Read) → R ≡ root L t → Told (Parsed L t value (L .depth) top 0 0 (skip t 0)) (Viable L t value (skip t 0)) R → RightAnswer L t (endOf t R)
     go (bad r) e v = value-refused L t r e v
     go (good f to) e p =
-        if-less (Means L t) (skip t to) (length t)
+        if-less (RightAnswer L t) (skip t to) (length t)
         (λ z. record { n = 2; p = skip t to; is = refl; first = unended L t f to e p z; each = λ h. absurd (omega arith) })
         (λ z.
         let o : skip t to ≡ length t = omega (arith, read-inside L t p) in
@@ -215,7 +215,7 @@ module _ (L : Limits) (t : List ℕ) (short : length t ≤ L .bytes) (n p : ℕ)
   first-refused : FirstFault L t n p → Refuses L t n p
   first-refused f = go (readOf L t) refl (means L t short)
     where
-      go : (R : Read) → readOf L t ≡ R → Means L t R → Refuses L t n p
+      go : (R : Read) → readOf L t ≡ R → RightAnswer L t R → Refuses L t n p
       go (good g to) e m = absurd (no-fault L t g to e (m .0) (f .fault))
       go (bad r) e m =
           let o = one-first L t f (m .first) in

@@ -19,8 +19,8 @@ use Rattle.text.specs.Grammar.{Ws, quoted, nothing, opening, Part, value
 use Rattle.text.specs.Seats.{Seat, under, behind}
 use Rattle.text.specs.declared.Refusal.{Refusal}
 use Rattle.text.specs.declared.Refusal.the-variants.{TooLong, Grammar, Character, Repeated, Deep, Many, Small}
-use Rattle.text.proofs.Grammar.Stands.{Stands, Like, one-stands, stands-join, stands-to, stands-inside, like-none, like-stands, like-more, like-join}
-use Rattle.text.proofs.Grammar.Exact.{Standing}
+use Rattle.text.proofs.Grammar.Stands.{BytesStand, Like, one-stands, stands-join, stands-to, stands-inside, like-none, like-stands, like-more, like-join}
+use Rattle.text.proofs.Grammar.Exact.{HasWord}
 use Rattle.text.proofs.Grammar.Words.{skip-told}
 use Rattle.text.proofs.Grammar.Trees.{join-assoc}
 use Rattle.text.proofs.Grammar.Wrong.{Good-name, Kept, kept-join, kept-node, kept-none}
@@ -100,7 +100,7 @@ module _ (L : Limits) (t : List ℕ) where
   pub record Parsed (a : Part) (depth : ℕ) (c : Seat) (ns ne at : ℕ) (f : Forest) (to : ℕ) : Type 0 where
     pub word : List ℕ
     pub is : Is a word
-    pub stands : Stands t at to word
+    pub stands : BytesStand t at to word
     pub trees : f ≡ treeOf is ns ne at
     pub kept : Kept L t depth c f
 
@@ -113,10 +113,10 @@ module _ (L : Limits) (t : List ℕ) where
     pub within : e ≤ length t
 
   -- items stand from `at` up to their closing byte, and f is what stands before them and then their trees
-  pub record Listed (b : Bracket) (depth : ℕ) (c : Seat) (at : ℕ) (f : Forest) (to : ℕ) : Type 0 where
+  pub record ItemsStand (b : Bracket) (depth : ℕ) (c : Seat) (at : ℕ) (f : Forest) (to : ℕ) : Type 0 where
     pub word : List ℕ
     pub is : Is (items b) word
-    pub stands : Stands t at to (word ++ closing b ∷ [])
+    pub stands : BytesStand t at to (word ++ closing b ∷ [])
     pub trees : f ≡ join (c .beside) (treeOf is 0 0 at)
     pub kept : Kept L t depth c (treeOf is 0 0 at)
 
@@ -124,7 +124,7 @@ module _ (L : Limits) (t : List ℕ) where
   pub record Closed-by (b : Bracket) (depth : ℕ) (c : Seat) (at : ℕ) (f : Forest) (to : ℕ) : Type 0 where
     pub word : List ℕ
     pub is : Is value (opening b ∷ word)
-    pub stands : Stands t (at + 1) to word
+    pub stands : BytesStand t (at + 1) to word
     pub trees : (ns ne : ℕ) → node b ns ne at to f none ≡ treeOf is ns ne at
     pub kept : Kept L t depth (under c) f
 
@@ -136,8 +136,8 @@ module _ (L : Limits) (t : List ℕ) where
     pub within : e ≤ length t
 
   -- a beginning that stands
-  pub glued-stands : {at to c : ℕ} {v : List ℕ} → at ≤ length t → c < 256 → Stands t at to v → byteAt t (skip t to) ≡ c
-      → (s : Standing t Ws to (skip t to)) (r : Standing t Ws (skip t to + 1) (skip t (skip t to + 1))) → Stands t at (skip t (skip t to + 1)) (glued c v (s .word) (r .word) [])
+  pub glued-stands : {at to c : ℕ} {v : List ℕ} → at ≤ length t → c < 256 → BytesStand t at to v → byteAt t (skip t to) ≡ c
+      → (s : HasWord t Ws to (skip t to)) (r : HasWord t Ws (skip t to + 1) (skip t (skip t to + 1))) → BytesStand t at (skip t (skip t to + 1)) (glued c v (s .word) (r .word) [])
   glued-stands i h p e s r = stands-join p (stands-join (s .stands) (stands-join (one-stands e h) (rw append-nil (r .stands))))
 
   -- ---- what could begin at a place ----
@@ -165,13 +165,13 @@ module _ (L : Limits) (t : List ℕ) where
 
   module _ (b : Bracket) (depth : ℕ) where
     module _ {c : Seat} {at to : ℕ} {f : Forest} (i : at ≤ length t) (p : Parsed (item b) depth c 0 0 at f to) (k : byteAt t (skip t to) ≡ 44) where
-      s : Standing t Ws to (skip t to)
+      s : HasWord t Ws to (skip t to)
       s = skip-told t to
 
-      r : Standing t Ws (skip t to + 1) (skip t (skip t to + 1))
+      r : HasWord t Ws (skip t to + 1) (skip t (skip t to + 1))
       r = skip-told t (skip t to + 1)
 
-      g : Stands t at (skip t (skip t to + 1)) (glued 44 (p .word) (s .word) (r .word) [])
+      g : BytesStand t at (skip t (skip t to + 1)) (glued 44 (p .word) (s .word) (r .word) [])
       g = glued-stands i (omega arith) (p .stands) k s r
 
       there : skip t (skip t to + 1) ≡ at + length (p .word) + length (s .word) + 1 + length (r .word)
@@ -192,8 +192,8 @@ module _ (L : Limits) (t : List ℕ) where
             within = v .within;
           }
 
-      extend : (R : Read) → Told (Listed b depth (behind c f) (skip t (skip t to + 1))) (Viable (items b) (skip t (skip t to + 1))) R
-          → Told (Listed b depth c at) (Viable (items b) at) R
+      extend : (R : Read) → Told (ItemsStand b depth (behind c f) (skip t (skip t to + 1))) (Viable (items b) (skip t (skip t to + 1))) R
+          → Told (ItemsStand b depth c at) (Viable (items b) at) R
       extend (bad x) h = stopped-map _ _ (λ q e. after-comma) x h
       extend (good y x) h =
           record {
@@ -206,15 +206,15 @@ module _ (L : Limits) (t : List ℕ) where
           }
 
     after-told : (c : Seat) (at : ℕ) (more : Forest → ℕ → Read) → at ≤ length t
-        → ((f : Forest) (to : ℕ) → to ≤ length t → Told (Listed b depth (behind c f) to) (Viable (items b) to) (more f to))
-        → (R : Read) → Told (Parsed (item b) depth c 0 0 at) (Viable (item b) at) R → Told (Listed b depth c at) (Viable (items b) at) (afterItem t (closing b) (c .beside) more R)
+        → ((f : Forest) (to : ℕ) → to ≤ length t → Told (ItemsStand b depth (behind c f) to) (Viable (items b) to) (more f to))
+        → (R : Read) → Told (Parsed (item b) depth c 0 0 at) (Viable (item b) at) R → Told (ItemsStand b depth c at) (Viable (items b) at) (afterItem t (closing b) (c .beside) more R)
     unfolding afterItem treeOf
     after-told c at more i m (bad r) h =
         stopped-map _ _ (λ q e v. record { word = v .word ++ []; is = one (v .is) Star.none; like = like-more [] (v .like); later = v .later; within = v .within }) r h
     after-told c at more i m (good f to) p =
         let s = skip-told t to in
         let l = stands-join (p .stands) (s .stands) in
-        let P = Told (Listed b depth c at) (Viable (items b) at) in
+        let P = Told (ItemsStand b depth c at) (Viable (items b) at) in
         if-equal P (byteAt t (skip t to)) (closing b)
         (λ e. record {
           word = p .word ++ s .word;
@@ -230,7 +230,7 @@ module _ (L : Limits) (t : List ℕ) where
     module _ (read : ItemReader)
         (told : (c : Seat) (at : ℕ) → at ≤ length t → Told (Parsed (item b) depth c 0 0 at) (Viable (item b) at) (read (c .beside) at (c .after))) where
       pub items-told : (turns : ℕ) (c : Seat) (at : ℕ) → at ≤ length t
-          → Told (Listed b depth c at) (Viable (items b) at) (itemsFrom t read (closing b) turns at (c .after) (c .beside))
+          → Told (ItemsStand b depth c at) (Viable (items b) at) (itemsFrom t read (closing b) turns at (c .after) (c .beside))
       unfolding itemsFrom treeOf
       items-told zero c at i =
           let v = some-item at i b in
@@ -240,8 +240,8 @@ module _ (L : Limits) (t : List ℕ) where
 
       -- ---- containers ----
 
-      module _ (c : Seat) (at : ℕ) (s : Standing t Ws (at + 1) (skip t (at + 1))) where
-        tree-full : {ns ne to : ℕ} {f : Forest} (h : Listed b depth (under c) (skip t (at + 1)) f to) → node b ns ne at to f none ≡ treeOf (full b (s .is) (h .is)) ns ne at
+      module _ (c : Seat) (at : ℕ) (s : HasWord t Ws (at + 1) (skip t (at + 1))) where
+        tree-full : {ns ne to : ℕ} {f : Forest} (h : ItemsStand b depth (under c) (skip t (at + 1)) f to) → node b ns ne at to f none ≡ treeOf (full b (s .is) (h .is)) ns ne at
         unfolding treeOf join
         tree-full {ns} {ne} {to} h =
             let x : skip t (at + 1) ≡ at + 1 + length (s .word) = stands-to (s .stands) in
@@ -258,7 +258,7 @@ module _ (L : Limits) (t : List ℕ) where
               within = v .within;
             }
 
-        rest-told : (R : Read) → Told (Listed b depth (under c) (skip t (at + 1))) (Viable (items b) (skip t (at + 1))) R → Told (Closed-by b depth c at) (Opened b at) R
+        rest-told : (R : Read) → Told (ItemsStand b depth (under c) (skip t (at + 1))) (Viable (items b) (skip t (at + 1))) R → Told (Closed-by b depth c at) (Opened b at) R
         unfolding join
         rest-told (bad r) h = stopped-map _ _ (λ q e. opened) r h
         rest-told (good f to) h =

@@ -22,9 +22,9 @@ by-order {A} a b y n = go (ltb a b) refl
     go false e = n (ltb-false a b e)
 
 -- the bytes w stand in t from `at` to `to`
-pub data Stands (t : List ℕ) : ℕ → ℕ → List ℕ → Type 0 where
-  done : {at : ℕ} → Stands t at at []
-  next : {at to x : ℕ} {w : List ℕ} → byteAt t at ≡ x → at < length t → Stands t (at + 1) to w → Stands t at to (x ∷ w)
+pub data BytesStand (t : List ℕ) : ℕ → ℕ → List ℕ → Type 0 where
+  done : {at : ℕ} → BytesStand t at at []
+  next : {at to x : ℕ} {w : List ℕ} → byteAt t at ≡ x → at < length t → BytesStand t (at + 1) to w → BytesStand t at to (x ∷ w)
 
 -- at each place from `at` on and before q, w has the byte that t has
 pub data Like (t : List ℕ) (q : ℕ) : ℕ → List ℕ → Type 0 where
@@ -32,40 +32,40 @@ pub data Like (t : List ℕ) (q : ℕ) : ℕ → List ℕ → Type 0 where
   next : {at x : ℕ} {w : List ℕ} → (at < q → byteAt t at ≡ x) → Like t q (at + 1) w → Like t q at (x ∷ w)
 
 module _ {t : List ℕ} where
-  pub one-stands : {at x : ℕ} → byteAt t at ≡ x → x < 256 → Stands t at (at + 1) (x ∷ [])
-  one-stands {at} e h = Stands.next e (inside t at (omega arith)) Stands.done
+  pub one-stands : {at x : ℕ} → byteAt t at ≡ x → x < 256 → BytesStand t at (at + 1) (x ∷ [])
+  one-stands {at} e h = BytesStand.next e (inside t at (omega arith)) BytesStand.done
 
-  pub stands-join : {at mid to : ℕ} {v w : List ℕ} → Stands t at mid v → Stands t mid to w → Stands t at to (v ++ w)
-  stands-join Stands.done h = h
-  stands-join (Stands.next e i s) h = Stands.next e i (stands-join s h)
+  pub stands-join : {at mid to : ℕ} {v w : List ℕ} → BytesStand t at mid v → BytesStand t mid to w → BytesStand t at to (v ++ w)
+  stands-join BytesStand.done h = h
+  stands-join (BytesStand.next e i s) h = BytesStand.next e i (stands-join s h)
 
-  pub stands-split : {at to : ℕ} (v : List ℕ) {w : List ℕ} → Stands t at to (v ++ w) → (mid : ℕ) × Stands t at mid v × Stands t mid to w
-  stands-split {at} [] s = (at, Stands.done, s)
-  stands-split (x ∷ v) (Stands.next e i s) = let h = stands-split v s in (h .0, Stands.next e i (h .1), h .2)
+  pub stands-split : {at to : ℕ} (v : List ℕ) {w : List ℕ} → BytesStand t at to (v ++ w) → (mid : ℕ) × BytesStand t at mid v × BytesStand t mid to w
+  stands-split {at} [] s = (at, BytesStand.done, s)
+  stands-split (x ∷ v) (BytesStand.next e i s) = let h = stands-split v s in (h .0, BytesStand.next e i (h .1), h .2)
 
-  pub stands-to : {at to : ℕ} {w : List ℕ} → Stands t at to w → to ≡ at + length w
-  stands-to Stands.done = sym (add-zero _)
-  stands-to (Stands.next e i s) = let h = stands-to s in omega arith
+  pub stands-to : {at to : ℕ} {w : List ℕ} → BytesStand t at to w → to ≡ at + length w
+  stands-to BytesStand.done = sym (add-zero _)
+  stands-to (BytesStand.next e i s) = let h = stands-to s in omega arith
 
-  pub stands-inside : {at to : ℕ} {w : List ℕ} → Stands t at to w → at ≤ length t → to ≤ length t
-  stands-inside Stands.done i = i
-  stands-inside (Stands.next e l s) i = stands-inside s (omega arith)
+  pub stands-inside : {at to : ℕ} {w : List ℕ} → BytesStand t at to w → at ≤ length t → to ≤ length t
+  stands-inside BytesStand.done i = i
+  stands-inside (BytesStand.next e l s) i = stands-inside s (omega arith)
 
   pub like-none : {q at : ℕ} (w : List ℕ) → q ≤ at → Like t q at w
   like-none [] h = Like.done h
   like-none {q} {at} (x ∷ w) h = Like.next (λ (l : at < q). absurd (omega arith)) (like-none w (omega arith))
 
-  pub like-stands : {at to : ℕ} {w : List ℕ} → Stands t at to w → Like t to at w
-  like-stands Stands.done = Like.done (le-refl _)
-  like-stands (Stands.next e i s) = Like.next (λ l. e) (like-stands s)
+  pub like-stands : {at to : ℕ} {w : List ℕ} → BytesStand t at to w → Like t to at w
+  like-stands BytesStand.done = Like.done (le-refl _)
+  like-stands (BytesStand.next e i s) = Like.next (λ l. e) (like-stands s)
 
   pub like-more : {q at : ℕ} {v : List ℕ} (w : List ℕ) → Like t q at v → Like t q at (v ++ w)
   like-more w (Like.done h) = like-none w h
   like-more w (Like.next e h) = Like.next e (like-more w h)
 
-  pub like-join : {q at mid : ℕ} {v w : List ℕ} → Stands t at mid v → Like t q mid w → Like t q at (v ++ w)
-  like-join Stands.done h = h
-  like-join (Stands.next e i s) h = Like.next (λ l. e) (like-join s h)
+  pub like-join : {q at mid : ℕ} {v w : List ℕ} → BytesStand t at mid v → Like t q mid w → Like t q at (v ++ w)
+  like-join BytesStand.done h = h
+  like-join (BytesStand.next e i s) h = Like.next (λ l. e) (like-join s h)
 
   pub like-tail : {q at x : ℕ} {w : List ℕ} → Like t q at (x ∷ w) → Like t q (at + 1) w
   like-tail (Like.next e h) = h

@@ -27,11 +27,11 @@ use Rattle.text.specs.Seats.{Seat, Sits}
 use Rattle.text.specs.declared.Token.{Token}
 use Rattle.text.specs.declared.Token.the-variants.{End, No2, No3}
 use Rattle.text.specs.declared.Refusal.the-variants.{Grammar}
-use Rattle.text.proofs.Grammar.Stands.{clash, Stands, Like, stands-join, stands-to, stands-inside, like-none, like-stands, like-more, like-join, like-less}
-use Rattle.text.proofs.Grammar.Exact.{Standing, Begun, Said}
+use Rattle.text.proofs.Grammar.Stands.{clash, BytesStand, Like, stands-join, stands-to, stands-inside, like-none, like-stands, like-more, like-join, like-less}
+use Rattle.text.proofs.Grammar.Exact.{HasWord, Begun, TokenSays}
 use Rattle.text.proofs.Grammar.Quotes.{quotedAt, string-exact, string-long}
 use Rattle.text.proofs.Grammar.Words.{skip-told, simpleOf, simple-exact, Lead, no-value, a-simple, a-bracket, lead, lead-opens, token-simple, kind-text, kind-way}
-use Rattle.text.proofs.Grammar.Names.{Names}
+use Rattle.text.proofs.Grammar.Names.{NamesSpell}
 use Rattle.text.proofs.Grammar.Wrong.{Good-name, Kept, kept-leaf}
 use Rattle.text.proofs.Grammar.Rules.{end-quoted}
 use Rattle.text.proofs.Grammar.Sound.{Told, stopped-map, glued, glue, null-value, Parsed, Viable, glued-stands, some-value, some-bracket, container-told}
@@ -70,7 +70,7 @@ module _ (L : Limits) (t : List ℕ) where
       })
       (λ m. rw (token-simple t k at (lead-opens k (byteAt t at) w d)) (go m (simpleOf t k at) refl (simple-exact t k .told at i)))
     where
-      go : c .after < L .values → (key : Token) → simpleOf t k at ≡ key → Said t (IsSimple k) at key
+      go : c .after < L .values → (key : Token) → simpleOf t k at ≡ key → TokenSays t (IsSimple k) at key
           → Told (Parsed L t value depth c ns ne at) (Viable L t value at) (scalarWith (simpleKind k) ns ne at key)
       go m (End to) e s =
           record {
@@ -125,15 +125,15 @@ module _ (L : Limits) (t : List ℕ) where
       record { word = b .word ++ (58 ∷ 110 ∷ 117 ∷ 108 ∷ 108 ∷ []); is = member (b .is) Star.none Star.none null-value; like = like-more _ (b .like); later = b .later; within = b .within }
 
   -- a member whose name is read, up to its value
-  module _ (depth : ℕ) (c : Seat) (at end : ℕ) (i : at ≤ length t) (m : Standing t JsonString at end) where
+  module _ (depth : ℕ) (c : Seat) (at end : ℕ) (i : at ≤ length t) (m : HasWord t JsonString at end) where
     module _ (k : byteAt t (skip t end) ≡ 58) where
-      s : Standing t Ws end (skip t end)
+      s : HasWord t Ws end (skip t end)
       s = skip-told t end
 
-      r : Standing t Ws (skip t end + 1) (skip t (skip t end + 1))
+      r : HasWord t Ws (skip t end + 1) (skip t (skip t end + 1))
       r = skip-told t (skip t end + 1)
 
-      g : Stands t at (skip t (skip t end + 1)) (glued 58 (m .word) (s .word) (r .word) [])
+      g : BytesStand t at (skip t (skip t end + 1)) (glued 58 (m .word) (s .word) (r .word) [])
       g = glued-stands L t i (omega arith) (m .stands) k s r
 
       whole : {w : List ℕ} (d : Is value w) → treeOf d (at + 1) (end - 1) (skip t (skip t end + 1)) ≡ treeOf (member (m .is) (s .is) (r .is) d) 0 0 at
@@ -185,7 +185,7 @@ module _ (L : Limits) (t : List ℕ) where
 
   member-told : (read : Reader) (depth : ℕ) (c : Seat) (at : ℕ) → at ≤ length t
       → ((at : ℕ) (ns ne : ℕ) → Good-name L t (c .beside) ns ne → at ≤ length t → Told (Parsed L t value depth c ns ne at) (Viable L t value at) (read ns ne at (c .after)))
-      → (key : Token) → quotedAt t at ≡ key → Said t JsonString at key
+      → (key : Token) → quotedAt t at ≡ key → TokenSays t JsonString at key
       → Told (Parsed L t (item curly) depth c 0 0 at) (Viable L t (item curly) at) (memberWith L t read (c .beside) at (c .after) key)
   unfolding memberWith
   member-told read depth c at i told (No2 q) e b = name-begun b
@@ -262,13 +262,13 @@ module _ (L : Limits) (t : List ℕ) where
   first-name c at (empty b p) h = h .sane c _ Sits.node-here .names
   first-name c at (full b p d) h = h .sane c _ Sits.node-here .names
 
-  value-names : {w codes : List ℕ} (d : Is value w) (ns ne at : ℕ) → Spells (partOf t ns ne) codes → Names t (treeOf d ns ne at)
+  value-names : {w codes : List ℕ} (d : Is value w) (ns ne at : ℕ) → Spells (partOf t ns ne) codes → NamesSpell t (treeOf d ns ne at)
   unfolding treeOf
-  value-names (simple k l) ns ne at h = Names.a-leaf h Names.no-more
-  value-names (empty b p) ns ne at h = Names.a-node h Names.no-more
-  value-names (full b p d) ns ne at h = Names.a-node h Names.no-more
+  value-names (simple k l) ns ne at h = NamesSpell.a-leaf h NamesSpell.no-more
+  value-names (empty b p) ns ne at h = NamesSpell.a-node h NamesSpell.no-more
+  value-names (full b p d) ns ne at h = NamesSpell.a-node h NamesSpell.no-more
 
-  derived-names : {b : Bracket} {w : List ℕ} (depth : ℕ) (c : Seat) (at : ℕ) (d : Is (item b) w) → Kept L t depth c (treeOf d 0 0 at) → Names t (treeOf d 0 0 at)
+  derived-names : {b : Bracket} {w : List ℕ} (depth : ℕ) (c : Seat) (at : ℕ) (d : Is (item b) w) → Kept L t depth c (treeOf d 0 0 at) → NamesSpell t (treeOf d 0 0 at)
   unfolding treeOf
   derived-names depth c at (element d) h = value-names {codes = []} d 0 0 at (rw (part-none t 0 (omega arith)) Spells.none)
   derived-names depth c at (member {m} {s} {r} g p o d) h =
@@ -276,7 +276,7 @@ module _ (L : Limits) (t : List ℕ) where
       let begin = at + length m + length s + 1 + length r in
       value-names d (at + 1) (at + length m - 1) begin (rw last at (end-quoted t at (first-name c begin d h .closed at refl) .spells))
 
-  pub item-names : (depth : ℕ) (b : Bracket) (c : Seat) (at : ℕ) {f : Forest} {to : ℕ} → at ≤ length t → itemAt L t depth b (c .beside) at (c .after) ≡ good f to → Names t f
+  pub item-names : (depth : ℕ) (b : Bracket) (c : Seat) (at : ℕ) {f : Forest} {to : ℕ} → at ≤ length t → itemAt L t depth b (c .beside) at (c .after) ≡ good f to → NamesSpell t f
   item-names depth b c at {f} {to} i e =
       let p : Parsed L t (item b) depth c 0 0 at f to = subst (Told (Parsed L t (item b) depth c 0 0 at) (Viable L t (item b) at)) e (item-told depth b c at i) in
-      subst (Names t) (sym (p .trees)) (derived-names depth c at (p .is) (subst (Kept L t depth c) (p .trees) (p .kept)))
+      subst (NamesSpell t) (sym (p .trees)) (derived-names depth c at (p .is) (subst (Kept L t depth c) (p .trees) (p .kept)))

@@ -18,13 +18,13 @@ use Rattle.text.specs.Abnf.{Star}
 use Rattle.text.specs.Grammar.{Ws, value, JsonText, json-text, treeOf, rootOf}
 use Rattle.text.specs.Seats.{top}
 use Rattle.text.specs.Fault.{Begins}
-use Rattle.text.proofs.Grammar.Stands.{Stands, Like, stands-join, stands-to, stands-inside, like-stands, like-join, like-more, like-skip}
-use Rattle.text.proofs.Grammar.Exact.{Standing, Past}
+use Rattle.text.proofs.Grammar.Stands.{BytesStand, Like, stands-join, stands-to, stands-inside, like-stands, like-join, like-more, like-skip}
+use Rattle.text.proofs.Grammar.Exact.{HasWord, PastPlace}
 use Rattle.text.proofs.Grammar.Words.{ended, skip-told, skip-follow, skip-inside}
 use Rattle.text.proofs.Grammar.Sound.{Told, placeOf, Parsed, Viable}
 use Rattle.text.proofs.Grammar.Told.{no-name, value-told}
 use Rattle.text.proofs.Grammar.Within.{value-later, value-within}
-use Rattle.text.proofs.Grammar.Meets.{Reads, past, Near, near, space-behind, first}
+use Rattle.text.proofs.Grammar.Meets.{MeetsNew, past, NearAnswer, near, space-behind, first}
 use Rattle.text.proofs.Grammar.Follow.{follow}
 use Rattle.text.proofs.Grammar.Low.{from-whence, low}
 use Rattle.text.proofs.Grammar.Calm.{Calm, no-names, calm}
@@ -49,8 +49,8 @@ module _ (L : Limits) (t : List ℕ) where
   -- a text of the grammar that this one is like as far as q: its value is met, and the white space after it ends the text
   record Followed (q : ℕ) (w : List ℕ) (f : Forest) : Type 0 where
     end : ℕ
-    meets : Reads L t q top f end (root L t)
-    ends : end ≤ length t → (skip t end ≡ length w) ⊎ Past q (length w) (skip t end)
+    meets : MeetsNew L t q top f end (root L t)
+    ends : end ≤ length t → (skip t end ≡ length w) ⊎ PastPlace q (length w) (skip t end)
 
   text-follow : (q : ℕ) {w : List ℕ} (d : JsonText w) → Like t q 0 (w ++ 256 ∷ []) → Followed q w (rootOf d)
   unfolding rootOf
@@ -65,7 +65,7 @@ module _ (L : Limits) (t : List ℕ) where
             (λ (u : skip t 0 ≡ 0 + length s).
             let v : skip t 0 ≡ length s = omega arith in
             rw v (follow L t q d (r ++ 256 ∷ []) (space-behind (256 ∷ []) o ended) (L .depth) top 0 0 (length s) (zero-add (L .depth)) (omega arith) (omega (arith, start)) ls))
-            (λ (u : Past q (0 + length s) (skip t 0)). past (omega (arith, u .word)) (omega (arith, u .answer, value-later L t (L .depth) 0 0 (skip t 0) 0 start)))
+            (λ (u : PastPlace q (0 + length s) (skip t 0)). past (omega (arith, u .word)) (omega (arith, u .answer, value-later L t (L .depth) 0 0 (skip t 0) 0 start)))
             (skip-follow t (w ++ (r ++ 256 ∷ [])) (omega arith) p dark l);
         ends = λ j. rw n (skip-follow t (256 ∷ []) j o refl (like-skip w ls));
       }
@@ -74,8 +74,8 @@ module _ (L : Limits) (t : List ℕ) where
     -- a text, followed as far as it is met
     pub record Met (w : List ℕ) (f : Forest) (q : ℕ) : Type 0 where
       pub end : ℕ
-      pub is : Near L t q top f end R
-      pub ends : end ≤ length t → (skip t end ≡ length w) ⊎ Past q (length w) (skip t end)
+      pub is : NearAnswer L t q top f end R
+      pub ends : end ≤ length t → (skip t end ≡ length w) ⊎ PastPlace q (length w) (skip t end)
 
     -- the text itself, if it is one of the grammar
     pub self : (d : JsonText t) → Met t (rootOf d) (length t + 1)
@@ -100,7 +100,7 @@ module _ (L : Limits) (t : List ℕ) where
       (λ (u : skip t 0 ≡ 0 + length s).
       let v : skip t 0 ≡ length s = omega arith in
       rw v (calm L t q d (r ++ 256 ∷ []) (space-behind (256 ∷ []) o ended) (L .depth) top 0 0 (length s) (zero-add (L .depth)) (omega arith) (omega (arith, start)) ls (no-names L t q none)))
-      (λ (u : Past q (0 + length s) (skip t 0)). record { least = λ c y m x i e lt. absurd (omega (arith, u .word, from-whence L t (length s) (low L t d top c y m x 0 0 (length s) i e))) })
+      (λ (u : PastPlace q (0 + length s) (skip t 0)). record { least = λ c y m x i e lt. absurd (omega (arith, u .word, from-whence L t (length s) (low L t d top c y m x 0 0 (length s) i e))) })
       (skip-follow t (w ++ (r ++ 256 ∷ [])) (omega arith) p (first d (r ++ 256 ∷ []) .dark) l)
 
   -- a text of the grammar that begins as the text does, the byte at p too, has nothing wrong up to there that comes before the answer
@@ -123,16 +123,16 @@ module _ (L : Limits) (t : List ℕ) where
 
   -- a value that is read, with the white space around it
   module _ {f : Forest} {to : ℕ} (p : Parsed L t value (L .depth) top 0 0 (skip t 0) f to) where
-    s : Standing t Ws 0 (skip t 0)
+    s : HasWord t Ws 0 (skip t 0)
     s = skip-told t 0
 
-    r : Standing t Ws to (skip t to)
+    r : HasWord t Ws to (skip t to)
     r = skip-told t to
 
     pub value-inside : to ≤ length t
     value-inside = stands-inside (p .stands) start
 
-    all : Stands t 0 (skip t to) (s .word ++ (p .word ++ r .word))
+    all : BytesStand t 0 (skip t to) (s .word ++ (p .word ++ r .word))
     all = stands-join (s .stands) (stands-join (p .stands) (r .stands))
 
     derived : Derived f (s .word ++ (p .word ++ r .word))

@@ -22,14 +22,14 @@ use Rattle.text.specs.Abnf.{Byte, Between, Exactly, exactly, seq, Opt, t
 use Rattle.text.specs.Grammar.{Blank, Ws, Number, JsonString, quoted, Simple, nothing, falsity, truth, numeral, text, simpleKind, IsSimple, opening, closing}
 use Rattle.text.specs.declared.Token.{Token}
 use Rattle.text.specs.declared.Token.the-variants.{End, No2, No3}
-use Rattle.text.proofs.Grammar.Stands.{Stands, Like, stands-to, stands-inside, one-stands, stands-join, like-none, like-tail, like-stuck}
-use Rattle.text.proofs.Grammar.Exact.{Standing, Said, Past, Goes, Exact, Tells, ends-exact, run-stands, run-exact}
-use Rattle.text.proofs.Grammar.Number.{Ends, between, digit-tells, number-exact}
+use Rattle.text.proofs.Grammar.Stands.{BytesStand, Like, stands-to, stands-inside, one-stands, stands-join, like-none, like-tail, like-stuck}
+use Rattle.text.proofs.Grammar.Exact.{HasWord, TokenSays, PastPlace, TokenFollows, Exact, TestOf, ends-exact, run-stands, run-exact}
+use Rattle.text.proofs.Grammar.Number.{AfterNumber, between, digit-tells, number-exact}
 use Rattle.text.proofs.Grammar.Quotes.{quotedAt, string-exact}
 
 -- ---- white space ----
 
-pub blank-tells : Tells Blank isSpace
+pub blank-tells : TestOf Blank isSpace
 blank-tells = record { sure = sure; back = back; small = λ x e. small x (sure x e) }
   where
     sure : (x : ℕ) → isSpace x ≡ true → Blank x
@@ -52,11 +52,11 @@ blank-tells = record { sure = sure; back = back; small = λ x e. small x (sure x
     small x Blank.return = omega arith
 
 module _ (t : List ℕ) where
-  pub skip-told : (at : ℕ) → Standing t Ws at (skip t at)
+  pub skip-told : (at : ℕ) → HasWord t Ws at (skip t at)
   skip-told at = run-stands t blank-tells at
 
   pub skip-follow : {q at : ℕ} {w : List ℕ} (s : List ℕ) → at ≤ length t → Ws w → isSpace (byteAt s 0) ≡ false → Like t q at (w ++ s)
-      → (skip t at ≡ at + length w) ⊎ Past q (at + length w) (skip t at)
+      → (skip t at ≡ at + length w) ⊎ PastPlace q (at + length w) (skip t at)
   skip-follow {q} {at} {w} s i c o h = run-exact t blank-tells .follow q at w s i c o h
 
   pub skip-later : (at : ℕ) → at ≤ skip t at
@@ -72,7 +72,7 @@ pub data Behind : ℕ → Type 0 where
   close : (b : Bracket) → Behind (closing b)
   ended : Behind 256
 
-behind-ends : {z : ℕ} → Behind z → Ends z
+behind-ends : {z : ℕ} → Behind z → AfterNumber z
 behind-ends (blank Blank.space) = record { digits = refl; dots = refl; powers = refl }
 behind-ends (blank Blank.tab) = record { digits = refl; dots = refl; powers = refl }
 behind-ends (blank Blank.line-feed) = record { digits = refl; dots = refl; powers = refl }
@@ -93,25 +93,25 @@ the-word : {u v : List ℕ} → Exactly v u → u ≡ v
 the-word exactly = refl
 
 module _ (t : List ℕ) where
-  word-told : (v : List ℕ) → Each-byte v → (at : ℕ) → at ≤ length t → Said t (Exactly v) at (wordAt t v at)
+  word-told : (v : List ℕ) → Each-byte v → (at : ℕ) → at ≤ length t → TokenSays t (Exactly v) at (wordAt t v at)
   unfolding wordAt
-  word-told [] b at i = record { word = []; is = exactly; stands = Stands.done }
+  word-told [] b at i = record { word = []; is = exactly; stands = BytesStand.done }
   word-told (x ∷ w) b at i =
-      if-equal (Said t (Exactly (x ∷ w)) at) (byteAt t at) x
+      if-equal (TokenSays t (Exactly (x ∷ w)) at) (byteAt t at) x
       (λ e. longer e (wordAt t w (at + 1)) (word-told w (b .1) (at + 1) (stands-inside (one-stands {t = t} e (b .0)) i)))
       (λ e. record { word = x ∷ w; is = exactly; like = like-none (x ∷ w) (le-refl at); later = le-refl at; within = i })
     where
-      longer : byteAt t at ≡ x → (k : Token) → Said t (Exactly w) (at + 1) k → Said t (Exactly (x ∷ w)) at k
+      longer : byteAt t at ≡ x → (k : Token) → TokenSays t (Exactly w) (at + 1) k → TokenSays t (Exactly (x ∷ w)) at k
       longer e (End to) s = record { word = x ∷ s .word; is = rw (the-word (s .is)) exactly; stands = stands-join (one-stands e (b .0)) (s .stands) }
       longer e (No2 q) s = record { word = x ∷ s .word; is = rw (the-word (s .is)) exactly; like = Like.next (λ l. e) (s .like); later = omega (arith, s .later); within = s .within }
       longer e (No3 q) s = record { word = x ∷ s .word; is = rw (the-word (s .is)) exactly; like = Like.next (λ l. e) (s .like); later = omega (arith, s .later); within = s .within }
 
-  word-follow : (v : List ℕ) (q at : ℕ) (s : List ℕ) → Like t q at (v ++ s) → Goes q (at + length v) (wordAt t v at)
+  word-follow : (v : List ℕ) (q at : ℕ) (s : List ℕ) → Like t q at (v ++ s) → TokenFollows q (at + length v) (wordAt t v at)
   unfolding wordAt
   word-follow [] q at s h = inl (sym (add-zero at))
   word-follow (x ∷ v) q at s h =
       let one : at + suc (length v) ≡ at + 1 + length v = omega arith in
-      if-equal (Goes q (at + suc (length v))) (byteAt t at) x
+      if-equal (TokenFollows q (at + suc (length v))) (byteAt t at) x
       (λ e. rw one (word-follow v q (at + 1) s (like-tail h)))
       (λ e. let l = like-stuck h e in record { word = omega arith; answer = l })
 

@@ -16,7 +16,7 @@ use Rattle.text.specs.Seats.{Head, Seat, under, behind, Sits}
 use Rattle.text.specs.declared.Token.the-variants.{End, No3}
 use Rattle.text.proofs.Grammar.Quotes.{quotedAt}
 use Rattle.text.proofs.Grammar.Trees.{size-join, depth-join, Either-of, first, later, in-join, in-none}
-use Rattle.text.proofs.Grammar.Names.{Known}
+use Rattle.text.proofs.Grammar.Names.{KnownName}
 
 -- the smaller place first, then the smaller number; the numbers are 2 to 6
 abbrev pub rank : (number place : ℕ) → ℕ
@@ -31,7 +31,7 @@ module _ (L : Limits) (t : List ℕ) where
   pub data Wrong (d : Seat) (h : Head) : (number place : ℕ) → Type 0 where
     string : {x : ℕ} → h .kind ≡ 5 → quotedAt t (h .from) ≡ No3 x → Wrong d h 3 x
     name : (j : ℕ) {x : ℕ} → h .ns ≡ j + 1 → quotedAt t j ≡ No3 x → Wrong d h 3 x
-    again : {e x : ℕ} → L .unique ≡ true → h .ns ≡ x + 1 → quotedAt t x ≡ End e → Known t (x + 1) (e - 1) (d .beside) → Wrong d h 4 x
+    again : {e x : ℕ} → L .unique ≡ true → h .ns ≡ x + 1 → quotedAt t x ≡ End e → KnownName t (x + 1) (e - 1) (d .beside) → Wrong d h 4 x
     deep : h .holds ≡ true → d .inside ≡ L .depth → Wrong d h 5 (h .from)
     many : d .after ≡ L .values → Wrong d h 6 (h .from)
 

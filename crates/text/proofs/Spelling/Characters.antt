@@ -1,17 +1,14 @@
 -- The step is right about one character:
---     char-spelled                   where the step at i is c of n bytes, the text has n bytes from i on, and they spell c
---     within-text                    and back, for a text that is put together of what comes before, the spelling and the rest
---     one-char, one-length           so the character at a place is unique, and so is its length
+--     char-at                        where the step at i is c of n bytes, n bytes stand from i on that spell c
+--     one-char, one-length           the character at a place is unique, and so is its length
 --     some-bytes                     a spelling has a byte
 -- No bound on the elements of the text is asked: what is no byte is taken as the end.
 -- Assumes nothing.
 use mathlib.Core.Path.{_≡_, refl, sym, ap, subst, _∙_}
 use mathlib.Core.List.{List, [], _++_}
-use Prim.Native.Nat.{ℕ, _+_, _≤_, _<_}
-use native.Mathlib.Omega.{arith}
-use lib.ListN.{length, take, drop}
-use lib.Seq.{take-at, drop-append-seam}
-use Rattle.laws.proofs.Splits.{within, at-seam}
+use Prim.Native.Nat.{ℕ, _<_}
+use lib.ListN.{length, drop}
+use lib.Seq.{drop-append-seam}
 use Rattle.text.specs.Chars.{stepAt}
 use Rattle.text.specs.Spelling.{Spell}
 use Rattle.text.specs.declared.Step.{Step}
@@ -22,22 +19,6 @@ use Rattle.text.proofs.Spelling.Steps.{CharAt, StandsAt, stands-at}
 
 pub char-at : (t : List ℕ) (i : ℕ) {c n : ℕ} → stepAt t i ≡ Char c n → CharAt t i c n
 char-at t i e = subst (StandsAt t i) e (stands-at t i)
-
--- the text has n bytes from i on, and they spell c
-pub record Spelled (t : List ℕ) (i c n : ℕ) : Type 0 where
-  pub in-range : i + n ≤ length t
-  pub spelled : Spell (take n (drop i t)) c
-
-pub char-spelled : (t : List ℕ) (i c n : ℕ) → stepAt t i ≡ Char c n → Spelled t i c n
-char-spelled t i c n e =
-    let a = char-at t i e in
-    let l = char-inside t i e in
-    let m = a .size in
-    let in-text = within t i (a .bytes) (a .rest) (a .split) (omega arith) in
-    record { in-range = omega arith; spelled = rw (a .split, take-at (a .bytes) (a .rest) n m) (a .spelled) }
-
-pub within-text : (u w r : List ℕ) {c : ℕ} → Spell w c → stepAt (u ++ w ++ r) (length u) ≡ Char c (length w)
-within-text u w r s = spelled-step (u ++ w ++ r) (length u) s r (at-seam u w r)
 
 -- ---- the character at a place is unique ----
 

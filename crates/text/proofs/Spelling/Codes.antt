@@ -15,9 +15,8 @@ use borrow.Author.Tests.{lt-ltb, le-ltb}
 use Rattle.laws.specs.Bounds.{AllBelow}
 use Rattle.laws.proofs.Branches.{if-less}
 use Rattle.text.specs.Chars.{checkedAt, tailOf, seq2, seq3, seq4}
-use Rattle.text.specs.Strings.{conts, utf8}
-use Rattle.text.specs.Spelling.{Noncharacter, block, last-two, Good, Utf8}
-use Rattle.text.specs.Spelling as S
+use Rattle.text.specs.Utf8.{Utf8, conts, utf8}
+use Rattle.text.specs.Spelling.{Noncharacter, block, last-two, Good}
 use Rattle.text.specs.declared.Step.{Step}
 use Rattle.text.specs.declared.Step.the-variants.{Char, Bad3}
 use Rattle.text.proofs.Sequences.{by-seq2, by-seq3, by-seq4}
@@ -82,17 +81,17 @@ by-utf8 P c one two three four = if-less P c 128 one (λ a. if-less P c 2048 (tw
 pub utf8-table : (c : ℕ) → c ≤ 0x10FFFF → Utf8 c (utf8 c)
 utf8-table c h =
     by-utf8 (Utf8 c) c
-    (λ k. S.one-byte k)
+    (λ k. Utf8.one-byte k)
     (λ k l.
     let e : c / 64 % 32 * 64 + c % 64 ≡ c = omega arith in
-    rw e at (S.two-bytes {x = c / 64 % 32} {y = c % 64} (omega arith) (omega arith) (rw e k)))
+    rw e at (Utf8.two-bytes {x = c / 64 % 32} {y = c % 64} (omega arith) (omega arith) (rw e k)))
     (λ k l.
     let e : c / 4096 % 16 * 4096 + c / 64 % 64 * 64 + c % 64 ≡ c = omega arith in
-    rw e at (S.three-bytes {x = c / 4096 % 16} {y = c / 64 % 64} {z = c % 64} (omega arith) (omega arith) (omega arith) (rw e k)))
+    rw e at (Utf8.three-bytes {x = c / 4096 % 16} {y = c / 64 % 64} {z = c % 64} (omega arith) (omega arith) (omega arith) (rw e k)))
     (λ k.
     let b : c / 262144 % 8 ≡ c / 262144 = omega arith in
     let e : c / 262144 % 8 * 262144 + c / 4096 % 64 * 4096 + c / 64 % 64 * 64 + c % 64 ≡ c = rw b (omega arith) in
-    rw e at (S.four-bytes {x = c / 262144 % 8} {y = c / 4096 % 64} {z = c / 64 % 64} {w = c % 64} (omega arith) (omega arith) (omega arith) (omega arith) (rw e k)))
+    rw e at (Utf8.four-bytes {x = c / 262144 % 8} {y = c / 4096 % 64} {z = c / 64 % 64} {w = c % 64} (omega arith) (omega arith) (omega arith) (omega arith) (rw e k)))
 
 pub one-byte : (c : ℕ) → c < 128 → utf8 c ≡ c ∷ []
 one-byte c h = by-utf8 (λ w. w ≡ c ∷ []) c (λ k. refl) (λ k l. absurd (omega arith)) (λ k l. absurd (omega arith)) (λ k. absurd (omega arith))

@@ -13,7 +13,8 @@ use borrow.Author.Tests.{ne-eqb}
 use Rattle.laws.proofs.Splits.{first-there, beyond}
 use Rattle.text.specs.Text.{byteAt}
 use Rattle.text.specs.Chars.{escapeAt}
-use Rattle.text.specs.Strings.{stringEnd, utf8, stop, piece, pieceBy, decodeFrom, decode, nameOf}
+use Rattle.text.specs.Strings.{stringEnd, stop, piece, pieceBy, decodeFrom, decode, nameOf}
+use Rattle.text.specs.Utf8.{utf8}
 use Rattle.text.specs.Spelling.{Bare, Spell, raw, short, unit, pair, Spells, none, more, utf8s}
 use Rattle.text.specs.declared.Step.the-variants.{Char}
 use Rattle.text.specs.declared.Token.the-variants.{End}

@@ -8,7 +8,8 @@ use Prim.Native.Nat.{ℕ, _≤_, _<_}
 use native.Mathlib.Decide.{decLt}
 use native.Mathlib.Omega.{arith}
 use lib.ListN.{getD}
-use Rattle.text.specs.Strings.{utf8, decode}
+use Rattle.text.specs.Strings.{decode}
+use Rattle.text.specs.Utf8.{utf8}
 use Rattle.text.specs.Spelling.{Good, Spell, raw, short, unit, pair, Spells, none, more, utf8s}
 use Rattle.text.proofs.Spelling.Codes.{ascii-good, by-utf8}
 use Rattle.text.proofs.Spelling.Digits.{short-some}

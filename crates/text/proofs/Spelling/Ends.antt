@@ -29,7 +29,7 @@ use Rattle.text.proofs.Spelling.Through.{SpellsTo, NoChar, stops, throu
 -- ---- the answers by rules ----
 
 -- the bytes from i up to a quote spell some code points, and e is the place behind the quote
-pub record Closed (t : List ℕ) (i e : ℕ) : Type 0 where
+pub record ClosedString (t : List ℕ) (i e : ℕ) : Type 0 where
   pub after : i < e
   pub within-text : e ≤ length t
   pub quote : byteAt t (e - 1) ≡ 34
@@ -47,10 +47,10 @@ pub record Refused3 (t : List ℕ) (i p : ℕ) : Type 0 where
   pub spells : SpellsTo t i p
   pub ill : Ill (drop p t)
 
-abbrev pub Answers : List ℕ → ℕ → Token → Type 0
-Answers t i (End e) = Closed t i e
-Answers t i (No2 p) = Refused2 t i p
-Answers t i (No3 p) = Refused3 t i p
+abbrev pub StringAnswer : List ℕ → ℕ → Token → Type 0
+StringAnswer t i (End e) = ClosedString t i e
+StringAnswer t i (No2 p) = Refused2 t i p
+StringAnswer t i (No3 p) = Refused3 t i p
 
 -- ---- bytes that spell, as a part of the text ----
 
@@ -68,27 +68,27 @@ spells-part t i q {cs} h k s =
 -- ---- both ways ----
 
 module _ (t : List ℕ) (i : ℕ) where
-  closed-part : (q : ℕ) → SpellsTo t i q → byteAt t q ≡ 34 → Closed t i (q + 1)
+  closed-part : (q : ℕ) → SpellsTo t i q → byteAt t q ≡ 34 → ClosedString t i (q + 1)
   closed-part q s h =
       let p = s .place in
       let l = inside t q (omega arith) in
       let last : q + 1 - 1 ≡ q = omega arith in
       record { after = omega arith; within-text = omega arith; quote = rw last h; codes = s .codes; spelled = rw last (part-spells t i q (omega arith) s) }
 
-  stopped : (at : ℕ) → SpellsTo t i at → (s : Step) → stepAt t at ≡ s → NoChar s → Answers t i (onStep (stringEnd t) at s)
+  stopped : (at : ℕ) → SpellsTo t i at → (s : Step) → stepAt t at ≡ s → NoChar s → StringAnswer t i (onStep (stringEnd t) at s)
   stopped at s Close e n = closed-part at s (subst (StandsAt t at) e (stands-at t at))
   stopped at s (Char c m) e n = absurd n
   stopped at s (Bad2 p) e n = record { from = at; spells = s; cut = step-cut t at p e }
   stopped at s (Bad3 p) e n = rw (step-place t at p e) (record { spells = s; ill = step-ill t at p e })
 
-  pub answers : Answers t i (stringEnd t i)
+  pub answers : StringAnswer t i (stringEnd t i)
   answers = let s = stops t i in rw (s .answer) (stopped (s .at) (s .spells) (s .step) (s .here) (s .no-char))
 
   -- reading goes through what spells, up to q
   up-to : (q : ℕ) → SpellsTo t i q → stringEnd t i ≡ stringEnd t q
   up-to q s = through t i (s .spelled) (s .rest) (s .split) ∙ ap (stringEnd t) (s .place)
 
-  pub answered : (k : Token) → Answers t i k → stringEnd t i ≡ k
+  pub answered : (k : Token) → StringAnswer t i k → stringEnd t i ≡ k
   answered (End e) a =
       let h = a .after in
       let l = a .within-text in
@@ -99,14 +99,14 @@ module _ (t : List ℕ) (i : ℕ) where
 
   -- ---- the same for each answer ----
 
-  pub ended-spells : (e : ℕ) → stringEnd t i ≡ End e → Closed t i e
-  ended-spells e q = subst (Answers t i) q answers
+  pub ended-spells : (e : ℕ) → stringEnd t i ≡ End e → ClosedString t i e
+  ended-spells e q = subst (StringAnswer t i) q answers
 
-  pub spells-ended : (e : ℕ) → Closed t i e → stringEnd t i ≡ End e
+  pub spells-ended : (e : ℕ) → ClosedString t i e → stringEnd t i ≡ End e
   spells-ended e = answered (End e)
 
   pub no3-ill : (p : ℕ) → stringEnd t i ≡ No3 p → Refused3 t i p
-  no3-ill p q = subst (Answers t i) q answers
+  no3-ill p q = subst (StringAnswer t i) q answers
 
   pub ill-no3 : (p : ℕ) → Refused3 t i p → stringEnd t i ≡ No3 p
   ill-no3 p = answered (No3 p)

@@ -14,7 +14,7 @@ use borrow.Author.Tests.{lt-ltb, le-ltb, ne-eqb}
 use Rattle.laws.proofs.Splits.{there, first-there, beyond}
 use Rattle.text.specs.Text.{byteAt}
 use Rattle.text.specs.Chars.{checkedAt, seq3, seq4, tailAt, rawAt, lowAt, pairAt, unitAt, onHex, escapeAt, stepBy, stepAt, hex4At}
-use Rattle.text.specs.Strings.{utf8}
+use Rattle.text.specs.Utf8.{utf8}
 use Rattle.text.specs.Spelling.{Good, Bare, FourDigits, Short, Spell, raw, short, unit, pair}
 use Rattle.text.specs.declared.Hex.the-variants.{Unit}
 use Rattle.text.specs.declared.Step.the-variants.{Char}

@@ -1,6 +1,6 @@
 -- Reading a string goes through what spells, and stops behind it:
 --     through              from the first place of bytes that spell it answers what it answers from the place behind them
---     closed, closed-at    bytes that spell, and a quote: the string ends behind the quote
+--     quote-ends           a quote: the string ends behind it
 --     stops                from any place on, bytes that spell stand up to some place, and no character there: what stands there answers
 -- Assumes nothing.
 use mathlib.Core.Path.{_≡_, refl, sym, ap, _∙_}
@@ -9,7 +9,7 @@ use Prim.Native.Nat.{ℕ, zero, suc, _+_, _-_, _<_}
 use native.Mathlib.Nat.{add-zero}
 use native.Mathlib.Omega.{arith}
 use lib.ListN.{length, drop, length-append}
-use Rattle.laws.proofs.Splits.{first-there, beyond, at-seam}
+use Rattle.laws.proofs.Splits.{beyond}
 use Rattle.text.specs.Text.{byteAt}
 use Rattle.text.specs.Chars.{stepAt, stepBy}
 use Rattle.text.specs.Strings.{onStep, stringEnd}
@@ -34,14 +34,6 @@ through t i (more {w} {u} {c} s rest) r e =
 pub quote-ends : (t : List ℕ) (i : ℕ) → byteAt t i ≡ 34 → stringEnd t i ≡ End (i + 1)
 unfolding stepBy
 quote-ends t i e = let s : stepAt t i ≡ Close = rw e in end-at t i Close s
-
-pub closed-at : (t : List ℕ) (i : ℕ) {w cs : List ℕ} → Spells w cs → (r : List ℕ) → drop i t ≡ w ++ 34 ∷ r → stringEnd t i ≡ End (i + length w + 1)
-closed-at t i {w} s r e =
-    let q : byteAt t (i + length w) ≡ 34 = first-there t (i + length w) 34 r (beyond t i w (34 ∷ r) e) 256 in
-    through t i s (34 ∷ r) e ∙ quote-ends t (i + length w) q
-
-pub closed : (u w r : List ℕ) {cs : List ℕ} → Spells w cs → stringEnd (u ++ w ++ 34 ∷ r) (length u) ≡ End (length u + length w + 1)
-closed u w r s = closed-at (u ++ w ++ 34 ∷ r) (length u) s r (at-seam u w (34 ∷ r))
 
 -- ---- where reading stops ----
 

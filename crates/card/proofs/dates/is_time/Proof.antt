@@ -5,7 +5,8 @@ use Prim.Native.Nat.{_-_}
 use borrow.Author.Needs.{needs}
 use denote.Ref.{now}
 use borrow.Author.Tests.{not-true, not-false}
-use Rattle.text.specs.Strings.{conts, decode}
+use Rattle.text.specs.Strings.{decode}
+use Rattle.text.specs.Utf8.{conts}
 use Rattle.json.specs.Cursors.{rest}
 use Rattle.card.proofs.Cursors.{byte-left, none-left}
 use Rattle.card.proofs.Times.{Begun, begun, begun-over, begun-other, begun-on, begun-done}

@@ -5,7 +5,7 @@ use mathlib.Core.Bool.{false}
 use native.Mathlib.Omega.{arith}
 use denote.Ref.{now}
 use borrow.Author.Needs.{needs}
-use Rattle.text.specs.Strings.{conts}
+use Rattle.text.specs.Utf8.{conts}
 use Rattle.text.specs.Tree.{Forest}
 use Rattle.text.specs.Firsts.{HasFirst, Kinds}
 use Rattle.text.specs.Standing.{Stands}

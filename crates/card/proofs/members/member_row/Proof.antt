@@ -4,7 +4,7 @@ use Prim.Native.Nat.{_+_, _-_, _*_}
 use native.Mathlib.Omega.{arith}
 use denote.Ref.{now}
 use borrow.Author.Needs.{needs}
-use Rattle.text.specs.Strings.{conts}
+use Rattle.text.specs.Utf8.{conts}
 use Rattle.card.specs.Parts.{nameLeft}
 use Rattle.card.proofs.MemberLaws.{Seeking, seeks, seek-hit, seek-next, seek-none}
 use Rattle.card.proofs.members.member_row.Statement.{statement}

@@ -5,7 +5,8 @@ use lib.ListN.{length}
 use denote.Ref.{now}
 use borrow.Author.Needs.{needs}
 use Rattle.json.specs.Cursors.{rest}
-use Rattle.text.specs.Strings.{conts, decode}
+use Rattle.text.specs.Strings.{decode}
+use Rattle.text.specs.Utf8.{conts}
 use Rattle.contact.specs.Pointer.{pointerOf, parts, clash}
 use Rattle.card.proofs.PointerLaws.{clash-differ, clash-left, clash-right, clash-on, fewer}
 use Rattle.card.proofs.pointers.clashes.Statement.{statement}

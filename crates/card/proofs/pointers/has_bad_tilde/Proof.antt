@@ -7,7 +7,8 @@ use denote.Ref.{now}
 use borrow.Author.Needs.{needs}
 use Rattle.card.proofs.Cursors.{byte-left}
 use Rattle.json.specs.Cursors.{rest}
-use Rattle.text.specs.Strings.{conts, decode}
+use Rattle.text.specs.Strings.{decode}
+use Rattle.text.specs.Utf8.{conts}
 use Rattle.contact.specs.Pointer.{badTilde}
 use Rattle.card.proofs.pointers.has_bad_tilde.Statement.{statement}
 use Rattle.card.proofs.pointers.has_bad_tilde.Tie as tie

@@ -1,5 +1,5 @@
 -- `card::pointers::is_own` meets its contract. Assumes nothing.
-use Rattle.text.specs.Strings.{conts}
+use Rattle.text.specs.Utf8.{conts}
 use Rattle.text.specs.Strings.{pieceBy, decodeFrom}
 use Rattle.laws.specs.Scan.{scan}
 use borrow.Author.Needs.{needs}

@@ -4,7 +4,8 @@ use lib.ListN.{length}
 use denote.Ref.{now}
 use borrow.Author.Needs.{needs}
 use Rattle.json.specs.Cursors.{rest}
-use Rattle.text.specs.Strings.{conts, decode}
+use Rattle.text.specs.Strings.{decode}
+use Rattle.text.specs.Utf8.{conts}
 use Rattle.contact.specs.Pointer.{pointerOf, parts}
 use Rattle.laws.specs.declared.Order.the-variants.{Less, More}
 use Rattle.card.specs.Pointers.{pointerOrder}

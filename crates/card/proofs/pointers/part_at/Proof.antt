@@ -4,7 +4,8 @@ use native.Mathlib.Omega.{arith}
 use denote.Ref.{now}
 use borrow.Author.Needs.{needs}
 use Rattle.json.specs.Cursors.{rest}
-use Rattle.text.specs.Strings.{conts, decode}
+use Rattle.text.specs.Strings.{decode}
+use Rattle.text.specs.Utf8.{conts}
 use Prim.Native.Nat.{_≤_, _-_}
 use Rattle.contact.specs.Pointer.{pointerOf}
 use Rattle.card.specs.Pointers.{strip}

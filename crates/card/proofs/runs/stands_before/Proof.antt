@@ -4,7 +4,8 @@ use denote.Ref.{now}
 use Rattle.laws.specs.Scan.{scan}
 use Rattle.laws.specs.Order.{orderOf}
 use Rattle.laws.specs.declared.Order.{Order}
-use Rattle.text.specs.Strings.{conts, pieceBy, decodeFrom, decode}
+use Rattle.text.specs.Strings.{pieceBy, decodeFrom, decode}
+use Rattle.text.specs.Utf8.{conts}
 use Rattle.contact.specs.Pointer.{pointerOf, firstPart}
 use Rattle.card.specs.Pointers.{strip}
 use Rattle.card.specs.Entries.{keyAt}

@@ -7,7 +7,8 @@ use borrow.Author.Needs.{needs}
 use denote.Ref.{now}
 use lib.ListN.{length}
 use borrow.Author.Tests.{not-true, not-false}
-use Rattle.text.specs.Strings.{conts, decode}
+use Rattle.text.specs.Strings.{decode}
+use Rattle.text.specs.Utf8.{conts}
 use Rattle.json.specs.Cursors.{rest}
 use Rattle.contact.specs.Values.{isId}
 use Rattle.card.proofs.Cursors.{byte-left, none-left}

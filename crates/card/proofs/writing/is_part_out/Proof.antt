@@ -1,6 +1,7 @@
 -- `card::writing::is_part_out` meets its contract. Assumes nothing.
 use Rattle.laws.specs.Scan.{scan}
-use Rattle.text.specs.Strings.{conts, pieceBy, decodeFrom}
+use Rattle.text.specs.Strings.{pieceBy, decodeFrom}
+use Rattle.text.specs.Utf8.{conts}
 use borrow.Author.Needs.{needs}
 use Rattle.card.proofs.writing.is_part_out.Statement.{statement}
 use Rattle.card.proofs.writing.is_part_out.Tie as tie

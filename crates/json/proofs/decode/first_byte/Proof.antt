@@ -1,7 +1,7 @@
 -- `json::decode::first_byte` meets its contract: the tests of the code point pick the case of `utf8`; the cursor has the continuation bytes
 -- left. Assumes nothing.
 use borrow.Author.Needs.{needs}
-use Rattle.text.specs.Strings.{utf8, conts}
+use Rattle.text.specs.Utf8.{utf8, conts}
 use Rattle.json.specs.Cursors.{firstOf}
 use Rattle.laws.proofs.Picks.{picks}
 use Rattle.json.proofs.decode.first_byte.Statement.{statement}

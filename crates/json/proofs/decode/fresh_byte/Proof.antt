@@ -7,7 +7,8 @@ use lib.ListN.{length}
 use denote.Ref.{now}
 use borrow.Author.Needs.{needs}
 use Rattle.text.specs.declared.Step.the-variants.{Char}
-use Rattle.text.specs.Strings.{conts, pieceBy}
+use Rattle.text.specs.Strings.{pieceBy}
+use Rattle.text.specs.Utf8.{conts}
 use Rattle.text.specs.Chars.{escapeAt}
 use Rattle.json.specs.Cursors.{freshOf}
 use Rattle.laws.proofs.Picks.{picks}

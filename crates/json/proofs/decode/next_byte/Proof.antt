@@ -1,6 +1,6 @@
 -- `json::decode::next_byte` meets its contract: the tests of `left` pick the case of `conts`. Assumes nothing.
 use borrow.Author.Needs.{needs}
-use Rattle.text.specs.Strings.{conts}
+use Rattle.text.specs.Utf8.{conts}
 use Rattle.json.specs.Cursors.{nextOf}
 use Rattle.laws.proofs.Picks.{picks}
 use Rattle.json.proofs.decode.next_byte.Statement.{statement}

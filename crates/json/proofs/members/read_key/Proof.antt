@@ -12,7 +12,7 @@ use Rattle.text.specs.Tree.{Forest}
 use Rattle.text.specs.Standing.{StandsTo}
 use Rattle.text.specs.Reader.{named}
 use Rattle.text.specs.declared.Token.the-variants.{End}
-use Rattle.text.proofs.Laws.{Ends, end-inside}
+use Rattle.text.proofs.Laws.{EndInside, end-inside}
 use Rattle.json.specs.Parts.{upTo, Colon, KeyRead}
 use Rattle.json.specs.declared.members.Key.{Key}
 use Rattle.json.specs.declared.members.Key.the-variants.{Value, Broken}
@@ -21,7 +21,7 @@ use Rattle.json.proofs.members.read_key.Statement.{statement}
 use Rattle.json.proofs.members.read_key.Tie as tie
 
 -- a name that is new, and what follows it
-new : (t table : List ℕ) (first last at to : ℕ) (r : Key) → byteAt t at ≡ 34 → stringEnd t (at + 1) ≡ End to → Ends t (at + 1) to
+new : (t table : List ℕ) (first last at to : ℕ) (r : Key) → byteAt t at ≡ 34 → stringEnd t (at + 1) ≡ End to → EndInside t (at + 1) to
     → ((done : Forest) → StandsTo table first last done → false ≡ named t (nameOf t (at + 1) (to - 1)) done) → Colon t to r → KeyRead t table first last
     at r
 new t table first last at to (Value ne from) h e l k p =
@@ -34,7 +34,7 @@ new t table first last at to (Broken r) h e l k p =
 
 -- the place where a name has ended
 ended : (c : tie.After-to)
-    → Ends (c .before .before .before .before .before .before .before .args .text .now) (c .before .before .before .before .before .before .before .args .at + 1) (c .to .given .0 .0)
+    → EndInside (c .before .before .before .before .before .before .before .args .text .now) (c .before .before .before .before .before .before .before .args .at + 1) (c .to .given .0 .0)
 ended c =
     end-inside (c .before .before .before .before .before .before .before .args .text .now)
     (c .before .before .before .before .before .before .before .args .at + 1) (c .to .given .0 .0)

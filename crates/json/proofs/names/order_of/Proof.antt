@@ -6,7 +6,8 @@ use native.Mathlib.Omega.{arith}
 use lib.ListN.{length}
 use denote.Ref.{now}
 use borrow.Author.Needs.{needs}
-use Rattle.text.specs.Strings.{conts, decode}
+use Rattle.text.specs.Strings.{decode}
+use Rattle.text.specs.Utf8.{conts}
 use Rattle.json.specs.Cursors.{rest}
 use Rattle.laws.specs.Order.{orderOf}
 use Rattle.laws.proofs.Picks.{picks}

@@ -10,7 +10,8 @@ use lib.Dec.{eqb}
 use borrow.Author.Tests.{ne-eqb}
 use denote.Ref.{now}
 use borrow.Author.Needs.{needs}
-use Rattle.text.specs.Strings.{conts, decode}
+use Rattle.text.specs.Strings.{decode}
+use Rattle.text.specs.Utf8.{conts}
 use Rattle.json.specs.Cursors.{rest}
 use Rattle.laws.specs.Order.{orderOf, same}
 use Rattle.laws.proofs.Places.{any-default, inside, drop-byte}
