@@ -6,6 +6,7 @@ pub mod Standing
 pub mod Fewer
 pub mod Induction
 pub mod Documents
+pub mod Sameness
 pub mod Spelling
 pub mod TokenEnds
 pub mod TokenBytes

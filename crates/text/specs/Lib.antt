@@ -28,6 +28,8 @@ pub mod Firsts
 pub mod Doc
 pub mod Distinct
 pub mod Promised
+-- documents that are the same
+pub mod Sameness
 -- documents as texts
 pub mod Writing
 pub mod Labels
