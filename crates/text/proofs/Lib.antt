@@ -20,3 +20,4 @@ pub mod NewNames
 pub mod Labels
 pub mod Readback
 pub mod Telling
+pub mod Answers
