@@ -6,7 +6,9 @@ pub mod Standing
 pub mod Fewer
 pub mod Induction
 pub mod Documents
+pub mod Names
 pub mod Sameness
+pub mod Taken
 pub mod Spelling
 pub mod TokenEnds
 pub mod TokenBytes

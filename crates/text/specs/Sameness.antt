@@ -4,8 +4,9 @@
 use Prim.Native.Nat.{ℕ}
 use mathlib.Core.Path.{_≡_}
 use mathlib.Core.List.{List}
+use mathlib.Core.Option.{Option, none, some}
 use Rattle.text.specs.Strings.{contentOf}
-use Rattle.text.specs.Doc.{Name, Doc, scalar, array, object, Members, empty, member}
+use Rattle.text.specs.Doc.{Name, Doc, scalar, array, object, Members, empty, member, Property}
 
 -- whether the order of an object's members counts
 pub data Order : Type 0 where
@@ -30,6 +31,11 @@ module _ (T : (kind : ℕ) → (token : List ℕ) → (other-kind : ℕ) → (ot
       nothing : {o v : Order} → Matched o v empty empty
       match : {o v : Order} {n : Name} {label label′ : List ℕ} {d e : Doc} {ms ns rest : Members}
           → Taken n label′ e o ns rest → N label label′ → Same v d e → Matched o v ms rest → Matched o v (member n label d ms) ns
+
+  -- what is found of a name is the same: nothing in both, or the same value under the same name as written
+  pub data SameAt (o : Order) : Option Property → Option Property → Type 0 where
+    neither : SameAt o none none
+    both : {s t : Property} → N (s .label) (t .label) → Same o (s .content) (t .content) → SameAt o (some s) (some t)
 
 -- ---- all as written
 

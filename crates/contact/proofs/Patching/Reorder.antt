@@ -1,64 +1,20 @@
 -- Documents with distinct names that look the same at every pointer differ in the order of members only: `same-reordered`.
 -- Assumes nothing.
-use mathlib.Core.Bool.{Bool, true, false, cond, true≢false}
+use mathlib.Core.Bool.{Bool, true, false, true≢false}
 use mathlib.Core.List.{List}
-use mathlib.Core.Logic.{_≢_}
-use mathlib.Core.Option.{Option, none, some, Option·none-ne-some, Option·some-ne-none, Option·some-injective}
+use mathlib.Core.Option.{Option, none, some}
 use mathlib.Core.Path.{_≡_, refl, sym, ap, _∙_, subst}
 use Prim.Native.Nat.{ℕ}
-use Rattle.laws.specs.Order.{same}
 use Rattle.laws.proofs.Orders.{same-refl}
 use Rattle.text.specs.Doc.{Name, Doc, scalar, array, object, Members, empty, member, Property, property, seek}
 use Rattle.text.specs.Distinct.{Distinct, DistinctMembers}
-use Rattle.text.specs.Sameness.{Order, counted, free, Taken, atHead, inTail, Same, scalars, arrays, objects, Matched, nothing, match, EqualToken, EqualLabel}
+use Rattle.text.specs.Sameness.{Order, counted, free, Taken, Same, scalars, arrays, objects, Matched, nothing, match, EqualToken, EqualLabel}
 use Rattle.text.proofs.Sameness.{matched-equal}
+use Rattle.text.proofs.Taken.{take-out, taken-other, taken-is, taken-same, taken-value, taken-rest}
 use Rattle.contact.specs.Pointer.{Pointer, last, down, within, find}
 use Rattle.contact.specs.Likeness.{Shape, aScalar, anArray, anObject, shape, Look, absent, there, seen, look, SameDoc, Reordered}
 use Rattle.contact.proofs.Patching.Same.{likeness-refl, Alike, neither, both, same-object, alike}
-use Rattle.contact.proofs.Patching.Names.{same-yes, same-no, byName}
-
--- ---- a member that is taken out
-
-module _ (n : Name) where
-  take-out : (ns : Members) (s : Property) → seek n ns ≡ some s → (rest : Members) × Taken n (s .label) (s .content) free ns rest
-  take-out empty s h = absurd (Option·none-ne-some s h)
-  take-out (member m t d ns) s h =
-      byName m n
-      (λ e. let q : property t d ≡ s = Option·some-injective (property t d) s (simp (same-yes e) at h) in
-      (ns, rw e (subst (λ (r : Property). Taken n (r .label) (r .content) free (member n t d ns) ns) q atHead)))
-      (λ ne. let (rest, k) = take-out ns s (simp (same-no ne) at h) in (member m t d rest, inTail k))
-
-  taken-found : {o : Order} {t : List ℕ} {d : Doc} {ns rest : Members} → Taken n t d o ns rest → ¬ (seek n ns ≡ none)
-  taken-found {t = t} {d = d} atHead h = Option·some-ne-none (property t d) (simp (same-refl n) at h)
-  taken-found (inTail {m = m} {l = u} {e = e} x) h =
-      byName m n
-      (λ q. Option·some-ne-none (property u e) (simp (same-yes q) at h))
-      (λ ne. taken-found x (simp (same-no ne) at h))
-
-  -- a member before it has another name
-  taken-after : {o : Order} {t : List ℕ} {d : Doc} {ns rest : Members} (m : Name) → Taken n t d o ns rest → seek m ns ≡ none → n ≢ m
-  taken-after {ns = ns} m x h e = taken-found x (subst (λ (k : Name). seek k ns ≡ none) (sym e) h)
-
-  taken-other : {o : Order} {t : List ℕ} {d : Doc} {ns rest : Members} (k : Name) → Taken n t d o ns rest → n ≢ k → seek k ns ≡ seek k rest
-  taken-other k atHead h = simp (same-no h)
-  taken-other k (inTail {m = m} {l = u} {e = e} x) h = ap (λ (o : Option Property). cond (same m k) (some (property u e)) o) (taken-other k x h)
-
-  -- the names are distinct: it is the one that is found, and it is there no more
-  taken-is : {o : Order} {t : List ℕ} {d : Doc} {ns rest : Members} → Taken n t d o ns rest → DistinctMembers ns → seek n ns ≡ some (property t d)
-  taken-is atHead h = simp (same-refl n)
-  taken-is (inTail {m = m} x) h = simp (same-no (λ (e : m ≡ n). taken-after m x (h .0) (sym e))) (taken-is x (h .2))
-
-  taken-same : {o : Order} {t : List ℕ} {d : Doc} {ns rest : Members} → Taken n t d o ns rest → DistinctMembers ns → seek n rest ≡ none
-  taken-same atHead h = h .0
-  taken-same (inTail {m = m} x) h = simp (same-no (λ (e : m ≡ n). taken-after m x (h .0) (sym e))) (taken-same x (h .2))
-
-  taken-value : {o : Order} {t : List ℕ} {d : Doc} {ns rest : Members} → Taken n t d o ns rest → DistinctMembers ns → Distinct d
-  taken-value atHead h = h .1
-  taken-value (inTail x) h = taken-value x (h .2)
-
-  taken-rest : {o : Order} {t : List ℕ} {d : Doc} {ns rest : Members} → Taken n t d o ns rest → DistinctMembers ns → DistinctMembers rest
-  taken-rest atHead h = h .2
-  taken-rest (inTail {m = m} x) h = (sym (taken-other m x (taken-after m x (h .0))) ∙ h .0, h .1, taken-rest x (h .2))
+use Rattle.contact.proofs.Patching.Names.{same-no, byName}
 
 -- ---- the theorem
 
