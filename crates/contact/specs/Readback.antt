@@ -29,7 +29,8 @@ pub record WrittenCard (L : Limits) (words : ℕ) (t : List ℕ) (f : Forest) (x
   pub back : ReadsBack L x
   pub shorter : length (written x) ≤ length t
   pub fewer : countOf x ≤ size f
-  -- within the depth only the rules of cards are left to break; deeper, it is refused for that
+  -- within the depth it is read, and only the rules of cards are left to break; deeper, it is refused for that
+  pub read : depthIn x ≤ L .depth → readOf L (written x) ≡ good (rootOf (back .derives)) (length (written x))
   pub judged : depthIn x ≤ L .depth → judgedOf L words (written x) ≡ byBreach (rootOf (back .derives)) (cardBreach x)
   pub deeper : L .depth < depthIn x → (p : ℕ) × (judgedOf L words (written x) ≡ failed (Text (Deep p)))
 

@@ -6,6 +6,9 @@ pub mod Standing
 pub mod Fewer
 pub mod Induction
 pub mod Documents
+pub mod Names
+pub mod Sameness
+pub mod Taken
 pub mod Spelling
 pub mod TokenEnds
 pub mod TokenBytes
@@ -19,3 +22,4 @@ pub mod NewNames
 pub mod Labels
 pub mod Readback
 pub mod Telling
+pub mod Answers

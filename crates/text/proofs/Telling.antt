@@ -38,7 +38,7 @@ use Rattle.text.proofs.Grammar.Wrong.{no-string}
 use Rattle.text.proofs.Readback.Runs.{part-quoted}
 use Rattle.text.proofs.Readback.Says.{firstDoc, doc-members}
 use Rattle.text.proofs.Readback.Meant.{root-nameless, new-in}
-use Rattle.text.proofs.Readback.Again.{root-count, root-depth}
+use Rattle.text.proofs.Readback.Sizes.{root-count, root-depth}
 
 -- ---- stretches are parts ----
 
@@ -153,7 +153,7 @@ module _ (t : List ℕ) where
   told-members (members n i r) = let h = told-name n in rw (h .name, h .written, told-members i, told-members r)
 
 -- whatever document is said is that of the text and the tree
-told-doc : (t : List ℕ) (f : Forest) (d : Doc) → Tells t f d → d ≡ docOf t f
+pub told-doc : (t : List ℕ) (f : Forest) (d : Doc) → Tells t f d → d ≡ docOf t f
 told-doc t f d (tells h) = ap firstDoc (told-members t h) ∙ sym (doc-members t f)
 
 pub one-telling : (t : List ℕ) (f : Forest) (d e : Doc) → Tells t f d → Tells t f e → d ≡ e

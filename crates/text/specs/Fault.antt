@@ -72,8 +72,16 @@ pub data FaultAt (L : Limits) (t : List ℕ) : (number place : ℕ) → Type 0 w
 abbrev pub InEach : Limits → List ℕ → (number place : ℕ) → Type 0
 InEach L t n p = (rest : List ℕ) (d : JsonText (take (p + 1) t ++ rest)) → TreeBreaks L t (rootOf d) n p
 
--- of 2 to 6 the sheet takes the smallest place, and at one place the smaller number: there is no fault before p, and at p none of a smaller number
-pub record FirstFault (L : Limits) (t : List ℕ) (n p : ℕ) : Type 0 where
-  pub fault : FaultAt L t n p
-  pub no-earlier : (m q : ℕ) → FaultAt L t m q → q < p → ⊥
-  pub no-smaller : (m : ℕ) → FaultAt L t m p → m < n → ⊥
+-- of such faults the one of the smallest place, and at one place the one of the smaller number
+pub record First (F : (number place : ℕ) → Type 0) (n p : ℕ) : Type 0 where
+  pub fault : F n p
+  pub no-earlier : (m q : ℕ) → F m q → q < p → ⊥
+  pub no-smaller : (m : ℕ) → F m p → m < n → ⊥
+
+-- of 2 to 6 the sheet takes the first fault of a text so
+abbrev pub FirstFault : Limits → List ℕ → (number place : ℕ) → Type 0
+FirstFault L t = First (FaultAt L t)
+
+-- the first one of a text of the grammar with the tree f: there each fault is a rule that a value of the tree breaks
+abbrev pub FirstBreak : Limits → List ℕ → Forest → (number place : ℕ) → Type 0
+FirstBreak L t f = First (TreeBreaks L t f)

@@ -47,6 +47,8 @@ pub mod Doc
 pub mod Standing
 pub mod Firsts
 pub mod Promised
+-- documents that are the same
+pub mod Sameness
 -- documents as texts
 pub mod Writing
 pub mod Writable

@@ -1,20 +1,24 @@
 -- Documents that can be written as a text and read again, and what reading gives. Assumes nothing: these are definitions.
 use Prim.Native.Nat.{ℕ, suc, _≤_, _<_, max}
 use mathlib.Core.Path.{_≡_}
+use mathlib.Core.Bool.{true}
 use mathlib.Core.List.{List, [], _∷_, _++_}
+use mathlib.Core.Logic.{_↔_}
 use lib.ListN.{length}
 use Rattle.text.specs.Limits.{Limits}
 use Rattle.text.specs.Text.{bytes}
-use Rattle.text.specs.Tree.{size}
-use Rattle.text.specs.Reader.{good, bad}
-use Rattle.text.specs.Whole.{readOf}
+use Rattle.text.specs.Tree.{Forest, size}
+use Rattle.text.specs.Reader.{Read, good, bad}
+use Rattle.text.specs.Whole.{readOf, Refuses}
 use Rattle.text.specs.Doc.{Doc, scalar, array, object, Members, empty, member, docOf, countOf}
 use Rattle.text.specs.Distinct.{Distinct}
 use Rattle.text.specs.Writing.{written}
 use Rattle.text.specs.Spelling.{Spells}
 use Rattle.text.specs.Grammar.{Number, JsonText, rootOf, depthOf}
+use Rattle.text.specs.Fault.{FirstBreak}
 use Rattle.text.specs.Labels.{Labelled, Every}
-use Rattle.text.specs.declared.Refusal.the-variants.{Deep}
+use Rattle.text.specs.declared.Refusal.{Refusal}
+use Rattle.text.specs.declared.Refusal.the-variants.{TooLong, Repeated, Deep, Many}
 
 -- a token of its kind: one of the three words, a number of the grammar, or quotes around what spells
 pub data Lexeme : (kind : ℕ) → (token : List ℕ) → Type 0 where
@@ -24,11 +28,9 @@ pub data Lexeme : (kind : ℕ) → (token : List ℕ) → Type 0 where
   number : {w : List ℕ} → Number w → Lexeme 4 w
   string : {w codes : List ℕ} → Spells w codes → Lexeme 5 (34 ∷ w ++ (34 ∷ []))
 
--- a document whose tokens are tokens of their kinds, whose members' labels say their names, whose entries of arrays have no names, and in which no
--- object has two members of one name
-pub record Writable (d : Doc) : Type 0 where
-  pub labels : Every Labelled Lexeme d
-  pub distinct : Distinct d
+-- a document whose tokens are tokens of their kinds, whose members' labels say their names, and whose entries of arrays have no names
+abbrev pub Writable : Doc → Type 0
+Writable d = Every Labelled Lexeme d
 
 unfoldable mutual
   -- how many arrays and objects stand one inside the other, at the most
@@ -42,12 +44,33 @@ unfoldable mutual
   depthAll empty = 0
   depthAll (member n label d ms) = max (depthIn d) (depthAll ms)
 
--- The text of the document d is one of the grammar, and its tree says d again: as many values, as deep. It is read so within the depth; and if it
--- is deeper, that is all that it is refused for.
+-- ---- what reading answers of a text that says a document
+
+-- the text t, which says the document d, is within the limits
+pub record Keeps (L : Limits) (t : List ℕ) (d : Doc) : Type 0 where
+  pub short : length t ≤ L .bytes
+  pub shallow : depthIn d ≤ L .depth
+  pub few : countOf d ≤ L .values
+  pub distinct : L .unique ≡ true → Distinct d
+
+-- what it is refused for: 1 and nothing else if it is too long, else 4, 5 or 6, and just where that limit is broken
+pub data Exceeds (L : Limits) (t : List ℕ) (d : Doc) : Refusal → Type 0 where
+  long : L .bytes < length t → Exceeds L t d TooLong
+  repeated : {p : ℕ} → length t ≤ L .bytes → L .unique ≡ true → (Distinct d → ⊥) → Exceeds L t d (Repeated p)
+  deep : {p : ℕ} → length t ≤ L .bytes → L .depth < depthIn d → Exceeds L t d (Deep p)
+  many : {p : ℕ} → length t ≤ L .bytes → L .values < countOf d → Exceeds L t d (Many p)
+
+-- so it is read as the tree f, to its end, or refused for that
+pub data Answers (L : Limits) (t : List ℕ) (d : Doc) (f : Forest) : Read → Type 0 where
+  read : Keeps L t d → Answers L t d f (good f (length t))
+  refused : {r : Refusal} → Exceeds L t d r → Answers L t d f (bad r)
+
+-- The text of the document d is one of the grammar, and its tree says d again: as many values, as deep. It is read so exactly if it is within the
+-- limits, whatever they are; and if it is not too long, it is refused for the first value of the tree that breaks one.
 pub record ReadsBack (L : Limits) (d : Doc) : Type 0 where
   pub derives : JsonText (written d)
   pub says : docOf (written d) (rootOf derives) ≡ d
   pub count : size (rootOf derives) ≡ countOf d
   pub depth : depthOf (rootOf derives) ≡ depthIn d
-  pub read : depthIn d ≤ L .depth → readOf L (written d) ≡ good (rootOf derives) (length (written d))
-  pub deeper : L .depth < depthIn d → (p : ℕ) × (readOf L (written d) ≡ bad (Deep p))
+  pub answer : Answers L (written d) d (rootOf derives) (readOf L (written d))
+  pub first : length (written d) ≤ L .bytes → (n p : ℕ) → Refuses L (written d) n p ↔ FirstBreak L (written d) (rootOf derives) n p

@@ -88,7 +88,7 @@ module _ (L : Limits) (words : ℕ) (t : List ℕ) (f : Forest) (unique : L .uni
             (entries-values ms (find-distinct (patchAt lang) card (property (patch .label) (object ms)) dc (patch .stands)))
             (distinct-start card dc);
         labels = labels-stay (TokenOf t) card lang ms patch labels;
-        lexemes = labels-stay Lexeme card lang ms patch (text-writable L t f to (r .read) unique .labels);
+        lexemes = labels-stay Lexeme card lang ms patch (text-writable L t f to (r .read));
         fewer = fewer;
         values = omega (arith, p .few);
         rows = omega (arith, mul-le-mul-left rowWords fewer, r .room);

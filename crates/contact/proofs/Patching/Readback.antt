@@ -11,15 +11,16 @@ use borrow.Author.Tests.{le-ltb}
 use lib.ListN.{length, getD}
 use Rattle.text.specs.Limits.{Limits, rowWords}
 use Rattle.text.specs.Tree.{Forest, size, startsOf}
-use Rattle.text.specs.Reader.{good}
+use Rattle.text.specs.Reader.{Read, good, bad}
 use Rattle.text.specs.Sheet.{refused}
-use Rattle.text.specs.Whole.{fitOf, wholeOf}
+use Rattle.text.specs.Whole.{readOf, fitOf, wholeOf}
 use Rattle.text.specs.Grammar.{rootOf}
 use Rattle.text.specs.Doc.{Name, Doc, Members, docOf}
 use Rattle.text.specs.Writing.{written}
 use Rattle.text.specs.Writable.{depthIn, ReadsBack}
 use Rattle.text.specs.declared.Refusal.the-variants.{Deep}
 use Rattle.text.proofs.Promise.{Fits, whole-good, promised}
+use Rattle.text.proofs.Answers.{keeps-read, only-deep}
 use Rattle.text.proofs.Readback.Again.{reads-back}
 use Rattle.text.proofs.Readback.Documents.{text-shorter}
 use Rattle.contact.specs.Judge.{Breach, nothing, found, cardBreach}
@@ -40,13 +41,17 @@ use Rattle.contact.proofs.Patching.Again.{Modest, InnerOf, modest, inne
 -- ---- a document that is read back is judged as it is ----
 
 module _ (L : Limits) (words : ℕ) (x : Doc) (b : ReadsBack L x) where
-  judged-back : rowWords * size (rootOf (b .derives)) ≤ words → depthIn x ≤ L .depth → judgedOf L words (written x) ≡ byBreach (rootOf (b .derives)) (cardBreach x)
-  unfolding judgedOf judgedRead wholeOf fitOf
-  judged-back room l = rw (b .read l, le-ltb words (rowWords * size (rootOf (b .derives))) room, b .says)
+  -- it is read as its tree
+  abbrev Tree : Read
+  Tree = good (rootOf (b .derives)) (length (written x))
 
-  judged-deep : L .depth < depthIn x → (p : ℕ) × (judgedOf L words (written x) ≡ failed (Text (Deep p)))
+  judged-back : rowWords * size (rootOf (b .derives)) ≤ words → readOf L (written x) ≡ Tree → judgedOf L words (written x) ≡ byBreach (rootOf (b .derives)) (cardBreach x)
   unfolding judgedOf judgedRead wholeOf fitOf
-  judged-deep l = let (p, e) = b .deeper l in (p, rw e)
+  judged-back room e = rw (e, le-ltb words (rowWords * size (rootOf (b .derives))) room, b .says)
+
+  judged-deep : (p : ℕ) → readOf L (written x) ≡ bad (Deep p) → judgedOf L words (written x) ≡ failed (Text (Deep p))
+  unfolding judgedOf judgedRead wholeOf fitOf
+  judged-deep p e = rw e
 
 -- ---- the patched card ----
 
@@ -56,13 +61,17 @@ module _ (L : Limits) (words : ℕ) (t : List ℕ) (f : Forest) (pass : judgedOf
       let (to, w, keeps) = judging .accepted L words t f .0 pass in
       let r : Fits L words t f to = whole-good L words t f to w in
       let shorter : length (written x) ≤ length t = omega (arith, m .short, text-shorter L t f to (r .read)) in
-      let b : ReadsBack L x = reads-back L x (record { labels = m .lexemes; distinct = m .distinct }) (omega (arith, promised L t f to (r .read) .short)) (m .values) in
+      let short : length (written x) ≤ L .bytes = omega (arith, promised L t f to (r .read) .short) in
+      let b : ReadsBack L x = reads-back L x (m .lexemes) in
+      let read : depthIn x ≤ L .depth → readOf L (written x) ≡ Tree L words x b =
+      λ l. keeps-read (b .answer) (record { short = short; shallow = l; few = m .values; distinct = λ u. m .distinct }) in
       record {
         back = b;
         shorter = shorter;
         fewer = m .fewer;
-        judged = judged-back L words x b (rw (b .count) (m .rows));
-        deeper = judged-deep L words x b;
+        read = read;
+        judged = λ l. judged-back L words x b (rw (b .count) (m .rows)) (read l);
+        deeper = λ l. let (p, e) = only-deep (b .answer) short (m .values) (m .distinct) l in (p, judged-deep L words x b p e);
       }
 
 -- what judging answers of a breach
@@ -136,7 +145,7 @@ module _ (L : Limits) (words room : ℕ) (unique : L .unique ≡ true) where
           derives = b .derives;
           tree = tree;
           says = ap (docOf (written (patchedDoc card ms))) tree ∙ b .says;
-          reads = b .read (passed-shallow w g e) ∙ ap (λ (h : Forest). good h (length (written (patchedDoc card ms)))) (sym tree);
+          reads = w .read (passed-shallow w g e) ∙ ap (λ (h : Forest). good h (length (written (patchedDoc card ms)))) (sym tree);
           count = count;
           shorter = w .shorter;
           fewer = omega (arith, w .fewer);

@@ -1,62 +1,20 @@
 -- Documents with distinct names that look the same at every pointer differ in the order of members only: `same-reordered`.
 -- Assumes nothing.
-use mathlib.Core.Bool.{Bool, true, false, cond, true≢false}
+use mathlib.Core.Bool.{Bool, true, false, true≢false}
 use mathlib.Core.List.{List}
-use mathlib.Core.Logic.{_≢_}
-use mathlib.Core.Option.{Option, none, some, Option·none-ne-some, Option·some-ne-none, Option·some-injective}
+use mathlib.Core.Option.{Option, none, some}
 use mathlib.Core.Path.{_≡_, refl, sym, ap, _∙_, subst}
 use Prim.Native.Nat.{ℕ}
-use Rattle.laws.specs.Order.{same}
 use Rattle.laws.proofs.Orders.{same-refl}
 use Rattle.text.specs.Doc.{Name, Doc, scalar, array, object, Members, empty, member, Property, property, seek}
 use Rattle.text.specs.Distinct.{Distinct, DistinctMembers}
+use Rattle.text.specs.Sameness.{Order, counted, free, Taken, Same, scalars, arrays, objects, Matched, nothing, match, EqualToken, EqualLabel}
+use Rattle.text.proofs.Sameness.{matched-equal}
+use Rattle.text.proofs.Taken.{take-out, taken-other, taken-is, taken-same, taken-value, taken-rest}
 use Rattle.contact.specs.Pointer.{Pointer, last, down, within, find}
-use Rattle.contact.specs.Likeness.{Shape, aScalar, anArray, anObject, shape, Look, absent, there, seen, look, SameDoc, Taken, atHead, inTail, Reordered, scalars, arrays, objects, Matched, nothing, match}
+use Rattle.contact.specs.Likeness.{Shape, aScalar, anArray, anObject, shape, Look, absent, there, seen, look, SameDoc, Reordered}
 use Rattle.contact.proofs.Patching.Same.{likeness-refl, Alike, neither, both, same-object, alike}
-use Rattle.contact.proofs.Patching.Names.{same-yes, same-no, byName}
-
--- ---- a member that is taken out
-
-module _ (n : Name) where
-  take-out : (ns : Members) (s : Property) → seek n ns ≡ some s → (rest : Members) × Taken n (s .label) (s .content) ns rest
-  take-out empty s h = absurd (Option·none-ne-some s h)
-  take-out (member m t d ns) s h =
-      byName m n
-      (λ e. let q : property t d ≡ s = Option·some-injective (property t d) s (simp (same-yes e) at h) in
-      (ns, rw e (subst (λ (r : Property). Taken n (r .label) (r .content) (member n t d ns) ns) q atHead)))
-      (λ ne. let (rest, k) = take-out ns s (simp (same-no ne) at h) in (member m t d rest, inTail k))
-
-  taken-found : {t : List ℕ} {d : Doc} {ns rest : Members} → Taken n t d ns rest → ¬ (seek n ns ≡ none)
-  taken-found {t} {d} atHead h = Option·some-ne-none (property t d) (simp (same-refl n) at h)
-  taken-found (inTail {m = m} {l = u} {e = e} x) h =
-      byName m n
-      (λ q. Option·some-ne-none (property u e) (simp (same-yes q) at h))
-      (λ ne. taken-found x (simp (same-no ne) at h))
-
-  -- a member before it has another name
-  taken-after : {t : List ℕ} {d : Doc} {ns rest : Members} (m : Name) → Taken n t d ns rest → seek m ns ≡ none → n ≢ m
-  taken-after {ns = ns} m x h e = taken-found x (subst (λ (k : Name). seek k ns ≡ none) (sym e) h)
-
-  taken-other : {t : List ℕ} {d : Doc} {ns rest : Members} (k : Name) → Taken n t d ns rest → n ≢ k → seek k ns ≡ seek k rest
-  taken-other k atHead h = simp (same-no h)
-  taken-other k (inTail {m = m} {l = u} {e = e} x) h = ap (λ (o : Option Property). cond (same m k) (some (property u e)) o) (taken-other k x h)
-
-  -- the names are distinct: it is the one that is found, and it is there no more
-  taken-is : {t : List ℕ} {d : Doc} {ns rest : Members} → Taken n t d ns rest → DistinctMembers ns → seek n ns ≡ some (property t d)
-  taken-is atHead h = simp (same-refl n)
-  taken-is (inTail {m = m} x) h = simp (same-no (λ (e : m ≡ n). taken-after m x (h .0) (sym e))) (taken-is x (h .2))
-
-  taken-same : {t : List ℕ} {d : Doc} {ns rest : Members} → Taken n t d ns rest → DistinctMembers ns → seek n rest ≡ none
-  taken-same atHead h = h .0
-  taken-same (inTail {m = m} x) h = simp (same-no (λ (e : m ≡ n). taken-after m x (h .0) (sym e))) (taken-same x (h .2))
-
-  taken-value : {t : List ℕ} {d : Doc} {ns rest : Members} → Taken n t d ns rest → DistinctMembers ns → Distinct d
-  taken-value atHead h = h .1
-  taken-value (inTail x) h = taken-value x (h .2)
-
-  taken-rest : {t : List ℕ} {d : Doc} {ns rest : Members} → Taken n t d ns rest → DistinctMembers ns → DistinctMembers rest
-  taken-rest atHead h = h .2
-  taken-rest (inTail {m = m} x) h = (sym (taken-other m x (taken-after m x (h .0))) ∙ h .0, h .1, taken-rest x (h .2))
+use Rattle.contact.proofs.Patching.Names.{same-no, byName}
 
 -- ---- the theorem
 
@@ -93,7 +51,7 @@ found t x (some r) h =
     (r .content, ap (λ (u : List ℕ). some (property u (r .content))) (sym q), y)
 
 -- with one member taken out of either, what is left still looks the same
-module _ (n : Name) (t : List ℕ) (d e : Doc) (ms ns rest : Members) (x : Taken n t e ns rest) (h : seek n ms ≡ none) (k : DistinctMembers ns) where
+module _ (n : Name) (t : List ℕ) (d e : Doc) (ms ns rest : Members) (x : Taken n t e free ns rest) (h : seek n ms ≡ none) (k : DistinctMembers ns) where
   rest-same : (m : Name) (g : Option Property → Look) → g (seek m (member n t d ms)) ≡ g (seek m ns) → g (seek m ms) ≡ g (seek m rest)
   rest-same m g s =
       byName n m
@@ -107,37 +65,42 @@ module _ (n : Name) (t : List ℕ) (d e : Doc) (ms ns rest : Members) (x : Taken
 mutual
   pub same-reordered : (d e : Doc) → Distinct d → Distinct e → SameDoc d e → Reordered d e
   same-reordered (scalar k b) (scalar l c) dd de s =
-      let h = coded (aScalar k b) (aScalar l c) (s .root) in rw (h .0, h .1) scalars
+      let h = coded (aScalar k b) (aScalar l c) (s .root) in scalars (record { kinds = h .0; tokens = h .1 })
   same-reordered (scalar k b) (array ys) dd de s = absurd (coded (aScalar k b) (anArray ys) (s .root))
   same-reordered (scalar k b) (object ns) dd de s = absurd (coded (aScalar k b) anObject (s .root))
   same-reordered (array xs) (scalar l c) dd de s = absurd (coded (anArray xs) (aScalar l c) (s .root))
-  same-reordered (array xs) (array ys) dd de s = rw (coded (anArray xs) (anArray ys) (s .root)) arrays
+  same-reordered (array xs) (array ys) dd de s = arrays (matched-equal xs ys .1 (coded (anArray xs) (anArray ys) (s .root)))
   same-reordered (array xs) (object ns) dd de s = absurd (coded (anArray xs) anObject (s .root))
   same-reordered (object ms) (scalar l c) dd de s = absurd (coded anObject (aScalar l c) (s .root))
   same-reordered (object ms) (array ys) dd de s = absurd (coded anObject (anArray ys) (s .root))
   same-reordered (object ms) (object ns) h k s = objects (matched ms ns h k (s .below))
 
-  matched : (ms ns : Members) → DistinctMembers ms → DistinctMembers ns → ((p : Pointer) → look p (object ms) ≡ look p (object ns)) → Matched ms ns
+  matched : (ms ns : Members) → DistinctMembers ms → DistinctMembers ns → ((p : Pointer) → look p (object ms) ≡ look p (object ns))
+      → Matched EqualToken EqualLabel counted free free ms ns
   matched empty empty h k s = nothing
   matched empty (member n t d ns) h k s = absurd (true≢false (sym (ap isThere (simp (same-refl n) at (s (last n))))))
   matched (member n t d ms) ns h k s =
       let (e, q, y) = found t (shape d) (seek n ns) (simp (same-refl n) at (s (last n))) in
       let (rest, x) = take-out n ns (property t e) q in
-      match x
+      match x refl
       (same-reordered d e (h .1) (taken-value n x k) (record { root = y; below = λ p. (simp (same-refl n) at (s (down n p))) ∙ ap (λ (o : Option Property). seen (within (find p) o)) q }))
       (matched ms rest (h .2) (taken-rest n x k) (rest-look n t d e ms ns rest x (h .0) k s))
 
 -- ---- and the other way round
 
 mutual
-  pub reordered-same : {d e : Doc} → Reordered d e → Distinct d → Distinct e → SameDoc d e
-  reordered-same (scalars {kind = kind} {token = token}) h k = likeness-refl (scalar kind token)
-  reordered-same (arrays {ms = xs}) h k = likeness-refl (array xs)
-  reordered-same (objects {ms = ms} {ns = ns} m) h k = same-object ms ns (λ n. matched-alike m h k n)
+  same-alike : {o : Order} {d e : Doc} → Same EqualToken EqualLabel counted o d e → Distinct d → Distinct e → SameDoc d e
+  same-alike (scalars {kind′ = kind} {token′ = token} t) h k = rw (t .kinds, t .tokens) (likeness-refl (scalar kind token))
+  same-alike (arrays {ms = xs} {ns = ys} m) h k = rw (matched-equal xs ys .0 m) (likeness-refl (array ys))
+  same-alike (objects {ms = ms} {ns = ns} m) h k = same-object ms ns (λ n. matched-alike m h k n)
 
-  matched-alike : {ms ns : Members} → Matched ms ns → DistinctMembers ms → DistinctMembers ns → (k : Name) → Alike (seek k ms) (seek k ns)
+  matched-alike : {o v : Order} {ms ns : Members} → Matched EqualToken EqualLabel counted o v ms ns → DistinctMembers ms → DistinctMembers ns
+      → (k : Name) → Alike (seek k ms) (seek k ns)
   matched-alike nothing h k m = neither
-  matched-alike (match {n = n} {label = t} {d = d} {e = e} {ms = ms} {ns = ns} {rest = rest} x r y) h k m =
+  matched-alike (match {n = n} {label = t} {label′ = u} {d = d} {e = e} x l r y) h k m =
       byName n m
-      (λ q. rw (← q) (alike (simp (same-refl n)) (taken-is n x k) (both {s = property t d} {t = property t e} refl (reordered-same r (h .1) (taken-value n x k)))))
+      (λ q. rw (← q) (alike (simp (same-refl n)) (taken-is n x k) (both {s = property t d} {t = property u e} l (same-alike r (h .1) (taken-value n x k)))))
       (λ ne. alike (simp (same-no ne)) (taken-other n m x ne) (matched-alike y (h .2) (taken-rest n x k) m))
+
+pub reordered-same : {d e : Doc} → Reordered d e → Distinct d → Distinct e → SameDoc d e
+reordered-same r = same-alike r

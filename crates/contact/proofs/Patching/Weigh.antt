@@ -11,11 +11,13 @@ use Rattle.laws.proofs.Bools.{byTest}
 use Rattle.text.specs.Text.{bytes}
 use Rattle.text.specs.Doc.{Name, Doc, scalar, array, object, Members, empty, member, Property, property, seek}
 use Rattle.text.specs.Distinct.{Distinct}
+use Rattle.text.specs.Sameness.{Order, counted, Taken, atHead, inTail, Same, scalars, arrays, objects, Matched, nothing, match, EqualToken, EqualLabel}
 use Rattle.text.specs.Writing.{spelled}
+use Rattle.text.proofs.Sameness.{matched-equal}
 use Rattle.contact.specs.Pointer.{Pointer, last, down, lastPart, pointerOf, within, find}
 use Rattle.contact.specs.Patch.{Change, remove, set, Entry, entry, changeOf, entriesOf, Walk, arrives, inArray, noObject, walk, write, without, put, alter, changed, whenArrived, runOn, run, applied}
 use Rattle.contact.specs.Localize.{start, patchAt, patchedDoc}
-use Rattle.contact.specs.Likeness.{Taken, atHead, inTail, Reordered, scalars, arrays, objects, Matched, nothing, match}
+use Rattle.contact.specs.Likeness.{Reordered}
 use Rattle.contact.specs.Entries.{NoClash, ParentsThere}
 use Rattle.contact.specs.Conditions.{PatchOf}
 use Rattle.contact.specs.Patching.{RunsTo}
@@ -112,19 +114,19 @@ module _ (S : Scale) where
 
   -- ---- the order of members does not count
 
-  taken-sum : {n : Name} {t : List ℕ} {d : Doc} {ns rest : Members} → Taken n t d ns rest → sum ns ≡ S .label t + weight d + sum rest
+  taken-sum : {o : Order} {n : Name} {t : List ℕ} {d : Doc} {ns rest : Members} → Taken n t d o ns rest → sum ns ≡ S .label t + weight d + sum rest
   taken-sum atHead = refl
   taken-sum (inTail x) = omega (arith, taken-sum x)
 
   mutual
-    reordered-weight : {d e : Doc} → Reordered d e → weight d ≡ weight e
-    reordered-weight scalars = refl
-    reordered-weight arrays = refl
-    reordered-weight (objects m) = ap (S .box) (matched-sum m)
+    same-weight : {o : Order} {d e : Doc} → Same EqualToken EqualLabel counted o d e → weight d ≡ weight e
+    same-weight (scalars t) = rw (t .kinds, t .tokens)
+    same-weight (arrays {ms = xs} {ns = ys} m) = rw (matched-equal xs ys .0 m)
+    same-weight (objects m) = ap (S .box) (matched-sum m)
 
-    matched-sum : {ms ns : Members} → Matched ms ns → sum ms ≡ sum ns
+    matched-sum : {o v : Order} {ms ns : Members} → Matched EqualToken EqualLabel counted o v ms ns → sum ms ≡ sum ns
     matched-sum nothing = refl
-    matched-sum (match x r m) = omega (arith, taken-sum x, reordered-weight r, matched-sum m)
+    matched-sum (match x l r m) = omega (arith, taken-sum x, ap (S .label) l, same-weight r, matched-sum m)
 
   -- ---- what the entries cost, the PatchObject has
 
@@ -182,4 +184,4 @@ module _ (S : Scale) where
       let ds : Distinct d = distinct-start card dc in
       let o : Reordered (r .end) x =
       same-reordered (r .end) x (distinct-run es d (r .end) v ds (r .reached)) (distinct-applied d es nc v ds) (r .alike) in
-      omega (arith, reordered-weight o, run-weight es d (r .end) (r .reached), entries-cost ms k, start-weight card lang (p .label) ms (p .stands))
+      omega (arith, same-weight o, run-weight es d (r .end) (r .reached), entries-cost ms k, start-weight card lang (p .label) ms (p .stands))

@@ -20,7 +20,7 @@ use Rattle.text.specs.Whole.{endOf, readOf, Refuses}
 use Rattle.text.specs.Grammar.{value}
 use Rattle.text.specs.Seats.{Seat, top}
 use Rattle.text.specs.Meaning.{Accepts}
-use Rattle.text.specs.Fault.{Begins, TreeBreaks, Violated, FaultAt, grammar, violated, InEach, FirstFault}
+use Rattle.text.specs.Fault.{Begins, TreeBreaks, Violated, FaultAt, grammar, violated, InEach, First, FirstFault}
 use Rattle.text.specs.declared.Refusal.{Refusal}
 use Rattle.text.specs.declared.Refusal.the-variants.{TooLong, Grammar, Character, Repeated, Deep, Many, Small}
 use Rattle.text.proofs.Induction.{read-accepted}
@@ -36,7 +36,7 @@ use Rattle.text.proofs.Grammar.Wholes.{root, root-told, self, other, ot
 use Rattle.text.proofs.Grammar.Accepted.{kept-accepts}
 
 -- a refusal that is in time
-time-bad : {m x : ℕ} {R : Read} {r : Refusal} → In-time m x R → R ≡ bad r → rank (numberOf r) (placeOf (bad r)) ≤ rank m x
+pub time-bad : {m x : ℕ} {R : Read} {r : Refusal} → In-time m x R → R ≡ bad r → rank (numberOf r) (placeOf (bad r)) ≤ rank m x
 time-bad {r} (in-time {r = s} h) e = let k : s ≡ r = cc in rw k at h
 
 time-good : {A : Type 0} {m x to : ℕ} {R : Read} {f : Forest} → In-time m x R → R ≡ good f to → A
@@ -194,9 +194,9 @@ no-fault L t f to {m} {x} e a (violated v) = time-good (violated-time L t v) (re
 
 -- ---- theorem: refused rightly ----
 
--- two first faults are one
-one-first : (L : Limits) (t : List ℕ) {n p m q : ℕ} → FirstFault L t n p → FirstFault L t m q → (n ≡ m) × (p ≡ q)
-one-first L t {n} {p} {m} {q} f g =
+-- there is one first fault
+pub one-first : {F : ℕ → ℕ → Type 0} {n p m q : ℕ} → First F n p → First F m q → (n ≡ m) × (p ≡ q)
+one-first {n = n} {p = p} {m = m} {q = q} f g =
     by-order p q (λ l. absurd (g .no-earlier n p (f .fault) l))
     (λ l. by-order q p (λ k. absurd (f .no-earlier m q (g .fault) k))
     (λ k.
@@ -218,7 +218,7 @@ module _ (L : Limits) (t : List ℕ) (short : length t ≤ L .bytes) (n p : ℕ)
       go : (R : Read) → readOf L t ≡ R → RightAnswer L t R → Refuses L t n p
       go (good g to) e m = absurd (no-fault L t g to e (m .0) (f .fault))
       go (bad r) e m =
-          let o = one-first L t f (m .first) in
+          let o = one-first f (m .first) in
           record { refusal = r; answer = e; sheet = m .is ∙ rw (← o .0, ← o .1) }
 
   refused-each : Refuses L t n p → 3 ≤ n → InEach L t n p

