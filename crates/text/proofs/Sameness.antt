@@ -8,8 +8,10 @@
 use Prim.Native.Nat.{ℕ}
 use native.Mathlib.Omega.{arith}
 use mathlib.Core.Path.{_≡_, refl, sym, ap, _∙_}
-use mathlib.Core.List.{List}
+use mathlib.Core.List.{List, []}
+use lib.ListN.{length}
 use mathlib.Core.Logic.{_↔_}
+use Rattle.text.specs.Text.{bytes}
 use Rattle.text.specs.Strings.{contentOf}
 use Rattle.text.specs.Doc.{Name, Doc, scalar, array, object, Members, empty, member}
 use Rattle.text.specs.Sameness.{Order, counted, free, Taken, atHead, inTail, Same, scalars, arrays, objects, Matched, nothing, match, EqualToken, EqualLabel, EqualContent, AnyLabel, SameValue}
@@ -206,3 +208,24 @@ written-value {i} s = loosen EqualToken EqualLabel EqualContent AnyLabel coarser
 -- the same value with the order counted is one with the order not counted
 pub ordered-value : {d e : Doc} → SameValue counted d e → SameValue free d e
 ordered-value s = loosen EqualContent AnyLabel EqualContent AnyLabel (record { tokens = λ h. h; labels = λ e. e }) counted free freely s free freely
+
+-- ---- specimens; of strings see `strings-same` (proofs/Telling.antt) ----
+
+-- two items, without and with names
+abbrev pair : (n m : Name) → (first second : Doc) → Members
+pair n m d e = member n n d (member m m e empty)
+
+abbrev numeral : Name → Doc
+numeral w = scalar 4 w
+
+-- numbers are the same as written only
+number-other : (o : Order) → SameValue o (numeral (bytes "1")) (numeral (bytes "1.0")) → ⊥
+number-other o (scalars t) = let z : _≡_ {A = ℕ} 1 3 = ap length (t .others (λ (e : 4 ≡ 5). omega arith)) in omega arith
+
+-- members may change places where their order is not counted
+swapped : (d e : Doc) → SameValue free (object (pair (bytes "a") (bytes "b") d e)) (object (pair (bytes "b") (bytes "a") e d))
+swapped d e = objects (match (inTail atHead) tt (value-refl free d) (match atHead tt (value-refl free e) nothing))
+
+-- entries never may
+entries-stay : (o : Order) → SameValue o (array (pair [] [] (numeral (bytes "1")) (numeral (bytes "1.0")))) (array (pair [] [] (numeral (bytes "1.0")) (numeral (bytes "1")))) → ⊥
+entries-stay o (arrays (match atHead q s m)) = number-other o s

@@ -2,6 +2,7 @@
 --     tells-doc       a text that is read says its document
 --     one-telling     a text with its tree says one document
 --     tells-iff       so it says just that one
+--     strings-same    two strings are the same value exactly if they say the same
 --     told-accepted   a text of the grammar that says a document within the limits is accepted
 -- Assumes nothing.
 use mathlib.Core.Path.{_≡_, refl, sym, ap, ap₂, subst, _∙_}
@@ -24,10 +25,11 @@ use Rattle.text.specs.Grammar.{JsonText, rootOf, depthOf}
 use Rattle.text.specs.Seats.{Head, Seat, Sits}
 use Rattle.text.specs.Placed.{Quoted, NameIn, TokenIn, Placed}
 use Rattle.text.specs.Meaning.{DistinctNames, Accepts}
-use Rattle.text.specs.Doc.{Name, Doc, Members, empty, member, boxed, labelAt, membersOf, docOf, countOf}
+use Rattle.text.specs.Doc.{Name, Doc, scalar, Members, empty, member, boxed, labelAt, membersOf, docOf, countOf}
 use Rattle.text.specs.Distinct.{Distinct}
 use Rattle.text.specs.Promised.{Promised}
 use Rattle.text.specs.Labels.{Labelled}
+use Rattle.text.specs.Sameness.{Order, scalars, EqualContent, SameValue}
 use Rattle.text.specs.Telling.{Stretch, NameTold, unnamed, named, TokenTold, as-written, string, TellsAll, nothing, token, entries, members, Tells, tells}
 use Rattle.text.specs.Writable.{depthIn}
 use Rattle.text.proofs.Spelling.Decoded.{decode-spelled}
@@ -72,6 +74,18 @@ label-content {n} {label} l =
     let s : Stretch label 1 (length label - 1) (l .inside) =
     record { before = 34 ∷ []; after = 34 ∷ []; whole = l .quoted; starts = refl; ends = omega (arith, label-long l) } in
     ap decode (stretch-part label 1 (length label - 1) s) ∙ decode-spelled (l .spells) ∙ sym (l .says)
+
+-- so two strings are the same value exactly if they say the same
+pub strings-same : (o : Order) {n m w u : List ℕ} → Labelled n w → Labelled m u → SameValue o (scalar 5 w) (scalar 5 u) ↔ (n ≡ m)
+strings-same o {n} {m} {w} {u} l k = (go, back)
+  where
+    go : SameValue o (scalar 5 w) (scalar 5 u) → n ≡ m
+    go (scalars t) = sym (label-content l) ∙ t .strings refl ∙ label-content k
+
+    back : n ≡ m → SameValue o (scalar 5 w) (scalar 5 u)
+    back e =
+        let t : EqualContent 5 w 5 u = record { kinds = refl; strings = λ h. label-content l ∙ e ∙ sym (label-content k); others = λ ne. absurd (ne refl) } in
+        scalars t
 
 -- ---- a text that is read says its document ----
 
