@@ -6,7 +6,7 @@ use mathlib.Core.Path.{_≡_}
 use mathlib.Core.List.{List}
 use mathlib.Core.Option.{Option, none, some}
 use Rattle.text.specs.Doc.{Doc, scalar, array, object, Members, Property}
-use Rattle.text.specs.Sameness.{counted, free, Same, EqualToken, EqualLabel}
+use Rattle.text.specs.Sameness.{counted, free, Corresponds, EqualToken, EqualLabel}
 use Rattle.contact.specs.Pointer.{Pointer, find}
 
 -- ---- by looking: every pointer finds nothing in both, or in both a property that is written with the same name and has the same kind and token,
@@ -43,9 +43,9 @@ pub record SameDoc (d e : Doc) : Type 0 where
   pub root : shape d ≡ shape e
   pub below : (p : Pointer) → look p d ≡ look p e
 
--- ---- by matching: each member of the one is a member of the other, and none is left over (`Same`, text's specs/Sameness.antt)
+-- ---- by matching: each member of the one is a member of the other, and none is left over (`Corresponds`, text's specs/Sameness.antt)
 
 -- the same value, all as written, but that members of objects stand in another order at any depth outside arrays; inside them the order counts, so an
 -- array is the same as a whole
 abbrev pub Reordered : Doc → Doc → Type 0
-Reordered = Same EqualToken EqualLabel counted free
+Reordered = Corresponds EqualToken EqualLabel counted free

@@ -19,7 +19,7 @@ use Rattle.text.specs.Meaning.{Accepts}
 use Rattle.text.specs.Doc.{Doc, countOf}
 use Rattle.text.specs.Distinct.{Distinct}
 use Rattle.text.specs.Telling.{Tells}
-use Rattle.text.specs.Writable.{depthIn, Keeps, Exceeds, Answers}
+use Rattle.text.specs.Writable.{depthIn, FitsLimits, Exceeds, Answers}
 use Rattle.text.specs.declared.Refusal.{Refusal}
 use Rattle.text.specs.declared.Refusal.the-variants.{Deep}
 use Rattle.text.proofs.Promise.{promised}
@@ -40,7 +40,7 @@ module _ (L : Limits) (t : List ℕ) (j : JsonText t) (d : Doc) (s : Tells t (ro
   wide-accepts : (u : Bool) → (u ≡ true → Distinct d) → Accepts (wide u) t (rootOf j)
   wide-accepts u o = told-accepted (wide u) t j d s o (le-refl (length t)) (le-refl (depthIn d)) (le-refl (countOf d))
 
-  kept : readOf L t ≡ good (rootOf j) (length t) → Keeps L t d
+  kept : readOf L t ≡ good (rootOf j) (length t) → FitsLimits L t d
   kept e =
       let a = accepts L t (rootOf j) .0 e in
       record {
@@ -68,20 +68,20 @@ module _ (L : Limits) (t : List ℕ) (j : JsonText t) (d : Doc) (s : Tells t (ro
 -- ---- what follows ----
 
 module _ {L : Limits} {t : List ℕ} {d : Doc} where
-  exceeds-not : {r : Refusal} → Exceeds L t d r → Keeps L t d → ⊥
+  exceeds-not : {r : Refusal} → Exceeds L t d r → FitsLimits L t d → ⊥
   exceeds-not (Exceeds.long l) k = omega (arith, k .short)
   exceeds-not (Exceeds.repeated l u o) k = o (k .distinct u)
   exceeds-not (Exceeds.deep l m) k = omega (arith, k .shallow)
   exceeds-not (Exceeds.many l m) k = omega (arith, k .few)
 
-  pub keeps-read : {f : Forest} {R : Read} → Answers L t d f R → Keeps L t d → R ≡ good f (length t)
+  pub keeps-read : {f : Forest} {R : Read} → Answers L t d f R → FitsLimits L t d → R ≡ good f (length t)
   keeps-read (Answers.read k) h = refl
   keeps-read (Answers.refused x) h = absurd (exceeds-not x h)
 
-  pub read-iff : {f : Forest} {R : Read} → Answers L t d f R → (R ≡ good f (length t)) ↔ Keeps L t d
+  pub read-iff : {f : Forest} {R : Read} → Answers L t d f R → (R ≡ good f (length t)) ↔ FitsLimits L t d
   read-iff a = (go a, keeps-read a)
     where
-      go : {f : Forest} {R : Read} → Answers L t d f R → R ≡ good f (length t) → Keeps L t d
+      go : {f : Forest} {R : Read} → Answers L t d f R → R ≡ good f (length t) → FitsLimits L t d
       go (Answers.read k) e = k
       go (Answers.refused x) e = let z : _≡_ {A = ℕ} 0 1 = cc in absurd (omega arith)
 

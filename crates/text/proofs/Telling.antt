@@ -29,7 +29,7 @@ use Rattle.text.specs.Doc.{Name, Doc, scalar, Members, empty, member, bo
 use Rattle.text.specs.Distinct.{Distinct}
 use Rattle.text.specs.Promised.{Promised}
 use Rattle.text.specs.Labels.{Labelled}
-use Rattle.text.specs.Sameness.{Order, scalars, EqualContent, SameValue}
+use Rattle.text.specs.Sameness.{MemberOrder, scalars, EqualContent, SameValue}
 use Rattle.text.specs.Telling.{Stretch, NameTold, unnamed, named, TokenTold, as-written, string, TellsAll, nothing, token, entries, members, Tells, tells}
 use Rattle.text.specs.Writable.{depthIn}
 use Rattle.text.proofs.Spelling.Decoded.{decode-spelled}
@@ -76,7 +76,7 @@ label-content {n} {label} l =
     ap decode (stretch-part label 1 (length label - 1) s) ∙ decode-spelled (l .spells) ∙ sym (l .says)
 
 -- so two strings are the same value exactly if they say the same
-pub strings-same : (o : Order) {n m w u : List ℕ} → Labelled n w → Labelled m u → SameValue o (scalar 5 w) (scalar 5 u) ↔ (n ≡ m)
+pub strings-same : (o : MemberOrder) {n m w u : List ℕ} → Labelled n w → Labelled m u → SameValue o (scalar 5 w) (scalar 5 u) ↔ (n ≡ m)
 strings-same o {n} {m} {w} {u} l k = (go, back)
   where
     go : SameValue o (scalar 5 w) (scalar 5 u) → n ≡ m

@@ -47,7 +47,7 @@ unfoldable mutual
 -- ---- what reading answers of a text that says a document
 
 -- the text t, which says the document d, is within the limits
-pub record Keeps (L : Limits) (t : List ℕ) (d : Doc) : Type 0 where
+pub record FitsLimits (L : Limits) (t : List ℕ) (d : Doc) : Type 0 where
   pub short : length t ≤ L .bytes
   pub shallow : depthIn d ≤ L .depth
   pub few : countOf d ≤ L .values
@@ -62,7 +62,7 @@ pub data Exceeds (L : Limits) (t : List ℕ) (d : Doc) : Refusal → Type 0 wher
 
 -- so it is read as the tree f, to its end, or refused for that
 pub data Answers (L : Limits) (t : List ℕ) (d : Doc) (f : Forest) : Read → Type 0 where
-  read : Keeps L t d → Answers L t d f (good f (length t))
+  read : FitsLimits L t d → Answers L t d f (good f (length t))
   refused : {r : Refusal} → Exceeds L t d r → Answers L t d f (bad r)
 
 -- The text of the document d is one of the grammar, and its tree says d again: as many values, as deep. It is read so exactly if it is within the

@@ -8,7 +8,7 @@ use Prim.Native.Nat.{ℕ}
 use Rattle.laws.proofs.Orders.{same-refl}
 use Rattle.text.specs.Doc.{Name, Doc, scalar, array, object, Members, empty, member, Property, property, seek}
 use Rattle.text.specs.Distinct.{Distinct, DistinctMembers}
-use Rattle.text.specs.Sameness.{Order, counted, free, Taken, Same, scalars, arrays, objects, Matched, nothing, match, EqualToken, EqualLabel}
+use Rattle.text.specs.Sameness.{MemberOrder, counted, free, Taken, Corresponds, scalars, arrays, objects, Matched, nothing, match, EqualToken, EqualLabel}
 use Rattle.text.proofs.Sameness.{matched-equal}
 use Rattle.text.proofs.Taken.{take-out, taken-other, taken-is, taken-same, taken-value, taken-rest}
 use Rattle.contact.specs.Pointer.{Pointer, last, down, within, find}
@@ -89,12 +89,12 @@ mutual
 -- ---- and the other way round
 
 mutual
-  same-alike : {o : Order} {d e : Doc} → Same EqualToken EqualLabel counted o d e → Distinct d → Distinct e → SameDoc d e
+  same-alike : {o : MemberOrder} {d e : Doc} → Corresponds EqualToken EqualLabel counted o d e → Distinct d → Distinct e → SameDoc d e
   same-alike (scalars {kind′ = kind} {token′ = token} t) h k = rw (t .kinds, t .tokens) (likeness-refl (scalar kind token))
   same-alike (arrays {ms = xs} {ns = ys} m) h k = rw (matched-equal xs ys .0 m) (likeness-refl (array ys))
   same-alike (objects {ms = ms} {ns = ns} m) h k = same-object ms ns (λ n. matched-alike m h k n)
 
-  matched-alike : {o v : Order} {ms ns : Members} → Matched EqualToken EqualLabel counted o v ms ns → DistinctMembers ms → DistinctMembers ns
+  matched-alike : {o v : MemberOrder} {ms ns : Members} → Matched EqualToken EqualLabel counted o v ms ns → DistinctMembers ms → DistinctMembers ns
       → (k : Name) → Alike (seek k ms) (seek k ns)
   matched-alike nothing h k m = neither
   matched-alike (match {n = n} {label = t} {label′ = u} {d = d} {e = e} x l r y) h k m =

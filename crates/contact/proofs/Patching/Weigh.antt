@@ -11,7 +11,7 @@ use Rattle.laws.proofs.Bools.{byTest}
 use Rattle.text.specs.Text.{bytes}
 use Rattle.text.specs.Doc.{Name, Doc, scalar, array, object, Members, empty, member, Property, property, seek}
 use Rattle.text.specs.Distinct.{Distinct}
-use Rattle.text.specs.Sameness.{Order, counted, Taken, atHead, inTail, Same, scalars, arrays, objects, Matched, nothing, match, EqualToken, EqualLabel}
+use Rattle.text.specs.Sameness.{MemberOrder, counted, Taken, atHead, inTail, Corresponds, scalars, arrays, objects, Matched, nothing, match, EqualToken, EqualLabel}
 use Rattle.text.specs.Writing.{spelled}
 use Rattle.text.proofs.Sameness.{matched-equal}
 use Rattle.contact.specs.Pointer.{Pointer, last, down, lastPart, pointerOf, within, find}
@@ -114,17 +114,17 @@ module _ (S : Scale) where
 
   -- ---- the order of members does not count
 
-  taken-sum : {o : Order} {n : Name} {t : List ℕ} {d : Doc} {ns rest : Members} → Taken n t d o ns rest → sum ns ≡ S .label t + weight d + sum rest
+  taken-sum : {o : MemberOrder} {n : Name} {t : List ℕ} {d : Doc} {ns rest : Members} → Taken n t d o ns rest → sum ns ≡ S .label t + weight d + sum rest
   taken-sum atHead = refl
   taken-sum (inTail x) = omega (arith, taken-sum x)
 
   mutual
-    same-weight : {o : Order} {d e : Doc} → Same EqualToken EqualLabel counted o d e → weight d ≡ weight e
+    same-weight : {o : MemberOrder} {d e : Doc} → Corresponds EqualToken EqualLabel counted o d e → weight d ≡ weight e
     same-weight (scalars t) = rw (t .kinds, t .tokens)
     same-weight (arrays {ms = xs} {ns = ys} m) = rw (matched-equal xs ys .0 m)
     same-weight (objects m) = ap (S .box) (matched-sum m)
 
-    matched-sum : {o v : Order} {ms ns : Members} → Matched EqualToken EqualLabel counted o v ms ns → sum ms ≡ sum ns
+    matched-sum : {o v : MemberOrder} {ms ns : Members} → Matched EqualToken EqualLabel counted o v ms ns → sum ms ≡ sum ns
     matched-sum nothing = refl
     matched-sum (match x l r m) = omega (arith, taken-sum x, ap (S .label) l, same-weight r, matched-sum m)
 
