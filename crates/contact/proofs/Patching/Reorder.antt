@@ -11,7 +11,8 @@ use Rattle.laws.proofs.Orders.{same-refl}
 use Rattle.text.specs.Doc.{Name, Doc, scalar, array, object, Members, empty, member, Property, property, seek}
 use Rattle.text.specs.Distinct.{Distinct, DistinctMembers}
 use Rattle.contact.specs.Pointer.{Pointer, last, down, within, find}
-use Rattle.contact.specs.Likeness.{Shape, aScalar, anArray, anObject, shape, Look, absent, there, seen, look, SameDoc, Taken, atHead, inTail, Reordered, scalars, arrays, objects, Matched, nothing, match}
+use Rattle.contact.specs.Likeness.{Taken, atHead, inTail, Reordered, scalars, arrays, objects, Matched, nothing, match}
+use Rattle.contact.proofs.Patching.Looking.{Shape, aScalar, anArray, anObject, shape, Look, absent, there, seen, look, SameDoc}
 use Rattle.contact.proofs.Patching.Same.{likeness-refl, Alike, neither, both, same-object, alike}
 use Rattle.contact.proofs.Patching.Names.{same-yes, same-no, byName}
 
