@@ -154,7 +154,7 @@ module _ (L : Limits) (unique : L .unique ≡ true) where
       keys = λ key. key-iff key;
       asking = λ ms es fs x y. one-asking x y;
       new-names = spelled-name;
-      would-be = λ t lang words f c. localize-would L unique words 0 t lang f (card-passed L words t f c);
+      would-be = λ t lang words f c. localize-would L unique words t lang f (card-passed L words t f c);
       room-enough = λ t lang words room. localize-room L unique words room t lang;
       inner = λ t lang words room. localize-inner L unique words room t lang;
     };

@@ -22,7 +22,7 @@ use Rattle.contact.specs.Demands.{Passes, Within, CardText, WouldBe, Loc
 use Rattle.contact.specs.Contract.{Localizes}
 use Rattle.contact.specs.declared.LocalRefusal.{LocalRefusal}
 use Rattle.contact.specs.declared.Localized.{Localized}
-use Rattle.contact.specs.declared.Localized.the-variants.{Written, Denied}
+use Rattle.contact.specs.declared.Localized.the-variants.{Denied}
 use Rattle.contact.proofs.Patching.Public.{passed-so, failed-so}
 use Rattle.contact.proofs.Patching.Refused.{Accepted, accepted-applicable, accepted-iff, refused-iff, broken-number, broken-second, key-second, key-smallest, smallest-key}
 use Rattle.contact.proofs.Patching.Fine.{fine}
@@ -30,6 +30,21 @@ use Rattle.contact.proofs.Patching.Together.{patched-card}
 use Rattle.contact.proofs.Patching.Readback.{passed-tree, card-writable, card-written, card-shorter, card-fewer, never-longer, inner-number}
 use Rattle.contact.proofs.Demands.Reading.{read-documents, passed-card}
 use Rattle.contact.proofs.Demands.Sheet.{line-of, local-line, local-some, Late, early, late-short, late-inner, late, second-sheet, same-number, same-second}
+
+-- the card that the conditions speak of
+module _ (L : Limits) (unique : L .unique ≡ true) (words : ℕ) (t : List ℕ) (lang : Name) (f : Forest) (pass : judgedOf L words t ≡ passed f) where
+  pub localize-would : (ms : Members) → PatchOf (docOf t f) lang ms → Applicable (start (docOf t f)) ms → WouldBe L words t f ms
+  localize-would ms patch u =
+      let h = fine (start (docOf t f)) ms u in
+      record {
+        patched = patched-card (docOf t f) lang ms patch (card-writable L unique words t f pass) u;
+        writes = card-written L unique words t f pass lang ms patch u;
+        shorter = card-shorter L unique words t f pass lang ms patch (h .noClash) (h .parents);
+        fewer = card-fewer L unique words t f pass lang ms patch (h .noClash) (h .parents);
+        compact = λ M u g a e.
+            let same = ap (λ (d : Doc). length (written d)) e in
+            omega (arith, text-shorter M u g (length u) (accepts M u g .1 a), same);
+      }
 
 module _ (L : Limits) (unique : L .unique ≡ true) (words room : ℕ) (t : List ℕ) (lang : Name) where
   abbrev outcome : Outcome
@@ -48,25 +63,12 @@ module _ (L : Limits) (unique : L .unique ≡ true) (words room : ℕ) (t : List
     pub of-doc : (o : Outcome) → outcome ≡ o → localizedDoc L words room (docOf t f) lang ≡ o
     of-doc o e = sym (passed-so L words room t lang f pass) ∙ e
 
-    pub localize-would : (ms : Members) → PatchOf (docOf t f) lang ms → Applicable (start (docOf t f)) ms → WouldBe L words t f ms
-    localize-would ms patch u =
-        let h = fine (start (docOf t f)) ms u in
-        record {
-          patched = patched-card (docOf t f) lang ms patch (card-writable L unique words t f pass) u;
-          writes = card-written L unique words t f pass lang ms patch u;
-          shorter = card-shorter L unique words t f pass lang ms patch (h .noClash) (h .parents);
-          fewer = card-fewer L unique words t f pass lang ms patch (h .noClash) (h .parents);
-          compact = λ M u g a e.
-              let same = ap (λ (d : Doc). length (written d)) e in
-              omega (arith, text-shorter M u g (length u) (accepts M u g .1 a), same);
-        }
-
     localization : (text : List ℕ) (g : Forest) → outcome ≡ done text g → Localization L (served L) words room t f lang
     unfolding served sheetOfOutcome paperOfLocalized answerOfOutcome tableOfOutcome outputOfOutcome
     localization text g e =
         let a : Accepted L words room (docOf t f) lang text g = accepted-iff L words room (docOf t f) lang text g .0 (of-doc (done text g) e) in
         let ms : Members = a .members in
-        let w : WouldBe L words t f ms = localize-would ms (a .patch) (accepted-applicable L words room (docOf t f) lang a) in
+        let w : WouldBe L words t f ms = localize-would L unique words t lang f pass ms (a .patch) (accepted-applicable L words room (docOf t f) lang a) in
         let c : CardText L words text g = passed-card L words text g (a .reads) in
         let tree : g ≡ rootOf (w .writes .back .derives) = passed-tree (w .writes) g (rw (a .writes) at (a .reads)) in
         record {

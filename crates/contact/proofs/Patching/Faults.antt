@@ -16,7 +16,7 @@ use Rattle.text.specs.Text.{bytes}
 use Rattle.text.specs.Doc.{Name, Doc, Members, member}
 use Rattle.contact.specs.Pointer.{Pointer, last, down, pointerOf, firstPart, parts, badTilde}
 use Rattle.contact.specs.PointerText.{PointerText}
-use Rattle.contact.specs.Patch.{Walk, walk, isInArray, isNoObject}
+use Rattle.contact.specs.Patch.{isInArray, isNoObject}
 use Rattle.contact.specs.Faults.{PatchFault, allKept, brokenBy, leastKey, leastClash, ownKey, walksTo, orElseFault, faultIn}
 use Rattle.contact.specs.Entries.{Prefix, Shuffled, asIs, keepFirst, swapFirst, andOn}
 use Rattle.contact.specs.Conditions.{LooseTilde, HasKey, first, later, HasKeys, firstKey, laterOn, TwoKeys, EntersArray, LosesWay, BreaksWith, badKey, ownLocalizations, clashing, enteringArray, losingWay, Applicable, FirstBroken}
@@ -24,7 +24,7 @@ use Rattle.contact.proofs.Patching.Names.{same-yes, byName, before-tota
 use Rattle.contact.proofs.Patching.Tilde.{tilde-iff}
 use Rattle.contact.proofs.Patching.Pointers.{key-iff}
 use Rattle.contact.proofs.Patching.Ways.{array-test, lost-test}
-use Rattle.contact.proofs.Patching.Least.{Least, least-map, key-least, Clashing, InPair, clash-least}
+use Rattle.contact.proofs.Patching.Least.{Least, least-map, key-least, InPair, clash-least}
 
 -- ---- 23 by the first part of a pointer
 

@@ -1,12 +1,12 @@
 -- A PatchObject that breaks none of 22 to 26 on a document, by the tests: `fine`.
 -- Assumes nothing.
-use mathlib.Core.Path.{_≡_, sym, subst, _∙_}
+use mathlib.Core.Path.{_≡_, subst, _∙_}
 use mathlib.Core.Bool.{Bool, true, false}
-use mathlib.Core.Option.{Option, none, some}
+use mathlib.Core.Option.{Option, some}
 use Prim.Native.Nat.{ℕ}
 use Rattle.laws.proofs.Bools.{byTest}
 use Rattle.text.specs.Doc.{Name, Doc, Members}
-use Rattle.contact.specs.Patch.{entriesOf, anyOwn, anyClash, anyWalk, isInArray, isNoObject}
+use Rattle.contact.specs.Patch.{entriesOf, anyOwn, anyWalk, isInArray, isNoObject}
 use Rattle.contact.specs.Faults.{leastKey, leastClash, ownKey, walksTo}
 use Rattle.contact.specs.Entries.{NoClash, ParentsThere}
 use Rattle.contact.specs.Conditions.{LooseTilde, HasKey, BreaksWith, badKey, Applicable}

@@ -15,7 +15,7 @@ use Rattle.contact.specs.Pointer.{pointerOf, badTilde, clash}
 use Rattle.contact.specs.Patch.{entriesOf, Walk, anyBadKey, anyOwn, clashWith, anyClash, anyWalk}
 use Rattle.contact.specs.Faults.{earlier, keyIf, leastKey, withOthers, leastClash, ownKey, walksTo}
 use Rattle.contact.specs.Entries.{Prefix}
-use Rattle.contact.specs.Conditions.{HasKey, first, later, HasKeys, firstKey, laterOn, TwoKeys}
+use Rattle.contact.specs.Conditions.{HasKey, first, later, firstKey, laterOn, TwoKeys}
 use Rattle.contact.proofs.Patching.Names.{byName, before-total}
 use Rattle.contact.proofs.Patching.Apart.{clash-iff}
 

@@ -2,7 +2,7 @@
 -- values than the text (`card-shorter`, `card-fewer`), so its text is read back (`card-written`): 27 never asks for more bytes than the text has
 -- (`never-longer`), and 28 is 5 or one of 11 to 14 (`inner-number`).
 -- Assumes nothing.
-use mathlib.Core.Path.{_≡_, refl, sym, ap, subst, _∙_}
+use mathlib.Core.Path.{_≡_, refl, sym, subst, _∙_}
 use mathlib.Core.Bool.{true}
 use mathlib.Core.Logic.{_⊎_, inl, inr}
 use mathlib.Core.List.{List}
@@ -30,12 +30,13 @@ use Rattle.contact.specs.Verdict.{refusedFault, refusedCard, Judged, pas
 use Rattle.contact.specs.Patch.{entriesOf}
 use Rattle.contact.specs.Localize.{Outcome, refusedLocal, denied, start, localizedOf, patchedDoc}
 use Rattle.contact.specs.Entries.{NoClash, ParentsThere}
-use Rattle.contact.specs.Conditions.{PatchOf, Applicable}
+use Rattle.contact.specs.Conditions.{PatchOf, Applicable, Smallest}
 use Rattle.contact.specs.Patching.{WrittenCard}
 use Rattle.contact.specs.declared.CardFault.{CardFault}
 use Rattle.contact.specs.declared.CardFault.the-variants.{Kind, Missing, Value, Rule}
 use Rattle.contact.specs.declared.CardRefusal.{CardRefusal}
 use Rattle.contact.specs.declared.CardRefusal.the-variants.{Text, Card}
+use Rattle.contact.specs.declared.LocalRefusal.{LocalRefusal}
 use Rattle.contact.specs.declared.LocalRefusal.the-variants.{Given, Short, Inner}
 use Rattle.contact.proofs.Judging.{judging}
 use Rattle.contact.proofs.Patching.Refused.{refused-iff, late-applicable, short-of, unfit-of}
@@ -159,25 +160,36 @@ module _ (L : Limits) (words room : ℕ) (unique : L .unique ≡ true) where
       go (passed f) k = (f, k)
       go (failed r) k = absurd (not r (sym e ∙ failed-so L words room t lang r k))
 
+  module _ (t : List ℕ) (lang : Name) (f : Forest) (pass : judgedOf L words t ≡ passed f) where
+    -- its document has the outcome
+    of-card : (r : LocalRefusal) → localizedOf L words room t lang ≡ denied r → Smallest L words room (docOf t f) lang (refusedLocal r .number) r
+    of-card r e = refused-iff L words room (docOf t f) lang r .0 (sym (passed-so L words room t lang f pass) ∙ e)
+
+    card-longest : (n : ℕ) → Smallest L words room (docOf t f) lang 27 (Short n) → (room < n) × (n ≤ length t)
+    card-longest n s =
+        let (ms, patch, short, q) = short-of L words room (docOf t f) lang (s .broken) in
+        let h = fine (start (docOf t f)) ms (late-applicable L words room (docOf t f) lang ms patch s (omega arith)) in
+        let same : n ≡ length (written (patchedDoc (docOf t f) ms)) = cc in
+        (omega arith, omega (arith, card-shorter L unique words t f pass lang ms patch (h .noClash) (h .parents)))
+
+    card-inner : (r : CardRefusal) → Smallest L words room (docOf t f) lang 28 (Inner r) → OnlyInner r
+    card-inner r s =
+        let (ms, x, patch, judged, q) = unfit-of L words room (docOf t f) lang (s .broken) in
+        let u = late-applicable L words room (docOf t f) lang ms patch s (omega arith) in
+        let same : x ≡ r = cc in
+        failed-inner {x = patchedDoc (docOf t f) ms} (card-written L unique words t f pass lang ms patch u) r (rw same at judged)
+
   pub never-longer : (t : List ℕ) (lang : Name) (n : ℕ) → localizedOf L words room t lang ≡ denied (Short n) → (room < n) × (n ≤ length t)
   unfolding refusedLocal
   never-longer t lang n e =
       let (f, pass) = passed-text t lang (denied (Short n)) e (λ r z. let k : _≡_ {A = ℕ} 0 1 = cc in omega arith) in
-      let s = refused-iff L words room (docOf t f) lang (Short n) .0 (sym (passed-so L words room t lang f pass) ∙ e) in
-      let (ms, patch, short, q) = short-of L words room (docOf t f) lang (s .broken) in
-      let h = fine (start (docOf t f)) ms (late-applicable L words room (docOf t f) lang ms patch s (omega arith)) in
-      let same : n ≡ length (written (patchedDoc (docOf t f) ms)) = cc in
-      (omega arith, omega (arith, card-shorter L unique words t f pass lang ms patch (h .noClash) (h .parents)))
+      card-longest t lang f pass n (of-card t lang f pass (Short n) e)
 
   only-inner : (t : List ℕ) (lang : Name) (r : CardRefusal) → localizedOf L words room t lang ≡ denied (Inner r) → OnlyInner r
   unfolding refusedLocal
   only-inner t lang r e =
       let (f, pass) = passed-text t lang (denied (Inner r)) e (λ q z. let n : _≡_ {A = ℕ} 0 1 = cc in omega arith) in
-      let s = refused-iff L words room (docOf t f) lang (Inner r) .0 (sym (passed-so L words room t lang f pass) ∙ e) in
-      let (ms, x, patch, judged, q) = unfit-of L words room (docOf t f) lang (s .broken) in
-      let u = late-applicable L words room (docOf t f) lang ms patch s (omega arith) in
-      let same : x ≡ r = cc in
-      subst OnlyInner same (failed-inner (card-written L unique words t f pass lang ms patch u) x judged)
+      card-inner t lang f pass r (of-card t lang f pass (Inner r) e)
 
   pub inner-number : (t : List ℕ) (lang : Name) (r : CardRefusal) → localizedOf L words room t lang ≡ denied (Inner r)
       → (refusedCard r .number ≡ 5) ⊎ ((11 ≤ refusedCard r .number) × (refusedCard r .number ≤ 14))
