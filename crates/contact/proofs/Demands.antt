@@ -148,8 +148,8 @@ module _ (L : Limits) (unique : L .unique ≡ true) where
       patched = λ t lang words room f c. localize-patched L unique words room t lang f (card-passed L words t f c);
       accepted = λ t lang words room f c. localize-accepted L unique words room t lang f (card-passed L words t f c);
       refused = λ t lang words room f c. localize-refused L unique words room t lang f (card-passed L words t f c);
-      key-at-fault = λ t lang words room f c. localize-key L unique words room t lang f (card-passed L words t f c);
       refused-answer = λ t lang words room f c. refused-answer L unique words room t lang f (card-passed L words t f c);
+      key-at-fault = λ t lang words room f c. localize-key L unique words room t lang f (card-passed L words t f c);
       language = patch-iff;
       keys = λ key. key-iff key;
       asking = λ ms es fs x y. one-asking x y;

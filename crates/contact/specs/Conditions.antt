@@ -2,7 +2,7 @@
 -- patch it, and name the key that breaks them (`BreaksWith`); a key counts by the pointer that it writes, so one with a loose `~` breaks 22 alone. The
 -- rest is about a card and a language: there the document is the card without its localizations (`LeftOutOf`), the PatchObject is the one that is found,
 -- and that is the one that the card has (`PatchUnder`); 27 and 28 speak of the text that would be written. The answer is the broken condition of
--- smallest number (proofs/Patching/Refused.antt).
+-- smallest number, of 22 to 26 for the smallest key (`FirstBroken`; proofs/Patching/Refused.antt).
 -- Assumes nothing: these are definitions.
 use Prim.Native.Nat.{ℕ, _≤_, _<_}
 use mathlib.Core.Path.{_≡_}
