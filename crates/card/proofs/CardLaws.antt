@@ -27,8 +27,7 @@ use Rattle.contact.specs.Judging.{Judges}
 use Rattle.contact.specs.declared.Verdict.the-variants.{Passed, Failed}
 use Rattle.contact.specs.declared.LocalRefusal.the-variants.{NoLanguage}
 use Rattle.contact.proofs.Judging.{judging}
-use Rattle.contact.proofs.Patching.Again.{modest}
-use Rattle.contact.proofs.Patching.Readback.{modest-written}
+use Rattle.contact.proofs.Patching.Readback.{card-shorter}
 use Rattle.contact.proofs.Patching.Steps.{judged-answer, no-patch, no-patch-object, patched-so}
 use Rattle.json.specs.Rows.{kindIn}
 use Rattle.card.specs.Members.{firstMember}
@@ -68,8 +67,7 @@ module _ {t table : List ℕ} {f : Forest} (c : CardIn t table f) where
   pub card-countable : (lang : Name) (ms : Members) → PatchOf (docOf t f) lang ms → Countable (docOf t f) ms
   card-countable lang ms patch nc pt =
       let p = card-promised in
-      let m = modest base (length table) t f refl (c .passes) lang ms patch nc pt in
-      omega (arith, modest-written base (length table) t f (c .passes) _ m .shorter, p .short)
+      omega (arith, card-shorter base refl (length table) t f (c .passes) lang ms patch nc pt, p .short)
 
 -- ---- what the card has for a language
 

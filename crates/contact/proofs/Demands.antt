@@ -42,14 +42,15 @@ use Rattle.contact.proofs.Judging.Signatures.{as-signed}
 use Rattle.contact.proofs.Patching.Pointers.{key-iff}
 use Rattle.contact.proofs.Patching.Start.{patch-iff}
 use Rattle.contact.proofs.Patching.Asked.{one-asking}
-use Rattle.contact.proofs.Patching.Together.{patching}
+use Rattle.contact.proofs.Patching.Refused.{accepted-iff}
+use Rattle.contact.proofs.Patching.Together.{order-of-texts}
 use Rattle.contact.proofs.Patching.Contract.{one-outcome, one-order, output-fits}
-use Rattle.contact.proofs.Patching.Readback.{readback}
+use Rattle.contact.proofs.Patching.Readback.{passed-text}
 use Rattle.contact.proofs.Demands.Sheet.{OnLine, on-line, text-line, card-line, local-line}
 use Rattle.contact.proofs.Demands.Rows.{value-seen}
-use Rattle.contact.proofs.Demands.Reading.{read-documents, card-passed, read-passes, read-rows, read-describes, read-words, read-long, read-fault, read-short, judge-unread, judge-passes, judge-rows, judge-offends}
+use Rattle.contact.proofs.Demands.Reading.{read-documents, card-passed, passed-card, read-passes, read-rows, read-describes, read-words, read-long, read-fault, read-short, judge-unread, judge-passes, judge-rows, judge-offends}
 use Rattle.contact.proofs.Demands.AnyOrder.{reordered-only, order-card, order-number}
-use Rattle.contact.proofs.Demands.Localizing.{of-doc, card-written, localize-own, localize-patched, localize-accepted, localize-would, localize-refused, refused-answer, localize-again, localize-room, localize-inner}
+use Rattle.contact.proofs.Demands.Localizing.{of-doc, localize-own, localize-patched, localize-accepted, localize-would, localize-refused, localize-key, refused-answer, localize-again, localize-room, localize-inner}
 
 -- ---- demand 1
 
@@ -93,9 +94,9 @@ module _ (L : Limits) (unique : L .unique ≡ true) where
           → Ends (localize t lang words room) (leaves (sheetOfOutcome o) (tableOfOutcome words o) (outputOfOutcome room o))
       go (denied r) e = refused-ends (localize t lang words room) (local-line r)
       go (done text g) e =
-          let (f, pass) = readback L words room unique .card-text t lang text g e in
-          let a = patching L words room .accepted (docOf t f) lang text g .0 (of-doc L unique words room t lang f pass (done text g) e) in
-          let c = card-written L unique words room t lang f pass text g a in
+          let (f, pass) = passed-text L words room unique t lang (done text g) e (λ r z. let n : _≡_ {A = ℕ} 0 1 = cc in omega arith) in
+          let a = accepted-iff L words room (docOf t f) lang text g .0 (of-doc L unique words room t lang f pass (done text g) e) in
+          let c = passed-card L words text g (a .reads) in
           accepted-ends (localize t lang words room) (rowsOf g) text (size g) (rows-length g) (rows-fit words g (c .readable .enough))
           (output-fits L words room (docOf t f) lang text g (of-doc L unique words room t lang f pass (done text g) e))
 
@@ -142,7 +143,7 @@ module _ (L : Limits) (unique : L .unique ≡ true) where
           let g = rootOf (o .derives) in
           let d = order-card L words t u lang f c o in
           let only = reordered-only L words t u lang f (c .readable) o in
-          let e = patching L words room .order-of-texts t u lang f g (card-passed L words t f c) (card-passed L words u g d) only in rw e;
+          let e = order-of-texts L words room t u lang f g (card-passed L words t f c) (card-passed L words u g d) only in rw e;
       any-order-allowed = λ t u lang words room f c o a b x y n m.
           let g = rootOf (o .derives) in
           let d = order-card L words t u lang f c o in
@@ -151,12 +152,13 @@ module _ (L : Limits) (unique : L .unique ≡ true) where
       accepted = λ t lang words room f c. localize-accepted L unique words room t lang f (card-passed L words t f c);
       refused = λ t lang words room f c. localize-refused L unique words room t lang f (card-passed L words t f c);
       refused-answer = λ t lang words room f c. refused-answer L unique words room t lang f (card-passed L words t f c);
+      key-at-fault = λ t lang words room f c. localize-key L unique words room t lang f (card-passed L words t f c);
       language = patch-iff;
       keys = λ key. key-iff key;
       asking = λ ms es fs x y. one-asking x y;
       byte-order = before-earlier;
       new-names = spelled-name;
-      would-be = λ t lang words room f c. localize-would L unique words room t lang f (card-passed L words t f c);
+      would-be = λ t lang words f c. localize-would L unique words t lang f (card-passed L words t f c);
       room-enough = λ t lang words room. localize-room L unique words room t lang;
       judged-again = λ t lang words room f c. localize-again L unique words room t lang f (card-passed L words t f c);
       inner = λ t lang words room. localize-inner L unique words room t lang;

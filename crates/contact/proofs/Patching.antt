@@ -8,6 +8,7 @@ pub mod Entries
 pub mod Order
 pub mod Untouched
 pub mod Effect
+pub mod Looking
 pub mod Same
 pub mod Single
 pub mod Layout
@@ -17,11 +18,12 @@ pub mod Ascending
 pub mod Apart
 pub mod Tilde
 pub mod Ways
-pub mod Found
+pub mod Least
+pub mod Faults
 pub mod Start
+pub mod Steps
 pub mod Refused
 pub mod Public
-pub mod Steps
 pub mod Fine
 pub mod Together
 pub mod Rearranged
@@ -31,5 +33,4 @@ pub mod Parts
 pub mod Every
 pub mod Room
 pub mod Contract
-pub mod Again
 pub mod Readback

@@ -1,6 +1,8 @@
--- The conditions 21 to 28 of the refusal sheet, each by itself and in words: no order and no walk is named here. The PatchObject is the one that is
--- found, and that is the one that the card has (`PatchUnder`); 27 and 28 speak of the text that would be written. The answer is the broken condition of
--- smallest number (proofs/Patching/Refused.antt).
+-- The conditions 21 to 28 of the refusal sheet, each by itself and in words. 22 to 26 are about a document and the members of a PatchObject that is to
+-- patch it, and name the key that breaks them (`BreaksWith`); a key counts by the pointer that it writes, so one with a loose `~` breaks 22 alone. The
+-- rest is about a card and a language: there the document is the card without its localizations (`LeftOutOf`), the PatchObject is the one that is found,
+-- and that is the one that the card has (`PatchUnder`); 27 and 28 speak of the text that would be written. The answer is the broken condition of
+-- smallest number, of 22 to 26 for the smallest key (`FirstBroken`; proofs/Patching/Refused.antt).
 -- Assumes nothing: these are definitions.
 use Prim.Native.Nat.{ℕ, _≤_, _<_}
 use mathlib.Core.Path.{_≡_}
@@ -8,15 +10,17 @@ use mathlib.Core.Logic.{_⊎_, _≢_}
 use mathlib.Core.List.{List, [], _∷_, _++_}
 use mathlib.Core.Option.{none, some}
 use lib.ListN.{length}
+use Rattle.laws.specs.Order.{Earlier}
 use Rattle.text.specs.Limits.{Limits}
 use Rattle.text.specs.Text.{bytes}
-use Rattle.text.specs.Tree.{Forest}
 use Rattle.text.specs.Doc.{Name, Doc, scalar, array, object, Members, empty, member, Property, property, seek}
 use Rattle.text.specs.Writing.{written}
 use Rattle.contact.specs.BetweenMembers.{HasMember}
-use Rattle.contact.specs.Verdict.{refusedCard, passed, failed, judgedOf}
-use Rattle.contact.specs.Pointer.{Pointer, last, pointerOf, parts, find}
-use Rattle.contact.specs.Localize.{patchAt, patchedDoc}
+use Rattle.contact.specs.Verdict.{refusedCard}
+use Rattle.contact.specs.Judging.{Says}
+use Rattle.contact.specs.Pointer.{Pointer, last, parts, find}
+use Rattle.contact.specs.PointerText.{PointerText}
+use Rattle.contact.specs.Localize.{keyRefusal, patchAt, patchedDoc}
 use Rattle.contact.specs.Entries.{Prefix}
 use Rattle.contact.specs.declared.CardRefusal.{CardRefusal}
 use Rattle.contact.specs.declared.LocalRefusal.{LocalRefusal}
@@ -41,6 +45,10 @@ pub data HasKeys (key other : Name) : Members → Type 0 where
   firstKey : {label : List ℕ} {d : Doc} {ms : Members} → HasKey other ms → HasKeys key other (member key label d ms)
   laterOn : {n : Name} {label : List ℕ} {d : Doc} {ms : Members} → HasKeys key other ms → HasKeys key other (member n label d ms)
 
+-- two different members have these names, in whichever order
+abbrev pub TwoKeys : (key other : Name) → Members → Type 0
+TwoKeys key other ms = HasKeys key other ms ⊎ HasKeys other key ms
+
 -- ---- the way of a pointer
 
 -- the names lead from the one value, through objects, to the other
@@ -64,6 +72,27 @@ pub data LosesWay (p : Pointer) (d : Doc) : Type 0 where
   atScalar : {kind : ℕ} {token : List ℕ} {n : Name} {left : List Name} → Reaches p d (scalar kind token) n left → LosesWay p d
   noMember : {ms : Members} {n m : Name} {left : List Name} → Reaches p d (object ms) n (m ∷ left) → seek n ms ≡ none → LosesWay p d
 
+-- ---- 22 to 26: a document, and the members of the PatchObject that is to patch it
+
+-- the key breaks the condition of this number
+pub data BreaksWith (d : Doc) (ms : Members) : (number : ℕ) → (key : Name) → Type 0 where
+  badKey : {key : Name} → HasKey key ms → LooseTilde key → BreaksWith d ms 22 key
+  ownLocalizations : {key : Name} {p : Pointer} → HasKey key ms → PointerText key p → Prefix (last (bytes "localizations")) p → BreaksWith d ms 23 key
+  clashing : {key other : Name} {p q : Pointer} → TwoKeys key other ms → PointerText key p → PointerText other q → Prefix p q ⊎ Prefix q p
+      → BreaksWith d ms 24 key
+  enteringArray : {key : Name} {p : Pointer} → HasKey key ms → PointerText key p → EntersArray p d → BreaksWith d ms 25 key
+  losingWay : {key : Name} {p : Pointer} → HasKey key ms → PointerText key p → LosesWay p d → BreaksWith d ms 26 key
+
+-- no key breaks any: so the entries can be applied to the document
+abbrev pub Applicable : Doc → Members → Type 0
+Applicable d ms = (number : ℕ) (key : Name) → ¬ BreaksWith d ms number key
+
+-- the smallest number that is broken, and of the keys that break it the smallest in byte order
+pub record FirstBroken (d : Doc) (ms : Members) (number : ℕ) (key : Name) : Type 0 where
+  pub breaks : BreaksWith d ms number key
+  pub least : (m : ℕ) (other : Name) → BreaksWith d ms m other → number ≤ m
+  pub no-earlier : (other : Name) → BreaksWith d ms number other → ¬ Earlier other key
+
 -- ---- the PatchObject, and the card without its localizations
 
 -- the PatchObject of the language has the members ms
@@ -85,7 +114,7 @@ pub data LeftOut (n : Name) : Members → Members → Type 0 where
 pub data LeftOutOf (n : Name) : Doc → Doc → Type 0 where
   leftOut : {ms rest : Members} → LeftOut n ms rest → LeftOutOf n (object ms) (object rest)
 
--- ---- the conditions
+-- ---- 21 to 28: a card and a language
 
 -- the second number that the sheet has for a refusal: 0 for 21 to 26, for 27 the bytes needed, for 28 the number of the refusal inside
 pub data SecondNumber : LocalRefusal → ℕ → Type 0 where
@@ -102,33 +131,15 @@ module _ (L : Limits) (words room : ℕ) (card : Doc) (lang : Name) where
   -- the condition of this number is broken, and calls for this refusal
   pub data BrokenCondition : ℕ → LocalRefusal → Type 0 where
     noLanguage : ((ms : Members) → ¬ PatchOf card lang ms) → BrokenCondition 21 NoLanguage
-    badKey : {ms : Members} {key : Name} → PatchOf card lang ms → HasKey key ms → LooseTilde key → BrokenCondition 22 BadKey
-    ownLocalizations : {ms : Members} {key : Name} → PatchOf card lang ms → HasKey key ms
-        → Prefix (last (bytes "localizations")) (pointerOf key) → BrokenCondition 23 OwnLocalizations
-    clashing : {ms : Members} {key other : Name} → PatchOf card lang ms → HasKeys key other ms
-        → Prefix (pointerOf key) (pointerOf other) ⊎ Prefix (pointerOf other) (pointerOf key) → BrokenCondition 24 Clash
-    enteringArray : {ms : Members} {key : Name} {d : Doc} → PatchOf card lang ms → HasKey key ms
-        → LeftOutOf (bytes "localizations") card d → EntersArray (pointerOf key) d → BrokenCondition 25 InArray
-    losingWay : {ms : Members} {key : Name} {d : Doc} → PatchOf card lang ms → HasKey key ms
-        → LeftOutOf (bytes "localizations") card d → LosesWay (pointerOf key) d → BrokenCondition 26 NoObject
+    withKey : {ms : Members} {d : Doc} {number : ℕ} {key : Name} → PatchOf card lang ms → LeftOutOf (bytes "localizations") card d
+        → BreaksWith d ms number key → BrokenCondition number (keyRefusal number key)
     short : {ms : Members} → PatchOf card lang ms → room < length (written (patchedDoc card ms))
         → BrokenCondition 27 (Short (length (written (patchedDoc card ms))))
-    unfit : {ms : Members} {r : CardRefusal} → PatchOf card lang ms
-        → judgedOf L words (written (patchedDoc card ms)) ≡ failed r → BrokenCondition 28 (Inner r)
-
-  -- none of 21 to 26 is broken: so the entries can be applied
-  abbrev pub Applicable : Type 0
-  Applicable = (m : ℕ) (q : LocalRefusal) → m < 27 → ¬ BrokenCondition m q
+    -- it is no card: by reading's refusal, or by the first rule that it breaks (`Says`, specs/Judging.antt)
+    unfit : {ms : Members} {r : CardRefusal} {table : List ℕ} → PatchOf card lang ms
+        → Says L words (written (patchedDoc card ms)) (refusedCard r) table → BrokenCondition 28 (Inner r)
 
   -- the refusal of the smallest number whose condition is broken
   pub record Smallest (number : ℕ) (r : LocalRefusal) : Type 0 where
     pub broken : BrokenCondition number r
     pub least : (m : ℕ) (q : LocalRefusal) → BrokenCondition m q → number ≤ m
-
-  -- nothing is broken, and the text is that of the card as the entries leave it, with its tree
-  pub record Accepted (text : List ℕ) (f : Forest) : Type 0 where
-    pub members : Members
-    pub patch : PatchOf card lang members
-    pub unbroken : (m : ℕ) (q : LocalRefusal) → ¬ BrokenCondition m q
-    pub writes : text ≡ written (patchedDoc card members)
-    pub reads : judgedOf L words text ≡ passed f

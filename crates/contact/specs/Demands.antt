@@ -11,11 +11,9 @@ use mathlib.Core.Path.{_≡_}
 use mathlib.Core.Bool.{true}
 use mathlib.Core.Logic.{_⊎_, _↔_}
 use mathlib.Core.List.{List, [], _++_}
-use mathlib.Core.Option.{some}
 use lib.ListN.{length, replicate}
 use Rattle.laws.specs.Lists.{filled}
 use Rattle.laws.specs.Order.{before, Earlier}
-use Rattle.laws.specs.Sorting.{Perm}
 use Rattle.text.specs.Limits.{Limits, rowWords}
 use Rattle.text.specs.Text.{bytes, Codes}
 use Rattle.text.specs.Tree.{Forest, size, treeRows}
@@ -24,8 +22,7 @@ use Rattle.text.specs.Standing.{RowAt}
 use Rattle.text.specs.Sheet.{numbers}
 use Rattle.text.specs.Utf8.{utf8, Utf8}
 use Rattle.text.specs.Whole.{Reads}
-use Rattle.text.specs.Doc.{Name, Doc, scalar, array, object, Members, docOf, kindOf, tokenOf, below, countAll}
-use Rattle.text.specs.Distinct.{Distinct}
+use Rattle.text.specs.Doc.{Name, Doc, scalar, array, object, Members, docOf, kindOf, tokenOf, below, countOf, countAll}
 use Rattle.text.specs.Grammar.{JsonText, rootOf}
 use Rattle.text.specs.Telling.{Stretch, Tells}
 use Rattle.text.specs.Meaning.{Accepts}
@@ -35,17 +32,15 @@ use Rattle.text.specs.Writing.{written, spelled, SpelledName}
 use Rattle.text.specs.declared.Reading.{Reading}
 use Rattle.contact.specs.Pointer.{Pointer, pointerOf}
 use Rattle.contact.specs.PointerText.{PointerText}
-use Rattle.contact.specs.Patch.{Entry, run}
+use Rattle.contact.specs.Patch.{Entry}
 use Rattle.contact.specs.Localize.{start, patchedDoc}
 use Rattle.contact.specs.Signatures.{AsSigned}
 use Rattle.contact.specs.Breaches.{Sees, Keeps, FirstBreach}
 use Rattle.contact.specs.Judging.{Judges}
-use Rattle.contact.specs.Conditions.{LooseTilde, PatchOf, PatchUnder, SecondNumber, BrokenCondition, Applicable, Smallest}
-use Rattle.contact.specs.Likeness.{Reordered}
+use Rattle.contact.specs.Conditions.{LooseTilde, PatchOf, PatchUnder, SecondNumber, BrokenCondition, Applicable, FirstBroken, Smallest}
 use Rattle.contact.specs.Entries.{Asked}
-use Rattle.contact.specs.Patching.{OrderOnly, PatchedCard}
+use Rattle.contact.specs.Patching.{OrderOnly, PatchedCard, WrittenCard}
 use Rattle.contact.specs.Contract.{Localizes}
-use Rattle.contact.specs.Readback.{WrittenCard, PatchedRows}
 use Rattle.contact.specs.Services.{Call, read, judge, localize, wordsOf, roomOf, Left, leaves}
 use Rattle.contact.specs.declared.Verdict.{Verdict}
 use Rattle.contact.specs.declared.LocalRefusal.{LocalRefusal}
@@ -177,40 +172,36 @@ pub record ReadingAndJudging (L : Limits) (serve : Call → Left) : Type 0 where
 
 -- ---- demand 3: localizing
 
--- what an accepted localization of the card text t, of which f is the tree, has left
-pub record Localization (L : Limits) (serve : Call → Left) (words room : ℕ) (t : List ℕ) (f : Forest) (lang : Name) : Type 0 where
-  pub text : List ℕ
-  pub tree : Forest
-  -- the row count and the length are those of the written card
-  pub left : serve (localize t lang words room) ≡ leaves (numbers 0 (size tree) (length text)) (filled words (treeRows tree)) (filled room text)
-  -- the PatchObject of the language, which all that follows is about
-  pub members : Members
-  pub patch : PatchOf (docOf t f) lang members
-  -- the written text is read back as the card that the conditions speak of; it is no longer than t and has no more values
-  pub back : PatchedRows L t f members text tree
-  -- What it says is the patched card. From the card without its localizations each entry has its way; a property that no pointer names, enters or
-  -- covers keeps its value; what is kept stays at its place, and what is added follows in ascending order of name (`Patched`, specs/Patching.antt).
-  pub patched : PatchedCard (docOf t f) members (docOf text tree)
-  -- and is a card itself: the whole result was judged
-  pub card : CardText L words text tree
-  -- Set or removed one at a time, in any order, each entry finds its parent, and the end is the written card but for the order of members: names are
-  -- distinct in a card that is read.
-  pub one-by-one : (fs : List Entry) → Perm (patched .from-start .entries) fs
-      → (end : Doc) × (run fs (start (docOf t f)) ≡ some end) × Reordered end (docOf text tree)
-  pub distinct : Distinct (docOf text tree)
-  -- no white space outside strings: no text that is read, under any limits, and says the same card is shorter
-  pub compact : (M : Limits) (u : List ℕ) (g : Forest) → Accepts M u g → docOf u g ≡ docOf text tree → length text ≤ length u
-
 -- The card that the conditions speak of, whatever the answer is: the card text t, of which f is the tree, as a PatchObject with the members ms leaves
--- it if none of 21 to 26 is broken. So 27 and 28 are about the patched card and no other.
+-- it if no key breaks 22 to 26. So 27 and 28 are about the patched card and no other.
 pub record WouldBe (L : Limits) (words : ℕ) (t : List ℕ) (f : Forest) (ms : Members) : Type 0 where
-  -- the card is patched, as the set-or-remove definition says
+  -- From the card without its localizations each entry has its way; a property that no pointer names, enters or covers keeps its value; what is kept
+  -- stays at its place, and what is added follows in ascending order of name (`Patched`, specs/Patching.antt).
   pub patched : PatchedCard (docOf t f) ms (patchedDoc (docOf t f) ms)
-  -- and its text says it: it is read back so, or refused for its depth alone
-  pub writes : WrittenCard L words t f (patchedDoc (docOf t f) ms)
-  -- no text that is read, under any limits, and says it is shorter: so 27 asks for no byte too many
+  -- its text says it: it is read back so, or refused for its depth alone
+  pub writes : WrittenCard L words (patchedDoc (docOf t f) ms)
+  -- the text is no longer than t, and has no more values
+  pub shorter : length (written (patchedDoc (docOf t f) ms)) ≤ length t
+  pub fewer : countOf (patchedDoc (docOf t f) ms) ≤ size f
+  -- no white space outside strings: no text that is read, under any limits, and says it is shorter. So 27 asks for no byte too many
   pub compact : (M : Limits) (u : List ℕ) (g : Forest) → Accepts M u g → docOf u g ≡ patchedDoc (docOf t f) ms
       → length (written (patchedDoc (docOf t f) ms)) ≤ length u
+
+-- what an accepted localization of the card text t, of which f is the tree, has left
+pub record Localization (L : Limits) (serve : Call → Left) (words room : ℕ) (t : List ℕ) (f : Forest) (lang : Name) : Type 0 where
+  -- the PatchObject of the language, and the card as it leaves it
+  pub members : Members
+  pub patch : PatchOf (docOf t f) lang members
+  pub would-be : WouldBe L words t f members
+  -- the text of that card, and its tree
+  pub text : List ℕ
+  pub writes : text ≡ written (patchedDoc (docOf t f) members)
+  pub tree : Forest
+  -- it is a card itself, the whole result was judged; and what it says is the patched card
+  pub card : CardText L words text tree
+  pub says : card .document ≡ patchedDoc (docOf t f) members
+  -- the row count, the length, the rows and the bytes are those of the written card
+  pub left : serve (localize t lang words room) ≡ leaves (numbers 0 (size tree) (length text)) (filled words (treeRows tree)) (filled room text)
 
 -- u is a JSON text of as many bytes as a text may have, white space as it likes, and says the document d but for the order of the language's entries
 pub record Reordering (L : Limits) (lang : Name) (d : Doc) (u : List ℕ) : Type 0 where
@@ -249,6 +240,10 @@ pub record Localizing (L : Limits) (serve : Call → Left) : Type 0 where
   -- the same of the answer that the contract allows: it is that refusal itself, with 28's inner place
   pub refused-answer : (t : List ℕ) (lang : Name) (words room : ℕ) (f : Forest) → CardText L words t f → (a : Localized) (x o : List ℕ)
       → Localizes L words room t lang a x o → (r : LocalRefusal) → (a ≡ Denied r) ↔ ((n : ℕ) × Smallest L words room (docOf t f) lang n r)
+  -- a refusal by 22 to 26 is about one key: of those that break the condition on the card without its localizations the smallest in byte order
+  pub key-at-fault : (t : List ℕ) (lang : Name) (words room : ℕ) (f : Forest) → CardText L words t f → (n : ℕ) → Within 22 26 n
+      → (serve (localize t lang words room) .answer ≡ numbers n 0 0)
+      ↔ ((ms : Members) × (key : Name) × PatchOf (docOf t f) lang ms × FirstBroken (start (docOf t f)) ms n key)
   -- the conditions speak of the PatchObject that the card has for the language,
   pub language : (card : Doc) (lang : Name) (ms : Members) → PatchOf card lang ms ↔ PatchUnder lang ms card
   -- and of the pointers that keys write: each key that has no loose `~` writes one, and any other writes none
@@ -259,9 +254,9 @@ pub record Localizing (L : Limits) (serve : Call → Left) : Type 0 where
   pub byte-order : (n m : Name) → (before n m ≡ true) ↔ Earlier n m
   -- the name of an added member is escaped only where RFC 8259 demands it, by the short escape if there is one, else by \u00 and two small digits
   pub new-names : (n label : List ℕ) → SpelledName n label ↔ (label ≡ spelled n)
-  -- 27 and 28, which come up if none of 21 to 26 is broken, speak of the patched card
-  pub would-be : (t : List ℕ) (lang : Name) (words room : ℕ) (f : Forest) → CardText L words t f → (ms : Members) → PatchOf (docOf t f) lang ms
-      → Applicable L words room (docOf t f) lang → WouldBe L words t f ms
+  -- 27 and 28, which come up if no key breaks 22 to 26, speak of the patched card
+  pub would-be : (t : List ℕ) (lang : Name) (words : ℕ) (f : Forest) → CardText L words t f → (ms : Members) → PatchOf (docOf t f) lang ms
+      → Applicable (start (docOf t f)) ms → WouldBe L words t f ms
   -- an output as long as the card's text always has room
   pub room-enough : (t : List ℕ) (lang : Name) (words room needed : ℕ) → serve (localize t lang words room) .answer ≡ numbers 27 needed 0
       → (room < needed) × (needed ≤ length t)

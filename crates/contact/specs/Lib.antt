@@ -16,6 +16,7 @@ pub mod Judging
 pub mod Pointer
 pub mod PointerText
 pub mod Patch
+pub mod Faults
 pub mod Localize
 pub mod Contract
 -- What is shown of it: the conditions in words, what a patched card is, and that it is read back.
@@ -23,7 +24,6 @@ pub mod Entries
 pub mod Conditions
 pub mod Likeness
 pub mod Patching
-pub mod Readback
 -- The services as a caller sees them, the three demands, and the specimens.
 pub mod Services
 pub mod Demands

@@ -5,7 +5,7 @@ use mathlib.Core.List.{List, []}
 use mathlib.Core.Bool.{cond}
 use mathlib.Core.Option.{Option, none, some}
 use lib.ListN.{length}
-use lib.Dec.{ltb}
+use lib.Dec.{eqb, ltb}
 use Rattle.text.specs.Limits.{Limits}
 use Rattle.text.specs.Text.{bytes}
 use Rattle.laws.specs.Lists.{filled}
@@ -16,7 +16,8 @@ use Rattle.contact.specs.Verdict.{Judged, passed, failed, judgedOf, refu
 use Rattle.text.specs.declared.Paper.{Paper}
 use Rattle.text.specs.Sheet.{numbers}
 use Rattle.contact.specs.Pointer.{Pointer, last, down, find}
-use Rattle.contact.specs.Patch.{Entry, entriesOf, anyBadKey, anyOwn, anyClash, anyWalk, isInArray, isNoObject, without, inObject, applied}
+use Rattle.contact.specs.Patch.{Entry, entriesOf, without, inObject, applied}
+use Rattle.contact.specs.Faults.{PatchFault, allKept, brokenBy, faultIn}
 use Rattle.contact.specs.declared.LocalRefusal.{LocalRefusal}
 use Rattle.contact.specs.declared.LocalRefusal.the-variants.{Given, NoLanguage, BadKey, OwnLocalizations, Clash, InArray, NoObject, Short, Inner}
 use Rattle.contact.specs.declared.Localized.{Localized}
@@ -40,6 +41,11 @@ refusedLocal (Inner r) = numbers 28 (refusedCard r .number) 0
 unfoldable pub paperOfLocalized : Localized → Paper
 paperOfLocalized (Written rows n) = numbers 0 rows n
 paperOfLocalized (Denied r) = refusedLocal r
+
+-- the refusal of a number from 22 to 26 that is broken by a key: it doesn't name the key
+abbrev pub keyRefusal : (number : ℕ) → (key : Name) → LocalRefusal
+keyRefusal number key =
+    cond (eqb number 22) BadKey (cond (eqb number 23) OwnLocalizations (cond (eqb number 24) Clash (cond (eqb number 25) InArray NoObject)))
 
 -- ---- localizing
 
@@ -72,14 +78,14 @@ module _ (L : Limits) (words room : ℕ) where
       let all = byJudge text (judgedOf L words text) in
       cond (ltb room (length text)) (denied (Short (length text))) all
 
-  -- 22 to 26, the smallest number first, each over all entries; then what the entries make of d, the card without its localizations
+  -- a broken condition refuses; if none is broken, what the entries make of d is written
+  unfoldable pub byFault : (d : Doc) → List Entry → PatchFault → Outcome
+  byFault d es allKept = byRoom (written (applied d es))
+  byFault d es (brokenBy number key) = denied (keyRefusal number key)
+
+  -- 22 to 26, of d, the card without its localizations
   unfoldable pub byEntries : (d : Doc) → Members → List Entry → Outcome
-  byEntries d ms es =
-      let all = byRoom (written (applied d es)) in
-      let parents = cond (anyWalk isInArray es d) (denied InArray) (cond (anyWalk isNoObject es d) (denied NoObject) all) in
-      cond (anyBadKey ms) (denied BadKey)
-      (cond (anyOwn es) (denied OwnLocalizations)
-      (cond (anyClash es) (denied Clash) parents))
+  byEntries d ms es = byFault d es (faultIn d ms)
 
   -- the PatchObject; judging has seen to it that it is an object
   unfoldable pub inPatch : (d : Doc) → (patch : Doc) → Outcome

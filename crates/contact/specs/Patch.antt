@@ -55,7 +55,7 @@ walk (down n p) (scalar kind token) = noObject
 walk (down n p) (array ms) = inArray
 walk (down n p) (object ms) = onward (walk p) (seek n ms)
 
--- ---- the conditions 22 to 26, each over all entries of the untouched card
+-- ---- the tests of 22 to 26, each over all entries of the untouched card; which key it is that breaks a condition: specs/Faults.antt
 
 -- 22, of the keys
 abbrev pub anyBadKey : Members → Bool

@@ -1,26 +1,31 @@
--- What is shown of localizing, over documents, as one statement: `Patching`. proofs/Patching/Together.antt proves it for all limits, tables and outputs.
+-- What a patched document is, of the document, the members of the PatchObject and the result (`Patched`); what a patched card is (`PatchedCard`), and
+-- what judging makes of a document that is written (`WrittenCard`). proofs/Patching/Together.antt proves them where no key breaks 22 to 26.
 -- Assumes nothing: these are definitions.
-use Prim.Native.Nat.{ℕ}
+use Prim.Native.Nat.{ℕ, _+_, _≤_, _<_}
 use mathlib.Core.Path.{_≡_}
-use mathlib.Core.Logic.{_≢_, _↔_}
+use mathlib.Core.Logic.{_≢_}
 use mathlib.Core.List.{List}
 use mathlib.Core.Option.{none, some}
+use lib.ListN.{length}
 use Rattle.laws.specs.Sorting.{Perm}
 use Rattle.text.specs.Limits.{Limits}
 use Rattle.text.specs.Text.{bytes}
-use Rattle.text.specs.Tree.{Forest}
-use Rattle.text.specs.Doc.{Name, Doc, object, Members, member, property, docOf}
-use Rattle.text.specs.Distinct.{Distinct, DistinctMembers}
-use Rattle.contact.specs.Verdict.{passed, failed, judgedOf}
+use Rattle.text.specs.Reader.{good}
+use Rattle.text.specs.Whole.{readOf}
+use Rattle.text.specs.Grammar.{rootOf}
+use Rattle.text.specs.Doc.{Name, Doc, object, Members, member, property, countOf, countAll}
+use Rattle.text.specs.Writing.{written}
+use Rattle.text.specs.Writable.{Writable, depthIn, ReadsBack}
+use Rattle.text.specs.declared.Refusal.the-variants.{Deep}
+use Rattle.contact.specs.Judge.{cardBreach}
+use Rattle.contact.specs.Verdict.{failed, byBreach, judgedOf}
 use Rattle.contact.specs.Pointer.{Pointer, last, firstPart, lastPart, find}
 use Rattle.contact.specs.Patch.{Change, Entry, run}
-use Rattle.contact.specs.Localize.{refusedLocal, done, denied, start, patchedDoc, localizedDoc, localizedOf}
-use Rattle.contact.specs.Likeness.{SameDoc, Reordered}
+use Rattle.contact.specs.Localize.{start}
+use Rattle.contact.specs.Likeness.{Reordered}
 use Rattle.contact.specs.Entries.{Asked, HasEntry, valued, Clear, Shuffled, Laid, NotOver, LaidAt}
-use Rattle.contact.specs.Conditions.{LeftOutOf, PatchOf, Applicable, Smallest, Accepted}
-use Rattle.contact.specs.declared.CardRefusal.{CardRefusal}
-use Rattle.contact.specs.declared.LocalRefusal.{LocalRefusal}
-use Rattle.contact.specs.declared.LocalRefusal.the-variants.{Given}
+use Rattle.contact.specs.Conditions.{LeftOutOf}
+use Rattle.contact.specs.declared.CardRefusal.the-variants.{Text}
 
 -- ---- cards that differ in the order of a PatchObject's entries
 
@@ -41,31 +46,27 @@ pub data InMember (n : Name) (R : Doc → Doc → Type 0) : Doc → Doc → Type
 abbrev pub OrderOnly : Name → Doc → Doc → Type 0
 OrderOnly lang card other = InMember (bytes "localizations") (InMember lang Rearranged) card other
 
--- ---- what a patched card is
+-- ---- what a patched document is
 
--- the entries es, one at a time from d: each step finds its parent, and the end is e, member order not counted
-pub record RunsTo (es : List Entry) (d e : Doc) : Type 0 where
-  pub end : Doc
-  pub reached : run es d ≡ some end
-  pub alike : SameDoc end e
-
--- x is what the entries of a PatchObject with the members ms say of the card d without its localizations
+-- x is what the entries of a PatchObject with the members ms say of the document d
 pub record Patched (d : Doc) (ms : Members) (x : Doc) : Type 0 where
   -- what the PatchObject asks for
   pub entries : List Entry
   pub asked : Asked ms entries
-  -- set or removed one at a time, in any order; where names are distinct, the end and x differ in the order of members only
-  pub one-by-one : (fs : List Entry) → Perm entries fs → RunsTo fs d x
-  pub reordered : Distinct d → DistinctMembers ms → (fs : List Entry) (π : Perm entries fs) → Reordered (one-by-one fs π .end) x
-  -- names stay distinct
-  pub distinct : Distinct d → DistinctMembers ms → Distinct x
+  -- set or removed one at a time, in any order, each entry finds its parent, and the end is x but for the order of members
+  pub one-by-one : (fs : List Entry) → Perm entries fs → (end : Doc) × (run fs d ≡ some end) × Reordered end x
   -- each entry has its way: what its pointer finds is the value that it sets, under the name as it was written, or nothing
   pub effects : (p : Pointer) (c : Change) → HasEntry p c entries → find p x ≡ valued (lastPart p) c (find p d)
   -- a property that no pointer names, enters or covers: its name as written and its value
   pub keeps : (p : Pointer) → Clear p entries → find p x ≡ find p d
-  -- members keep their places, and added ones follow in ascending order of name: in the card itself, and in each object that is not replaced as a whole
+  -- members keep their places, and added ones follow in ascending order of name: in d itself, and in each object that is not replaced as a whole
   pub root : (os : Members) → d ≡ object os → (ns : Members) × (x ≡ object ns) × Laid os os ns
   pub below : (p : Pointer) (label : List ℕ) (os : Members) → NotOver p entries → find p d ≡ some (property label (object os)) → LaidAt p label os x
+  -- it can be written and read again: names stay distinct, labels say their names, tokens are tokens
+  pub writable : Writable x
+  -- it is no longer and has no more values than d and the PatchObject together
+  pub bytes : length (written x) ≤ length (written d) + length (written (object ms))
+  pub values : countOf x ≤ countOf d + countAll ms
 
 -- x is the card as a PatchObject with the members ms leaves it
 pub record PatchedCard (card : Doc) (ms : Members) (x : Doc) : Type 0 where
@@ -77,26 +78,12 @@ pub record PatchedCard (card : Doc) (ms : Members) (x : Doc) : Type 0 where
   -- and has no localizations: there were none at the start, and no entry sets them
   pub unlocalized : find (last (bytes "localizations")) x ≡ none
 
--- ---- all of it
+-- ---- what is written of it
 
-module _ (L : Limits) (words room : ℕ) where
-  -- all that is shown of localizing, over documents
-  pub record Patching : Type 0 where
-    -- the card's own refusal comes first; else the answer is that of its document
-    pub given : (text : List ℕ) (lang : Name) (r : CardRefusal)
-        → (localizedOf L words room text lang ≡ denied (Given r)) ↔ (judgedOf L words text ≡ failed r)
-    pub passes : (text : List ℕ) (lang : Name) (f : Forest) → judgedOf L words text ≡ passed f
-        → localizedOf L words room text lang ≡ localizedDoc L words room (docOf text f) lang
-    -- the entries of the PatchObject in another order: the outcome is the same, also a refusal
-    pub order : (card other : Doc) (lang : Name) → OrderOnly lang card other → localizedDoc L words room card lang ≡ localizedDoc L words room other lang
-    -- the same of two texts that pass, whatever their white space
-    pub order-of-texts : (t u : List ℕ) (lang : Name) (f g : Forest) → judgedOf L words t ≡ passed f → judgedOf L words u ≡ passed g
-        → OrderOnly lang (docOf t f) (docOf u g) → localizedOf L words room t lang ≡ localizedOf L words room u lang
-    -- refused by the broken condition of smallest number, and accepted if none is broken
-    pub refused : (card : Doc) (lang : Name) (r : LocalRefusal)
-        → (localizedDoc L words room card lang ≡ denied r) ↔ Smallest L words room card lang (refusedLocal r .number) r
-    pub accepted : (card : Doc) (lang : Name) (text : List ℕ) (f : Forest)
-        → (localizedDoc L words room card lang ≡ done text f) ↔ Accepted L words room card lang text f
-    -- what is written, or would be but for 27 and 28, is the patched card
-    pub patched : (card : Doc) (lang : Name) (ms : Members) → PatchOf card lang ms → Applicable L words room card lang
-        → PatchedCard card ms (patchedDoc card ms)
+-- the text of the document x, for a table of so many words: it is read back, and judged as x is
+pub record WrittenCard (L : Limits) (words : ℕ) (x : Doc) : Type 0 where
+  pub back : ReadsBack L x
+  -- within the depth it is read, and only the rules of cards are left to break; deeper, it is refused for that
+  pub read : depthIn x ≤ L .depth → readOf L (written x) ≡ good (rootOf (back .derives)) (length (written x))
+  pub judged : depthIn x ≤ L .depth → judgedOf L words (written x) ≡ byBreach (rootOf (back .derives)) (cardBreach x)
+  pub deeper : L .depth < depthIn x → (p : ℕ) × (judgedOf L words (written x) ≡ failed (Text (Deep p)))

@@ -29,8 +29,13 @@ pub data Lexeme : (kind : ℕ) → (token : List ℕ) → Type 0 where
   string : {w codes : List ℕ} → Spells w codes → Lexeme 5 (34 ∷ w ++ (34 ∷ []))
 
 -- a document whose tokens are tokens of their kinds, whose members' labels say their names, and whose entries of arrays have no names
-abbrev pub Writable : Doc → Type 0
-Writable d = Every Labelled Lexeme d
+abbrev pub Lexical : Doc → Type 0
+Lexical d = Every Labelled Lexeme d
+
+-- the same, and no object in it has two members of one name
+pub record Writable (d : Doc) : Type 0 where
+  pub labels : Lexical d
+  pub distinct : Distinct d
 
 unfoldable mutual
   -- how many arrays and objects stand one inside the other, at the most

@@ -181,15 +181,16 @@ module _ (L : Limits) (words : ℕ) (t : List ℕ) where
   pub card-passed : (f : Forest) → CardText L words t f → judgedOf L words t ≡ passed f
   card-passed f c = judging .accepted L words t f .1 (length t, readable-good f (c .readable), card-keeps f c)
 
+  pub passed-card : (f : Forest) → judgedOf L words t ≡ passed f → CardText L words t f
+  passed-card f e = let (to, whole, keeps) = judging .accepted L words t f .0 e in card-text f (good-readable f to whole) keeps
+
   pub judge-passes : Passes (served L) (judge t words) ↔ ((f : Forest) × CardText L words t f)
   unfolding served sheetOfJudged paperOfVerdict
   judge-passes = (λ e. go (judgedOf L words t) refl e, λ (f, c). rw (card-passed f c))
     where
       go : (j : Judged) → judgedOf L words t ≡ j → sheetOfJudged j .number ≡ 0 → (f : Forest) × CardText L words t f
       go (failed r) k e = absurd (omega (arith, card-some (refusedCard r .number) (line-of (card-line r))))
-      go (passed f) k e =
-          let (to, whole, keeps) = judging .accepted L words t f .0 k in
-          (f, card-text f (good-readable f to whole) keeps)
+      go (passed f) k e = (f, passed-card f k)
 
   pub judge-rows : (f : Forest) → CardText L words t f → served L (judge t words) ≡ served L (read t words)
   unfolding served sheetOf tableOf sheetOfJudged paperOfVerdict tableOfJudged

@@ -4,7 +4,7 @@
 --     clash-iff                      the test is true if one is a prefix of the other, over whole parts, and only then
 --     clear-apart                    a pointer that no entry names, enters or covers is apart from all
 --     from-anyClash, to-anyClash, from-anyWalk   the tests over all entries
---     perm-anyClash, perm-anyWalk, perm-anyOwn   these tests in another order
+--     perm-anyClash                  the test in another order
 -- Assumes nothing.
 use mathlib.Core.Bool.{Bool, true, false, _||_, true≢false}
 use mathlib.Core.List.{List, [], _∷_, _++_, append-nil, head-eq-of-cons-eq, tail-eq-of-cons-eq}
@@ -12,12 +12,10 @@ use mathlib.Core.Logic.{_↔_, _⊎_, inl, inr}
 use mathlib.Core.Path.{_≡_, refl, sym, ap, ap₂, _∙_}
 use Rattle.laws.specs.Sorting.{Perm, stay, skip, swap, andThen}
 use Rattle.laws.proofs.Bools.{byTest, or-false, both-false, swap-or}
-use Rattle.laws.specs.Order.{same}
 use Rattle.laws.proofs.Orders.{same-eq}
-use Rattle.text.specs.Text.{bytes}
 use Rattle.text.specs.Doc.{Name, Doc}
-use Rattle.contact.specs.Pointer.{Pointer, last, down, parts, firstPart, clash}
-use Rattle.contact.specs.Patch.{Entry, entry, Walk, arrives, inArray, noObject, walk, anyOwn, clashWith, anyClash, isInArray, isNoObject, anyWalk}
+use Rattle.contact.specs.Pointer.{Pointer, last, down, parts, clash}
+use Rattle.contact.specs.Patch.{Entry, entry, Walk, arrives, inArray, noObject, walk, clashWith, anyClash, isInArray, isNoObject, anyWalk}
 use Rattle.contact.specs.Entries.{Prefix, Names, Covers, Clear, Apart, ApartFrom, NoClash, ParentsThere}
 use Rattle.contact.proofs.Patching.Names.{same-yes, same-no, byName}
 use Rattle.contact.proofs.Patching.Entries.{apart-sym}
@@ -121,7 +119,7 @@ from-anyWalk (entry p c ∷ es) d h k =
     let y = or-false (isNoObject (walk p d)) (anyWalk isNoObject es d) k in
     (arrived (walk p d) (x .0) (y .0), from-anyWalk es d (x .1) (y .1))
 
--- ---- the tests come out the same in any order
+-- ---- the test comes out the same in any order
 
 pub clash-sym : (p q : Pointer) → clash p q ≡ clash q p
 clash-sym p q =
@@ -144,16 +142,3 @@ perm-anyClash (swap {x = entry q c} {y = entry r c′} {xs = es}) =
     ap (λ (b : Bool). (b || clashWith q es) || (clashWith r es || anyClash es)) (clash-sym q r)
     ∙ swap-or (clash r q) (clashWith q es) (clashWith r es) (anyClash es)
 perm-anyClash (andThen π ρ) = perm-anyClash π ∙ perm-anyClash ρ
-
-pub perm-anyWalk : {es fs : List Entry} (f : Walk → Bool) (d : Doc) → Perm es fs → anyWalk f es d ≡ anyWalk f fs d
-perm-anyWalk f d stay = refl
-perm-anyWalk f d (skip {x = entry q c} π) = ap (λ (b : Bool). f (walk q d) || b) (perm-anyWalk f d π)
-perm-anyWalk f d (swap {x = entry q c} {y = entry r c′} {xs = es}) = swap-or false (f (walk q d)) (f (walk r d)) (anyWalk f es d)
-perm-anyWalk f d (andThen π ρ) = perm-anyWalk f d π ∙ perm-anyWalk f d ρ
-
-pub perm-anyOwn : {es fs : List Entry} → Perm es fs → anyOwn es ≡ anyOwn fs
-perm-anyOwn stay = refl
-perm-anyOwn (skip {x = entry p c} π) = ap (λ (b : Bool). same (firstPart p) (bytes "localizations") || b) (perm-anyOwn π)
-perm-anyOwn (swap {x = entry p c} {y = entry q c′} {xs = es}) =
-    swap-or false (same (firstPart p) (bytes "localizations")) (same (firstPart q) (bytes "localizations")) (anyOwn es)
-perm-anyOwn (andThen π ρ) = perm-anyOwn π ∙ perm-anyOwn ρ

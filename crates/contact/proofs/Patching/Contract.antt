@@ -15,11 +15,11 @@ use Rattle.contact.specs.Localize.{paperOfLocalized, Outcome, done, loca
 use Rattle.contact.specs.Verdict.{passed, judgedOf}
 use Rattle.contact.specs.Patching.{OrderOnly}
 use Rattle.contact.specs.Contract.{Localizes}
-use Rattle.contact.specs.Conditions.{Accepted, short}
+use Rattle.contact.specs.Conditions.{short}
 use Rattle.contact.specs.declared.Localized.{Localized}
 use Rattle.contact.specs.declared.LocalRefusal.the-variants.{Short}
-use Rattle.contact.proofs.Patching.Refused.{accepted-iff}
-use Rattle.contact.proofs.Patching.Together.{patching}
+use Rattle.contact.proofs.Patching.Refused.{Accepted, accepted-iff}
+use Rattle.contact.proofs.Patching.Together.{order-of-texts}
 
 -- it is enough to promise the answer: the numbers follow
 pub paper-follows : (o : Outcome) (r : Localized) → r ≡ answerOfOutcome o → paperOfLocalized r ≡ sheetOfOutcome o
@@ -43,7 +43,7 @@ module _ {L : Limits} {words room : ℕ} {lang : Name} {r q : Localized} {table 
   pub one-order : (t u : List ℕ) (f g : Forest) → judgedOf L words t ≡ passed f → judgedOf L words u ≡ passed g
       → OrderOnly lang (docOf t f) (docOf u g)
       → Localizes L words room t lang r table output → Localizes L words room u lang q other out → (r ≡ q) × (table ≡ other) × (output ≡ out)
-  one-order t u f g p k o a b = same-outcome (patching L words room .order-of-texts t u lang f g p k o) a b
+  one-order t u f g p k o a b = same-outcome (order-of-texts L words room t u lang f g p k o) a b
 
 -- what is written fits the output
 pub output-fits : (L : Limits) (words room : ℕ) (card : Doc) (lang : Name) (text : List ℕ) (f : Forest)

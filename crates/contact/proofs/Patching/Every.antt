@@ -1,5 +1,5 @@
--- What holds of every name and token of the card holds of the patched card, if it holds of names that are added: `every-patched`. So each name of
--- the patched card is said by its label: `labels-stay`.
+-- What holds of every name and token of a document and of a PatchObject holds of the patched document, if it holds of names that are added:
+-- `every-applied`. So each name of it is said by its label: `labels-stay`.
 -- Assumes nothing.
 use mathlib.Core.List.{List, [], _∷_}
 use mathlib.Core.Option.{Option, none, some, Option·none-ne-some, Option·some-injective}
@@ -15,8 +15,7 @@ use Rattle.text.specs.Labels.{Labelled, Every, EveryMember}
 use Rattle.text.proofs.NewNames.{label-shortest}
 use Rattle.contact.specs.Pointer.{Pointer, last, down, lastPart, pointerOf, find}
 use Rattle.contact.specs.Patch.{Change, remove, set, Entry, entry, changeOf, entriesOf, without, mine, under, insert, fresh, added, keep, applied, kept}
-use Rattle.contact.specs.Localize.{start, patchAt, patchedDoc}
-use Rattle.contact.specs.Conditions.{PatchOf}
+use Rattle.contact.specs.Localize.{start}
 use Rattle.contact.proofs.Patching.Names.{byName, same-yes, same-no}
 use Rattle.contact.proofs.Patching.Seek.{find-has}
 use Rattle.contact.proofs.Patching.Parts.{part-said}
@@ -100,7 +99,7 @@ module _ (N : Name → List ℕ → Type 0) (T : ℕ → List ℕ → Type 0) wh
   without-every n (member m label d ms) h =
       byTest (same m n) (λ b. simp b (without-every n ms (h .2))) (λ b. simp b (h .0, h .1, without-every n ms (h .2)))
 
-  start-every : (card : Doc) → Every N T card → Every N T (start card)
+  pub start-every : (card : Doc) → Every N T card → Every N T (start card)
   start-every (scalar kind token) h = h
   start-every (array xs) h = h
   start-every (object ms) h = without-every (bytes "localizations") ms h
@@ -112,7 +111,7 @@ module _ (N : Name → List ℕ → Type 0) (T : ℕ → List ℕ → Type 0) wh
       (λ q. subst (λ (r : Property). Every N T (r .content)) (Option·some-injective (property label d) s (simp (same-yes q) at e)) (h .1))
       (λ ne. seek-every n ms s (h .2) (simp (same-no ne) at e))
 
-  find-every : (p : Pointer) (d : Doc) (s : Property) → Every N T d → find p d ≡ some s → Every N T (s .content)
+  pub find-every : (p : Pointer) (d : Doc) (s : Property) → Every N T d → find p d ≡ some s → Every N T (s .content)
   find-every p d s h e = find-has (Every N T) seek-every p d s h e
 
   -- ---- the theorem
@@ -127,22 +126,17 @@ module _ (N : Name → List ℕ → Type 0) (T : ℕ → List ℕ → Type 0) wh
     entries-set empty h = tt
     entries-set (member key label d ms) h = (change-sets key label d (h .0) (h .1), entries-set ms (h .2))
 
-    pub every-patched : (card : Doc) (lang : Name) (ms : Members) → PatchOf card lang ms → Every N T card → Every N T (patchedDoc card ms)
-    every-patched card lang ms p h =
-        applied-every (start card) (entriesOf ms)
-        (entries-set ms (find-every (patchAt lang) card (property (p .label) (object ms)) h (p .stands)))
-        (start-every card h)
+    pub every-applied : (d : Doc) (ms : Members) → EveryMember N T ms → Every N T d → Every N T (applied d (entriesOf ms))
+    every-applied d ms k h = applied-every d (entriesOf ms) (entries-set ms k) h
 
 -- ---- labels
 
-module _ (T : ℕ → List ℕ → Type 0) (card : Doc) (lang : Name) (ms : Members) (patch : PatchOf card lang ms) (h : Every Labelled T card) where
-  pub labels-stay : Every Labelled T (patchedDoc card ms)
-  labels-stay = every-patched Labelled T part-said card lang ms patch h
+-- each name of a patched document is said by its label
+pub labels-stay : (T : ℕ → List ℕ → Type 0) (d : Doc) (ms : Members) → EveryMember Labelled T ms → Every Labelled T d
+    → Every Labelled T (applied d (entriesOf ms))
+labels-stay T d ms k h = every-applied Labelled T part-said d ms k h
 
-  -- the PatchObject's keys are written long enough
-  pub keys-long : LongEnough ms
-  keys-long = go ms (find-every Labelled T (patchAt lang) card (property (patch .label) (object ms)) h (patch .stands))
-    where
-      go : (ns : Members) → EveryMember Labelled T ns → LongEnough ns
-      go empty k = tt
-      go (member n label d ns) k = (label-shortest (k .0), go ns (k .2))
+-- names are written long enough
+pub labels-long : (T : ℕ → List ℕ → Type 0) (ms : Members) → EveryMember Labelled T ms → LongEnough ms
+labels-long T empty k = tt
+labels-long T (member n label d ms) k = (label-shortest (k .0), labels-long T ms (k .2))

@@ -1,49 +1,42 @@
--- A PatchObject of which no condition from 22 to 26 is broken: `fine`.
+-- A PatchObject that breaks none of 22 to 26 on a document, by the tests: `fine`.
 -- Assumes nothing.
-use mathlib.Core.Path.{_≡_}
-use mathlib.Core.Bool.{false}
+use mathlib.Core.Path.{_≡_, subst, _∙_}
+use mathlib.Core.Bool.{Bool, true, false}
+use mathlib.Core.Option.{Option, some}
 use Prim.Native.Nat.{ℕ}
-use native.Mathlib.Omega.{arith}
 use Rattle.laws.proofs.Bools.{byTest}
-use Rattle.text.specs.Limits.{Limits}
 use Rattle.text.specs.Doc.{Name, Doc, Members}
-use Rattle.contact.specs.Patch.{entriesOf, anyOwn, anyClash, anyWalk, isInArray, isNoObject}
-use Rattle.contact.specs.Localize.{start}
+use Rattle.contact.specs.Patch.{entriesOf, anyOwn, anyWalk, isInArray, isNoObject}
+use Rattle.contact.specs.Faults.{leastKey, leastClash, ownKey, walksTo}
 use Rattle.contact.specs.Entries.{NoClash, ParentsThere}
-use Rattle.contact.specs.Conditions.{LooseTilde, HasKey, PatchOf, Applicable, badKey, ownLocalizations, clashing, enteringArray, losingWay}
-use Rattle.contact.specs.declared.LocalRefusal.the-variants.{BadKey, OwnLocalizations, Clash, InArray, NoObject}
-use Rattle.contact.proofs.Patching.Start.{start-left}
+use Rattle.contact.specs.Conditions.{LooseTilde, HasKey, BreaksWith, badKey, Applicable}
 use Rattle.contact.proofs.Patching.Apart.{from-anyClash, from-anyWalk}
-use Rattle.contact.proofs.Patching.Found.{own-found, array-found, lost-found, clash-found}
+use Rattle.contact.proofs.Patching.Least.{Least, key-some, own-keys, walk-keys, clash-some}
+use Rattle.contact.proofs.Patching.Faults.{least-23, least-24, least-25, least-26}
 
-pub record Fine (card : Doc) (ms : Members) : Type 0 where
+pub record Fine (d : Doc) (ms : Members) : Type 0 where
   pub noneLoose : (key : Name) → HasKey key ms → ¬ LooseTilde key
   pub noneOwn : anyOwn (entriesOf ms) ≡ false
   pub noClash : NoClash (entriesOf ms)
-  pub parents : ParentsThere (entriesOf ms) (start card)
+  pub parents : ParentsThere (entriesOf ms) d
 
-module _ (L : Limits) (words room : ℕ) (card : Doc) (lang : Name) (ms : Members) (patch : PatchOf card lang ms)
-    (unbroken : Applicable L words room card lang) where
-  no-array : anyWalk isInArray (entriesOf ms) (start card) ≡ false
-  no-array =
-      byTest (anyWalk isInArray (entriesOf ms) (start card))
-      (λ b. let r = array-found (start card) ms b in absurd (unbroken 25 InArray (omega arith) (enteringArray patch (r .there) (start-left card lang ms patch) (r .so))))
-      (λ b. b)
+module _ (d : Doc) (ms : Members) (u : Applicable d ms) where
+  -- a test that finds a key of a broken condition finds none
+  none-found : (n : ℕ) (o : Option Name) (b : Bool) → Least (BreaksWith d ms n) o → (b ≡ true → (k : Name) × (o ≡ some k)) → b ≡ false
+  none-found n o b l h = byTest b (λ e. let (k, q) = h e in absurd (u n k (subst (Least (BreaksWith d ms n)) q l .0))) (λ e. e)
 
-  none-lost : anyWalk isNoObject (entriesOf ms) (start card) ≡ false
+  none-walks-in : anyWalk isInArray (entriesOf ms) d ≡ false
+  none-walks-in =
+      none-found 25 (leastKey (walksTo isInArray d) ms) _ (least-25 d ms (u 22)) (λ e. key-some (walksTo isInArray d) ms (walk-keys isInArray d ms ∙ e))
+
+  none-lost : anyWalk isNoObject (entriesOf ms) d ≡ false
   none-lost =
-      byTest (anyWalk isNoObject (entriesOf ms) (start card))
-      (λ b. let r = lost-found (start card) ms b in absurd (unbroken 26 NoObject (omega arith) (losingWay patch (r .there) (start-left card lang ms patch) (r .so))))
-      (λ b. b)
+      none-found 26 (leastKey (walksTo isNoObject d) ms) _ (least-26 d ms (u 22)) (λ e. key-some (walksTo isNoObject d) ms (walk-keys isNoObject d ms ∙ e))
 
-  pub fine : Fine card ms
+  pub fine : Fine d ms
   fine = record {
-    noneLoose = λ key there loose. unbroken 22 BadKey (omega arith) (badKey patch there loose);
-    noneOwn = byTest (anyOwn (entriesOf ms))
-        (λ b. let r = own-found ms b in absurd (unbroken 23 OwnLocalizations (omega arith) (ownLocalizations patch (r .there) (r .so))))
-        (λ b. b);
-    noClash = byTest (anyClash (entriesOf ms))
-        (λ b. let r = clash-found ms b in absurd (unbroken 24 Clash (omega arith) (clashing patch (r .there) (r .so))))
-        (λ b. from-anyClash (entriesOf ms) b);
-    parents = from-anyWalk (entriesOf ms) (start card) no-array none-lost;
+    noneLoose = λ key there loose. u 22 key (badKey there loose);
+    noneOwn = none-found 23 (leastKey ownKey ms) _ (least-23 d ms (u 22)) (λ e. key-some ownKey ms (own-keys ms ∙ e));
+    noClash = from-anyClash (entriesOf ms) (none-found 24 (leastClash ms) _ (least-24 d ms (u 22)) (clash-some ms));
+    parents = from-anyWalk (entriesOf ms) d none-walks-in none-lost;
   }

@@ -12,7 +12,7 @@ use Rattle.contact.specs.Localize.{denied, localizedDoc, localizedJudged
 use Rattle.contact.specs.Conditions.{BrokenCondition}
 use Rattle.contact.specs.declared.CardRefusal.{CardRefusal}
 use Rattle.contact.specs.declared.LocalRefusal.the-variants.{Given}
-use Rattle.contact.proofs.Patching.Refused.{refused-iff}
+use Rattle.contact.proofs.Patching.Refused.{refused-iff, broken-second}
 
 module _ (L : Limits) (words room : ℕ) (text : List ℕ) (lang : Name) where
   pub passed-so : (f : Forest) → judgedOf L words text ≡ passed f → localizedOf L words room text lang ≡ localizedDoc L words room (docOf text f) lang
@@ -25,7 +25,7 @@ module _ (L : Limits) (words room : ℕ) (text : List ℕ) (lang : Name) where
 
   -- no condition of a patch calls for the card's own refusal
   not-given : (n : ℕ) (f : Forest) (r : CardRefusal) → ¬ BrokenCondition L words room (docOf text f) lang n (Given r)
-  not-given n f r = elim [ ]
+  not-given n f r b = elim (broken-second L words room (docOf text f) lang b) [ ]
 
   pub given-iff : (r : CardRefusal) → (localizedOf L words room text lang ≡ denied (Given r)) ↔ (judgedOf L words text ≡ failed r)
   given-iff r = (λ e. go (judgedOf L words text) refl e, failed-so r)

@@ -12,7 +12,8 @@ use Rattle.text.specs.Sameness.{MemberOrder, counted, free, Taken, Corresponds,
 use Rattle.text.proofs.Sameness.{matched-equal}
 use Rattle.text.proofs.Taken.{take-out, taken-other, taken-is, taken-same, taken-value, taken-rest}
 use Rattle.contact.specs.Pointer.{Pointer, last, down, within, find}
-use Rattle.contact.specs.Likeness.{Shape, aScalar, anArray, anObject, shape, Look, absent, there, seen, look, SameDoc, Reordered}
+use Rattle.contact.specs.Likeness.{Reordered}
+use Rattle.contact.proofs.Patching.Looking.{Shape, aScalar, anArray, anObject, shape, Look, absent, there, seen, look, SameDoc}
 use Rattle.contact.proofs.Patching.Same.{likeness-refl, Alike, neither, both, same-object, alike}
 use Rattle.contact.proofs.Patching.Names.{same-no, byName}
 

@@ -1,5 +1,6 @@
--- The localized card is no longer than the card's text without white space (`room-enough`), so an output as long as the card text always has room;
--- and it has no more values than the card (`values-enough`).
+-- A patched document is no longer and has no more values than the document and the PatchObject together (`bytes-together`, `values-together`). The
+-- localized card is no longer than the card's text without white space (`room-enough`), so an output as long as the card text always has room; and it
+-- has no more values than the card (`values-enough`).
 -- Assumes nothing.
 use mathlib.Core.Bool.{true, false}
 use mathlib.Core.List.{List, [], _∷_}
@@ -10,15 +11,15 @@ use lib.Dec.{eqb, ltb}
 use lib.ListN.{length, length-append}
 use Rattle.laws.proofs.Bools.{byTest}
 use Rattle.text.specs.Doc.{Name, Doc, scalar, array, object, Members, empty, member, countOf, countAll}
-use Rattle.text.specs.Distinct.{Distinct}
+use Rattle.text.specs.Distinct.{Distinct, DistinctMembers}
 use Rattle.text.specs.Writing.{written, writtenMembers, shortOf, spelledByte, spelledBytes, spelled}
 use Rattle.contact.specs.Pointer.{Pointer, last, down, lastPart, push, split, plain, plainParts, pointerOf}
-use Rattle.contact.specs.Patch.{entriesOf}
+use Rattle.contact.specs.Patch.{entriesOf, applied}
 use Rattle.contact.specs.Localize.{start, patchedDoc}
 use Rattle.contact.specs.Entries.{NoClash, ParentsThere}
 use Rattle.contact.specs.Conditions.{PatchOf}
 use Rattle.contact.proofs.Patching.Pointers.{plain-byte, plain-loose}
-use Rattle.contact.proofs.Patching.Weigh.{Scale, weight, sum, KeysCover, weighs-less}
+use Rattle.contact.proofs.Patching.Weigh.{Scale, weight, sum, KeysCover, patched-weight, weighs-less}
 
 -- ---- the length of a text: an object's members take up their name, their value, a colon and a comma each
 
@@ -145,6 +146,23 @@ values-cover (member n t d ms) = (omega arith, values-cover ms)
 
 -- ---- the theorems
 
+-- of a document and the members of a PatchObject
+module _ (d : Doc) (ms : Members) (dd : Distinct d) (dm : DistinctMembers ms) (nc : NoClash (entriesOf ms)) (pt : ParentsThere (entriesOf ms) d) where
+  pub bytes-together : LongEnough ms → length (written (applied d (entriesOf ms))) ≤ length (written d) + length (written (object ms))
+  bytes-together h =
+      omega (
+        arith,
+        length-is (applied d (entriesOf ms)),
+        length-is d,
+        length-is (object ms),
+        patched-weight inBytes d ms (keys-cover ms h) dd dm nc pt,
+      )
+
+  pub values-together : countOf (applied d (entriesOf ms)) ≤ countOf d + countAll ms
+  values-together =
+      omega (arith, count-is (applied d (entriesOf ms)), count-is d, count-all-is ms, patched-weight inValues d ms (values-cover ms) dd dm nc pt)
+
+-- of a card, whose text has the PatchObject in it
 module _ (card : Doc) (lang : Name) (ms : Members) (patch : PatchOf card lang ms)
     (dc : Distinct card) (nc : NoClash (entriesOf ms)) (pt : ParentsThere (entriesOf ms) (start card)) where
   pub room-enough : LongEnough ms → length (written (patchedDoc card ms)) ≤ length (written card)

@@ -4,7 +4,7 @@ use mathlib.Core.Option.{Option, none, some, Option·map}
 use mathlib.Core.Path.{_≡_, refl, _∙_}
 use Rattle.text.specs.Doc.{Name, Doc, object, Members, Property, seek}
 use Rattle.contact.specs.Pointer.{Pointer, last, down, within, find}
-use Rattle.contact.specs.Likeness.{there, seen, look, SameDoc}
+use Rattle.contact.proofs.Patching.Looking.{there, seen, look, SameDoc}
 use Rattle.contact.proofs.Patching.Seek.{over}
 
 pub likeness-refl : (d : Doc) → SameDoc d d

@@ -9,9 +9,8 @@ use Rattle.laws.proofs.Orders.{same-refl}
 use Rattle.text.specs.Doc.{Doc, scalar, array, object, Property, seek}
 use Rattle.contact.specs.Pointer.{Pointer, last, down}
 use Rattle.contact.specs.Patch.{Change, Entry, entry, onward, walk, put, alter, changed, under, applied}
-use Rattle.contact.specs.Patching.{RunsTo}
-use Rattle.contact.specs.Likeness.{SameDoc}
 use Rattle.contact.specs.Entries.{Apart, ApartFrom, NoClash, ParentsThere, valued}
+use Rattle.contact.proofs.Patching.Looking.{SameDoc, RunsTo}
 use Rattle.contact.proofs.Patching.Same.{likeness-refl, likeness-trans, same-object, alike-refl, alike, alike-over}
 use Rattle.contact.proofs.Patching.Names.{same-no, byName}
 use Rattle.contact.proofs.Patching.Seek.{over, seek-put-same, seek-put-other, seek-alter-same, seek-alter-other}

@@ -1,5 +1,6 @@
 -- Localizing step by step, as it is carried out:
 --     judged-answer                      what judging answers, by its answer on paper
+--     says-failed, failed-says           a text is refused as the papers say
 --     no-patch, no-patch-object, patched-so       the PatchObject of the language
 --     bad-key-so .. no-object-so, unbroken-so     the conditions 22 to 26, one after the other
 --     short-so, room-so                  27, and then the text that is written is judged
@@ -12,28 +13,49 @@ use mathlib.Core.List.{List, [], _∷_}
 use mathlib.Core.Option.{none, some}
 use Prim.Native.Nat.{ℕ, _≤_, _<_}
 use lib.ListN.{length}
+use native.Mathlib.Omega.{arith}
 use borrow.Author.Tests.{lt-ltb, le-ltb}
 use Rattle.laws.specs.Order.{same}
+use Rattle.laws.specs.Lists.{filled}
 use Rattle.laws.proofs.Bools.{or-false}
 use Rattle.text.specs.Limits.{Limits}
 use Rattle.text.specs.Text.{bytes}
 use Rattle.text.specs.Doc.{Name, Doc, scalar, array, object, Members, Property, kindOf}
 use Rattle.text.specs.Writing.{written}
-use Rattle.contact.specs.Verdict.{paperOfVerdict, Judged, judgedOf, answerOfJudged, sheetOfJudged}
-use Rattle.contact.specs.Pointer.{Pointer, last, down, firstPart, find}
+use Rattle.contact.specs.Verdict.{paperOfVerdict, refusedCard, Judged, passed, failed, judgedOf, answerOfJudged, sheetOfJudged, tableOfJudged}
+use Rattle.contact.specs.Judging.{Says}
+use Rattle.contact.specs.Pointer.{Pointer, last, down, badTilde, firstPart, find}
 use Rattle.contact.specs.Patch.{Entry, entry, entriesOf, Walk, onward, walk, anyBadKey, anyOwn, anyClash, anyWalk, isInArray, isNoObject, applied}
-use Rattle.contact.specs.Localize.{denied, start, patchAt, byJudge, byRoom, byEntries, inPatch, withPatch, localizedDoc}
+use Rattle.contact.specs.Faults.{leastKey, ownKey, walksTo, faultIn}
+use Rattle.contact.specs.Localize.{denied, start, patchAt, byJudge, byRoom, byFault, byEntries, inPatch, withPatch, localizedDoc}
+use Rattle.contact.specs.declared.CardRefusal.{CardRefusal}
 use Rattle.contact.specs.declared.Verdict.{Verdict}
+use Rattle.contact.specs.declared.Verdict.the-variants.{Failed}
 use Rattle.contact.specs.declared.LocalRefusal.the-variants.{NoLanguage, BadKey, OwnLocalizations, Clash, InArray, NoObject, Short}
-use Rattle.contact.proofs.Judging.{one-answer}
+use Rattle.contact.proofs.Judging.{one-answer, judging}
 use Rattle.contact.proofs.Patching.Names.{same-yes}
 use Rattle.contact.proofs.Patching.Seek.{seek-without-other}
+use Rattle.contact.proofs.Patching.Least.{key-some, key-none, bad-keys, own-keys, walk-keys, clash-some, clash-none}
 
 -- ---- judging
 
 pub judged-answer : (v : Verdict) (j : Judged) → paperOfVerdict v ≡ sheetOfJudged j → v ≡ answerOfJudged j
 unfolding sheetOfJudged
 judged-answer v j e = one-answer v (answerOfJudged j) e
+
+-- a text is refused in the words of the papers as it is judged
+module _ (L : Limits) (words : ℕ) (t : List ℕ) (r : CardRefusal) where
+  pub says-failed : {table : List ℕ} → Says L words t (refusedCard r) table → judgedOf L words t ≡ failed r
+  unfolding paperOfVerdict
+  says-failed {table} s = go (judgedOf L words t) (judged-answer (Failed r) (judgedOf L words t) (judging .answer L words t (refusedCard r) table .1 s .0))
+    where
+      go : (j : Judged) → Failed r ≡ answerOfJudged j → j ≡ failed r
+      go (passed f) e = let z : _≡_ {A = ℕ} 0 1 = cc in absurd (omega arith)
+      go (failed q) e = let h : r ≡ q = cc in ap (λ (x : CardRefusal). failed x) (sym h)
+
+  pub failed-says : judgedOf L words t ≡ failed r → Says L words t (refusedCard r) (filled words [])
+  unfolding paperOfVerdict sheetOfJudged tableOfJudged
+  failed-says e = judging .answer L words t (refusedCard r) (filled words []) .0 (rw e, rw e)
 
 module _ (L : Limits) (words room : ℕ) where
   -- ---- 21
@@ -65,32 +87,44 @@ module _ (L : Limits) (words room : ℕ) where
 
   module _ (d : Doc) (ms : Members) where
     pub bad-key-so : anyBadKey ms ≡ true → byEntries L words room d ms (entriesOf ms) ≡ denied BadKey
-    unfolding byEntries
-    bad-key-so a = rw a
+    unfolding byEntries byFault faultIn
+    bad-key-so a = let (key, q) = key-some badTilde ms (bad-keys ms ∙ a) in rw q
 
-    pub own-so : anyBadKey ms ≡ false → anyOwn (entriesOf ms) ≡ true → byEntries L words room d ms (entriesOf ms) ≡ denied OwnLocalizations
-    unfolding byEntries
-    own-so a b = rw (a, b)
+    module _ (a : anyBadKey ms ≡ false) where
+      no-bad : leastKey badTilde ms ≡ none
+      no-bad = key-none badTilde ms (bad-keys ms ∙ a)
 
-    pub clash-so : anyBadKey ms ≡ false → anyOwn (entriesOf ms) ≡ false → anyClash (entriesOf ms) ≡ true
-        → byEntries L words room d ms (entriesOf ms) ≡ denied Clash
-    unfolding byEntries
-    clash-so a b c = rw (a, b, c)
+      pub own-so : anyOwn (entriesOf ms) ≡ true → byEntries L words room d ms (entriesOf ms) ≡ denied OwnLocalizations
+      unfolding byEntries byFault faultIn
+      own-so b = let (key, q) = key-some ownKey ms (own-keys ms ∙ b) in rw (no-bad, q)
 
-    module _ (a : anyBadKey ms ≡ false) (b : anyOwn (entriesOf ms) ≡ false) (c : anyClash (entriesOf ms) ≡ false) where
-      pub in-array-so : anyWalk isInArray (entriesOf ms) d ≡ true → byEntries L words room d ms (entriesOf ms) ≡ denied InArray
-      unfolding byEntries
-      in-array-so e = rw (a, b, c, e)
+      module _ (b : anyOwn (entriesOf ms) ≡ false) where
+        no-own : leastKey ownKey ms ≡ none
+        no-own = key-none ownKey ms (own-keys ms ∙ b)
 
-      pub no-object-so : anyWalk isInArray (entriesOf ms) d ≡ false → anyWalk isNoObject (entriesOf ms) d ≡ true
-          → byEntries L words room d ms (entriesOf ms) ≡ denied NoObject
-      unfolding byEntries
-      no-object-so e f = rw (a, b, c, e, f)
+        pub clash-so : anyClash (entriesOf ms) ≡ true → byEntries L words room d ms (entriesOf ms) ≡ denied Clash
+        unfolding byEntries byFault faultIn
+        clash-so c = let (key, q) = clash-some ms c in rw (no-bad, no-own, q)
 
-      pub unbroken-so : anyWalk isInArray (entriesOf ms) d ≡ false → anyWalk isNoObject (entriesOf ms) d ≡ false
-          → byEntries L words room d ms (entriesOf ms) ≡ byRoom L words room (written (applied d (entriesOf ms)))
-      unfolding byEntries
-      unbroken-so e f = rw (a, b, c, e, f)
+        module _ (c : anyClash (entriesOf ms) ≡ false) where
+          pub in-array-so : anyWalk isInArray (entriesOf ms) d ≡ true → byEntries L words room d ms (entriesOf ms) ≡ denied InArray
+          unfolding byEntries byFault faultIn
+          in-array-so e = let (key, q) = key-some (walksTo isInArray d) ms (walk-keys isInArray d ms ∙ e) in rw (no-bad, no-own, clash-none ms c, q)
+
+          module _ (e : anyWalk isInArray (entriesOf ms) d ≡ false) where
+            no-array : leastKey (walksTo isInArray d) ms ≡ none
+            no-array = key-none (walksTo isInArray d) ms (walk-keys isInArray d ms ∙ e)
+
+            pub no-object-so : anyWalk isNoObject (entriesOf ms) d ≡ true → byEntries L words room d ms (entriesOf ms) ≡ denied NoObject
+            unfolding byEntries byFault faultIn
+            no-object-so f =
+                let (key, q) = key-some (walksTo isNoObject d) ms (walk-keys isNoObject d ms ∙ f) in rw (no-bad, no-own, clash-none ms c, no-array, q)
+
+            pub unbroken-so : anyWalk isNoObject (entriesOf ms) d ≡ false
+                → byEntries L words room d ms (entriesOf ms) ≡ byRoom L words room (written (applied d (entriesOf ms)))
+            unfolding byEntries byFault faultIn
+            unbroken-so f =
+                rw (no-bad, no-own, clash-none ms c, no-array, key-none (walksTo isNoObject d) ms (walk-keys isNoObject d ms ∙ f))
 
   -- ---- 27
 

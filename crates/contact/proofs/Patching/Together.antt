@@ -1,27 +1,31 @@
--- What is shown of localizing (specs/Patching.antt), from the theorems of the files beside this one; and of two texts that pass: their order of
--- entries and their white space don't count (`order-of-texts`).
+-- Patched as the PatchObject says, where no key breaks 22 to 26: `patched`, of a document and the members of the PatchObject; `patched-card`, of a card.
+-- And the order of the entries and white space don't count: `order-of-texts`.
 -- Assumes nothing.
-use mathlib.Core.Bool.{Bool, false, _||_, true≢false}
+use mathlib.Core.Bool.{false, true≢false}
 use mathlib.Core.List.{List, [], _∷_}
 use mathlib.Core.Option.{Option, none, some}
 use mathlib.Core.Logic.{_≢_}
 use mathlib.Core.Path.{_≡_, refl, sym, ap, _∙_}
 use Prim.Native.Nat.{ℕ}
 use Rattle.laws.specs.Sorting.{Perm, stay, skip, swap, andThen}
-use Rattle.laws.proofs.Bools.{byTest, or-false, swap-or}
+use Rattle.laws.proofs.Bools.{or-false}
 use Rattle.laws.proofs.Orders.{same-refl}
 use Rattle.laws.specs.Order.{same}
 use Rattle.text.specs.Limits.{Limits}
 use Rattle.text.specs.Text.{bytes}
 use Rattle.text.specs.Tree.{Forest}
 use Rattle.text.specs.Doc.{Name, Doc, object, Members, member, Property, property, seek, docOf, scalar, array}
+use Rattle.text.specs.Writing.{written}
+use Rattle.text.specs.Labels.{Labelled}
+use Rattle.text.specs.Writable.{Lexeme, Writable}
 use Rattle.contact.specs.Verdict.{passed, judgedOf}
-use Rattle.contact.specs.Pointer.{last, badTilde, find, within, Pointer, down, firstPart}
-use Rattle.contact.specs.Patch.{Entry, entriesOf, anyBadKey, anyClash, isInArray, isNoObject, without, applied, entry, added, kept, anyOwn}
-use Rattle.contact.specs.Localize.{start, byEntries, inPatch, withPatch, localizedDoc, localizedOf, patchedDoc}
-use Rattle.contact.specs.Entries.{Shuffled, asIs, keepFirst, swapFirst, andOn, NoClash, ParentsThere, Apart, ApartFrom}
-use Rattle.contact.specs.Conditions.{LooseTilde, HasKey, PatchOf, Applicable}
-use Rattle.contact.specs.Patching.{Rearranged, rearranged, AtMember, thisOne, laterOne, InMember, inMember, OrderOnly, RunsTo, Patched, PatchedCard, Patching}
+use Rattle.contact.specs.Pointer.{last, find, within, Pointer, down, firstPart}
+use Rattle.contact.specs.Patch.{Entry, entriesOf, without, applied, entry, added, kept, anyOwn}
+use Rattle.contact.specs.Faults.{PatchFault, allKept, brokenBy, faultIn}
+use Rattle.contact.specs.Localize.{start, patchAt, byRoom, byFault, byEntries, inPatch, withPatch, localizedDoc, localizedOf, patchedDoc}
+use Rattle.contact.specs.Entries.{Shuffled, asIs, keepFirst, swapFirst, andOn, Apart, ApartFrom}
+use Rattle.contact.specs.Conditions.{PatchOf, Applicable}
+use Rattle.contact.specs.Patching.{Rearranged, rearranged, AtMember, thisOne, laterOne, InMember, inMember, OrderOnly, Patched, PatchedCard}
 use Rattle.contact.proofs.Patching.Asked.{asked-of}
 use Rattle.contact.proofs.Patching.Names.{same-no, same-yes}
 use Rattle.contact.proofs.Patching.Order.{any-order}
@@ -30,13 +34,16 @@ use Rattle.contact.proofs.Patching.Start.{start-left}
 use Rattle.contact.proofs.Patching.Seek.{seek-without-same, seek-without-other}
 use Rattle.contact.proofs.Patching.Layout.{laid-root, laid-below}
 use Rattle.contact.proofs.Patching.Effect.{effect}
+use Rattle.contact.proofs.Patching.Looking.{RunsTo}
 use Rattle.contact.proofs.Patching.Single.{in-any-order}
 use Rattle.contact.proofs.Patching.Reorder.{same-reordered}
-use Rattle.contact.proofs.Patching.Distinct.{DistinctValues, distinct-run, distinct-applied, perm-values, entries-values}
-use Rattle.contact.proofs.Patching.Apart.{clear-apart, from-anyClash, perm-anyClash, perm-anyWalk, perm-anyOwn}
+use Rattle.contact.proofs.Patching.Distinct.{DistinctValues, distinct-run, distinct-applied, perm-values, entries-values, distinct-start, find-distinct}
+use Rattle.contact.proofs.Patching.Apart.{clear-apart}
+use Rattle.contact.proofs.Patching.Every.{labels-stay, labels-long, start-every, find-every}
+use Rattle.contact.proofs.Patching.Room.{bytes-together, values-together}
+use Rattle.contact.proofs.Patching.Faults.{kept-iff, fault-order}
 use Rattle.contact.proofs.Patching.Fine.{Fine, fine}
-use Rattle.contact.proofs.Patching.Refused.{refused-iff, accepted-iff}
-use Rattle.contact.proofs.Patching.Public.{passed-so, given-iff}
+use Rattle.contact.proofs.Patching.Public.{passed-so}
 
 -- ---- members in another order are entries in another order
 
@@ -45,12 +52,6 @@ shuffled-entries asIs = stay
 shuffled-entries (keepFirst σ) = skip (shuffled-entries σ)
 shuffled-entries swapFirst = swap
 shuffled-entries (andOn σ τ) = andThen (shuffled-entries σ) (shuffled-entries τ)
-
-shuffled-keys : {ms ns : Members} → Shuffled ms ns → anyBadKey ms ≡ anyBadKey ns
-shuffled-keys asIs = refl
-shuffled-keys (keepFirst {n = n} σ) = ap (λ (b : Bool). badTilde n || b) (shuffled-keys σ)
-shuffled-keys (swapFirst {n = n} {m = m} {ms = ms}) = swap-or false (badTilde n) (badTilde m) (anyBadKey ms)
-shuffled-keys (andOn σ τ) = shuffled-keys σ ∙ shuffled-keys τ
 
 -- ---- cards that differ in the order of entries
 
@@ -73,6 +74,33 @@ at-both (laterOne h x) =
 at-rest : {n : Name} {R : Doc → Doc → Type 0} {ms ns : Members} → AtMember n R ms ns → without n ms ≡ without n ns
 at-rest {n} (thisOne r) = simp (same-refl n)
 at-rest (laterOne {m = m} {label = label} {d = d} h x) = simp (same-no h) (ap (member m label d) (at-rest x))
+
+-- ---- the patched document
+
+pub patched : (d : Doc) (ms : Members) → Writable d → Writable (object ms) → Applicable d ms → Patched d ms (applied d (entriesOf ms))
+patched d ms wd wm u =
+    let es : List Entry = entriesOf ms in
+    let x : Doc = applied d es in
+    let h : Fine d ms = fine d ms u in
+    let v : DistinctValues es = entries-values ms (wm .distinct) in
+    record {
+      entries = es;
+      asked = asked-of ms (h .noneLoose);
+      one-by-one = λ fs π.
+          let r : RunsTo fs d x = in-any-order es fs d π (h .noClash) (h .parents) in (
+            r .end,
+            r .reached,
+            same-reordered (r .end) x (distinct-run fs d (r .end) (perm-values π v) (wd .distinct) (r .reached))
+                (distinct-applied d es (h .noClash) v (wd .distinct)) (r .alike),
+          );
+      effects = λ p c i. effect p c d es (h .noClash) (h .parents) i;
+      keeps = λ p i. untouched p d es (h .noClash) (clear-apart p es i);
+      root = λ os e. (kept os es (added os es), ap (λ (y : Doc). applied y es) e, laid-root os es (h .noClash));
+      below = λ p label os i e. laid-below p d es label os (h .noClash) i e;
+      writable = record { labels = labels-stay Lexeme d ms (wm .labels) (wd .labels); distinct = distinct-applied d es (h .noClash) v (wd .distinct) };
+      bytes = bytes-together d ms (wd .distinct) (wm .distinct) (h .noClash) (h .parents) (labels-long Lexeme ms (wm .labels));
+      values = values-together d ms (wd .distinct) (wm .distinct) (h .noClash) (h .parents);
+    }
 
 -- ---- no localizations are left
 
@@ -101,42 +129,45 @@ start-else (array xs) (down n p) h = refl
 start-else (object ms) (last n) h = seek-without-other localizations n ms (λ e. h (sym e))
 start-else (object ms) (down n p) h = ap (within (find p)) (seek-without-other localizations n ms (λ e. h (sym e)))
 
--- ---- entries of which no condition is broken
+-- ---- the patched card
 
-patched-so : (d : Doc) (ms : Members) → ((key : Name) → HasKey key ms → ¬ LooseTilde key) → NoClash (entriesOf ms) → ParentsThere (entriesOf ms) d
-    → Patched d ms (applied d (entriesOf ms))
-patched-so d ms nl nc pt =
-    let es : List Entry = entriesOf ms in
-    let x : Doc = applied d es in
-    let runs : (fs : List Entry) → Perm es fs → RunsTo fs d x = λ fs π. in-any-order es fs d π nc pt in
+-- the starting card and the PatchObject can be written, as the card can
+pub start-writable : (card : Doc) → Writable card → Writable (start card)
+start-writable card w = record { labels = start-every Labelled Lexeme card (w .labels); distinct = distinct-start card (w .distinct) }
+
+pub patch-writable : (card : Doc) (lang : Name) (ms : Members) → PatchOf card lang ms → Writable card → Writable (object ms)
+patch-writable card lang ms p w =
+    let at : Property = property (p .label) (object ms) in
     record {
-      entries = es;
-      asked = asked-of ms nl;
-      one-by-one = runs;
-      reordered = λ h k fs π.
-          let v : DistinctValues es = entries-values ms k in
-          same-reordered (runs fs π .end) x
-          (distinct-run fs d (runs fs π .end) (perm-values π v) h (runs fs π .reached))
-          (distinct-applied d es nc v h)
-          (runs fs π .alike);
-      distinct = λ h k. distinct-applied d es nc (entries-values ms k) h;
-      effects = λ p c h. effect p c d es nc pt h;
-      keeps = λ p h. untouched p d es nc (clear-apart p es h);
-      root = λ os e. (kept os es (added os es), ap (λ (y : Doc). applied y es) e, laid-root os es nc);
-      below = λ p label os h e. laid-below p d es label os nc h e;
+      labels = find-every Labelled Lexeme (patchAt lang) card at (w .labels) (p .stands);
+      distinct = find-distinct (patchAt lang) card at (w .distinct) (p .stands);
     }
 
+pub patched-card : (card : Doc) (lang : Name) (ms : Members) → PatchOf card lang ms → Writable card → Applicable (start card) ms
+    → PatchedCard card ms (patchedDoc card ms)
+patched-card card lang ms patch w u =
+    let h : Fine (start card) ms = fine (start card) ms u in
+    record {
+      starting = start-left card lang ms patch;
+      started = start-else card;
+      from-start = patched (start card) ms (start-writable card w) (patch-writable card lang ms patch w) u;
+      unlocalized = untouched (last localizations) (start card) (entriesOf ms) (h .noClash) (own-apart (entriesOf ms) (h .noneOwn)) ∙ start-has-none card;
+    }
+
+-- ---- the entries in another order
+
 module _ (L : Limits) (words room : ℕ) where
-  -- the tests come out the same; and if no two pointers clash, so does the document
+  -- what is found is the same; and if nothing is, so is the document
   entries-order : (d : Doc) (ms ns : Members) → Shuffled ms ns
       → byEntries L words room d ms (entriesOf ms) ≡ byEntries L words room d ns (entriesOf ns)
-  unfolding byEntries
-  entries-order d ms ns σ =
-      let π : Perm (entriesOf ms) (entriesOf ns) = shuffled-entries σ in
-      rw (← shuffled-keys σ, ← perm-anyOwn π, ← perm-anyClash π, ← perm-anyWalk isInArray d π, ← perm-anyWalk isNoObject d π)
-      (byTest (anyClash (entriesOf ms))
-      (λ b. rw b refl)
-      (λ b. rw (any-order d (entriesOf ms) (entriesOf ns) π (from-anyClash (entriesOf ms) b)) refl))
+  unfolding byEntries byFault
+  entries-order d ms ns σ = rw (← fault-order d σ) (go (faultIn d ms) refl)
+    where
+      go : (f : PatchFault) → faultIn d ms ≡ f → byFault L words room d (entriesOf ms) f ≡ byFault L words room d (entriesOf ns) f
+      go allKept e =
+          ap (λ (x : Doc). byRoom L words room (written x))
+          (any-order d (entriesOf ms) (entriesOf ns) (shuffled-entries σ) (fine d ms (kept-iff d ms .0 e) .noClash))
+      go (brokenBy n key) e = refl
 
   patch-order : (d one other : Doc) → Rearranged one other → inPatch L words room d one ≡ inPatch L words room d other
   unfolding inPatch
@@ -162,26 +193,3 @@ module _ (L : Limits) (words room : ℕ) where
       → OrderOnly lang (docOf t f) (docOf u g) → localizedOf L words room t lang ≡ localizedOf L words room u lang
   order-of-texts t u lang f g p q x =
       passed-so L words room t lang f p ∙ card-order (docOf t f) (docOf u g) lang x ∙ sym (passed-so L words room u lang g q)
-
-  -- ---- the patched card
-
-  patched-card : (card : Doc) (lang : Name) (ms : Members) → PatchOf card lang ms → Applicable L words room card lang → PatchedCard card ms (patchedDoc card ms)
-  patched-card card lang ms patch u =
-      let h : Fine card ms = fine L words room card lang ms patch u in
-      record {
-        starting = start-left card lang ms patch;
-        started = start-else card;
-        from-start = patched-so (start card) ms (h .noneLoose) (h .noClash) (h .parents);
-        unlocalized = untouched (last localizations) (start card) (entriesOf ms) (h .noClash) (own-apart (entriesOf ms) (h .noneOwn)) ∙ start-has-none card;
-      }
-
-  pub patching : Patching L words room
-  patching = record {
-    given = λ text lang. given-iff L words room text lang;
-    passes = λ text lang. passed-so L words room text lang;
-    order = card-order;
-    order-of-texts = order-of-texts;
-    refused = λ card lang. refused-iff L words room card lang;
-    accepted = λ card lang. accepted-iff L words room card lang;
-    patched = patched-card;
-  }

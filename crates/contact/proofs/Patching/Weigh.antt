@@ -1,5 +1,6 @@
--- A patched card weighs no more than the card: `weighs-less`, for any weight that a value has by its parts. It goes by the one-at-a-time theorem: a
--- step adds at most what its entry weighs in the PatchObject, and the order of members does not count.
+-- A patched document weighs no more than the document and the PatchObject together (`patched-weight`), and a patched card no more than the card
+-- (`weighs-less`), for any weight that a value has by its parts. It goes by the one-at-a-time theorem: a step adds at most what its entry weighs in the
+-- PatchObject, and the order of members does not count.
 -- Assumes nothing.
 use mathlib.Core.List.{List, [], _∷_}
 use mathlib.Core.Option.{Option, none, some, Option·none-ne-some, Option·some-injective}
@@ -10,7 +11,7 @@ use lib.Dec.{eqb}
 use Rattle.laws.proofs.Bools.{byTest}
 use Rattle.text.specs.Text.{bytes}
 use Rattle.text.specs.Doc.{Name, Doc, scalar, array, object, Members, empty, member, Property, property, seek}
-use Rattle.text.specs.Distinct.{Distinct}
+use Rattle.text.specs.Distinct.{Distinct, DistinctMembers}
 use Rattle.text.specs.Sameness.{MemberOrder, counted, Taken, atHead, inTail, Corresponds, scalars, arrays, objects, Matched, nothing, match, EqualToken, EqualLabel}
 use Rattle.text.specs.Writing.{spelled}
 use Rattle.text.proofs.Sameness.{matched-equal}
@@ -20,8 +21,8 @@ use Rattle.contact.specs.Localize.{start, patchAt, patchedDoc}
 use Rattle.contact.specs.Likeness.{Reordered}
 use Rattle.contact.specs.Entries.{NoClash, ParentsThere}
 use Rattle.contact.specs.Conditions.{PatchOf}
-use Rattle.contact.specs.Patching.{RunsTo}
 use Rattle.contact.proofs.Patching.Names.{byName, same-yes, same-no}
+use Rattle.contact.proofs.Patching.Looking.{RunsTo}
 use Rattle.contact.proofs.Patching.Single.{one-at-a-time}
 use Rattle.contact.proofs.Patching.Reorder.{same-reordered}
 use Rattle.contact.proofs.Patching.Distinct.{DistinctValues, distinct-run, distinct-applied, entries-values, distinct-start, find-distinct}
@@ -170,18 +171,22 @@ module _ (S : Scale) where
           S .box-fast (sum (without (bytes "localizations") cs)) (sum ms) (sum cs)
           (omega (arith, seek-sum (bytes "localizations") cs s k, inside (s .content) q))
 
-  -- ---- the theorem
+  -- ---- the theorems
+
+  pub patched-weight : (d : Doc) (ms : Members) → KeysCover ms → Distinct d → DistinctMembers ms → NoClash (entriesOf ms) → ParentsThere (entriesOf ms) d
+      → weight (applied d (entriesOf ms)) ≤ weight d + sum ms
+  patched-weight d ms k dd dm nc pt =
+      let es : List Entry = entriesOf ms in
+      let x : Doc = applied d es in
+      let r : RunsTo es d x = one-at-a-time es d nc pt in
+      let v : DistinctValues es = entries-values ms dm in
+      let o : Reordered (r .end) x =
+      same-reordered (r .end) x (distinct-run es d (r .end) v dd (r .reached)) (distinct-applied d es nc v dd) (r .alike) in
+      omega (arith, same-weight o, run-weight es d (r .end) (r .reached), entries-cost ms k)
 
   pub weighs-less : (card : Doc) (lang : Name) (ms : Members) → PatchOf card lang ms → KeysCover ms
       → Distinct card → NoClash (entriesOf ms) → ParentsThere (entriesOf ms) (start card)
       → weight (patchedDoc card ms) ≤ weight card
   weighs-less card lang ms p k dc nc pt =
-      let es : List Entry = entriesOf ms in
-      let d : Doc = start card in
-      let x : Doc = applied d es in
-      let r : RunsTo es d x = one-at-a-time es d nc pt in
-      let v : DistinctValues es = entries-values ms (find-distinct (patchAt lang) card (property (p .label) (object ms)) dc (p .stands)) in
-      let ds : Distinct d = distinct-start card dc in
-      let o : Reordered (r .end) x =
-      same-reordered (r .end) x (distinct-run es d (r .end) v ds (r .reached)) (distinct-applied d es nc v ds) (r .alike) in
-      omega (arith, same-weight o, run-weight es d (r .end) (r .reached), entries-cost ms k, start-weight card lang (p .label) ms (p .stands))
+      let dm : DistinctMembers ms = find-distinct (patchAt lang) card (property (p .label) (object ms)) dc (p .stands) in
+      omega (arith, patched-weight (start card) ms k (distinct-start card dc) dm nc pt, start-weight card lang (p .label) ms (p .stands))

@@ -9,7 +9,7 @@ use Rattle.text.specs.Grammar.{JsonText, rootOf, depthOf}
 use Rattle.text.specs.Doc.{Doc}
 use Rattle.text.specs.Writing.{written}
 use Rattle.text.specs.Telling.{Tells}
-use Rattle.text.specs.Writable.{Writable, ReadsBack}
+use Rattle.text.specs.Writable.{Lexical, ReadsBack}
 use Rattle.text.proofs.Grammar.Accepted.{accepts}
 use Rattle.text.proofs.Grammar.First.{tree-refuses}
 use Rattle.text.proofs.Telling.{tells-doc, told-size, told-depth}
@@ -19,14 +19,14 @@ use Rattle.text.proofs.Readback.Derived.{written-text}
 use Rattle.text.proofs.Readback.Meant.{writable-accepts}
 
 -- it says the document: it is read within limits that are wide enough
-text-tells : {d : Doc} (j : JsonText (written d)) → textDoc j ≡ d → Writable d → Tells (written d) (rootOf j) d
+text-tells : {d : Doc} (j : JsonText (written d)) → textDoc j ≡ d → Lexical d → Tells (written d) (rootOf j) d
 text-tells {d} j again h =
     let t = written d in
     let L : Limits = record { bytes = length t; depth = depthOf (rootOf j); values = size (rootOf j); unique = false } in
     let a = writable-accepts t L j (rw again h) refl (le-refl (length t)) (le-refl (depthOf (rootOf j))) (le-refl (size (rootOf j))) in
     subst (Tells t (rootOf j)) (text-doc j ∙ again) (tells-doc L t (rootOf j) (length t) (accepts L t (rootOf j) .1 a))
 
-pub reads-back : (L : Limits) (d : Doc) → Writable d → ReadsBack L d
+pub reads-back : (L : Limits) (d : Doc) → Lexical d → ReadsBack L d
 reads-back L d h =
     let (j, again) = written-text d h in
     let s : Tells (written d) (rootOf j) d = text-tells j again h in

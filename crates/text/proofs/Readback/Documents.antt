@@ -1,4 +1,4 @@
--- The document of a text that is read is writable, and no longer than the text when it is written: `text-writable`, `text-shorter`.
+-- The document of a text that is read is writable, and no longer than the text when it is written: `text-lexical`, `text-shorter`.
 -- Assumes nothing.
 use mathlib.Core.Path.{_≡_, refl, ap, _∙_}
 use mathlib.Core.List.{List, []}
@@ -21,7 +21,7 @@ use Rattle.text.specs.Grammar as G
 use Rattle.text.specs.Doc.{Name, Doc, scalar, array, object, Members, docOf}
 use Rattle.text.specs.Writing.{written}
 use Rattle.text.specs.Labels.{Labelled, Every}
-use Rattle.text.specs.Writable.{Lexeme, Writable}
+use Rattle.text.specs.Writable.{Lexeme, Lexical}
 use Rattle.text.specs.Seats.{top}
 use Rattle.text.proofs.Induction.{read-accepted}
 use Rattle.text.proofs.Labels.{LabelIn, EveryIn, string-part, labels-said, every-box, every-none, every-more, every-parts}
@@ -127,8 +127,8 @@ module _ (L : Limits) (t : List ℕ) (f : Forest) (to : ℕ) (e : readOf L t ≡
       let here : At t (skip t 0) (p .word) = record { rest = _; there = stands-drop (p .stands); inside = omega arith } in
       record { word = p .word; is = p .is; inside = omega arith; doc = ap (docOf t) (p .trees) ∙ value-doc t (p .is) (skip t 0) here }
 
-  pub text-writable : Writable (docOf t f)
-  text-writable =
+  pub text-lexical : Lexical (docOf t f)
+  text-lexical =
       let p = promised L t f to e in
       let c = core in
       let numbers : Every (λ n label. Prim.Unit {0}) Number-token (docOf t f) = rw (c .doc) (every-value (λ n label. Prim.Unit {0}) Number-token (λ m g. tt) number-token (c .is)) in

@@ -23,7 +23,7 @@ use Rattle.text.specs.Grammar.{Part, value, item, items, Is, simple, emp
 use Rattle.text.specs.Doc.{Name, Doc, Members, boxed, labelAt, membersOf, seek}
 use Rattle.text.specs.Distinct.{Distinct}
 use Rattle.text.specs.Labels.{Labelled}
-use Rattle.text.specs.Writable.{Lexeme, Writable}
+use Rattle.text.specs.Writable.{Lexeme, Lexical}
 use Rattle.text.specs.Meaning.{Accepts}
 use Rattle.text.proofs.Labels.{EveryIn, LabelIn, every-inside, every-parts}
 use Rattle.text.proofs.Documents.{DistinctIn, label-part, seek-name, seek-later}
@@ -183,7 +183,7 @@ module _ (t : List ℕ) where
 
   -- ---- the theorem ----
 
-  module _ (L : Limits) (d : JsonText t) (h : Writable (textDoc d)) (u : L .unique ≡ false) where
+  module _ (L : Limits) (d : JsonText t) (h : Lexical (textDoc d)) (u : L .unique ≡ false) where
     pub writable-accepts : length t ≤ L .bytes → depthOf (rootOf d) ≤ L .depth → size (rootOf d) ≤ L .values → Accepts L t (rootOf d)
     writable-accepts short shallow few =
         let n = root-nameless d in
