@@ -15,12 +15,12 @@ use Rattle.text.specs.Writing.{spelled, writtenMembers}
 use Rattle.contact.specs.Pointer.{firstPart}
 use Rattle.contact.specs.Patch.{Entry, changeOf, added}
 use Rattle.card.specs.Entries.{Listed, over, next, stripped}
-use Rattle.card.specs.Runs.{Ascending, asc-more}
+use Rattle.card.specs.Runs.{InOrder, asc-more}
 use Rattle.card.specs.Written.{Wrote}
 use Rattle.card.specs.Rows.{KnownAt}
 use Rattle.card.specs.Patched.{adds, pointerIn, entryOf, piece, since, link, Passed, Said}
 use Rattle.card.specs.declared.writing.Spot.{Spot}
-use Rattle.card.proofs.Bytes.{Left, left-on, left-as, left-last}
+use Rattle.card.proofs.Bytes.{BytesLeft, left-on, left-as, left-last}
 use Rattle.card.proofs.PatchLaws.{linked, added-linked}
 
 -- the member of an entry
@@ -35,14 +35,14 @@ pub record First (t table rows : List ℕ) (i hi parts : ℕ) (ms : Members) : T
   pub is : ms ≡ memberOf t tree more
   pub said : Said t table rows (i + 1) hi parts more
 
-asc-rest : {p : Entry} {es : List Entry} → Ascending (p ∷ es) → Ascending es
+asc-rest : {p : Entry} {es : List Entry} → InOrder (p ∷ es) → InOrder es
 asc-rest (asc-more l a) = a
 
 pub first-said : {t table rows : List ℕ} {i hi parts : ℕ} {ms : Members} → Said t table rows i hi parts ms → i < hi → First t table rows i hi parts ms
 unfolding stripped
 first-said s h = go (s .listed) (s .ascending) h
   where
-    go : {t table rows : List ℕ} {i hi parts : ℕ} {ms : Members} → Listed t table rows i hi ms → Ascending (stripped parts ms) → i < hi
+    go : {t table rows : List ℕ} {i hi parts : ℕ} {ms : Members} → Listed t table rows i hi ms → InOrder (stripped parts ms) → i < hi
         → First t table rows i hi parts ms
     go over a h = absurd (omega arith)
     go (next {ms = ms} g lt some kinds stands l) a h =
@@ -62,7 +62,7 @@ none-said (next g lt some kinds stands l) h = absurd (omega arith)
 pub record Adding (t table rows : List ℕ) (i hi parts : ℕ) (object : Members) (old : List ℕ) (at : ℕ) (total new : List ℕ) (s : Spot) : Type 0 where
   pub rest : Members
   pub said : Said t table rows i hi parts rest
-  pub left : Left old at total new (s .to) (writtenMembers (added object (stripped parts rest)) (s .first))
+  pub left : BytesLeft old at total new (s .to) (writtenMembers (added object (stripped parts rest)) (s .first))
 
 module _ (t : List ℕ) {table rows : List ℕ} {i hi parts : ℕ} {object : Members} {old : List ℕ} {at : ℕ} {total new : List ℕ} {s : Spot}
     (w : Adding t table rows i hi parts object old at total new s) where
@@ -75,7 +75,7 @@ module _ (t : List ℕ) {table rows : List ℕ} {i hi parts : ℕ} {object : Mem
       let o = adds object (entryOf t parts g) in
       let n = firstPart (pointerIn t parts g) in
       let es = stripped parts (f .more) in
-      let asc : Ascending (entryOf t parts g ∷ es) = rw (f .is) at (w .said .ascending) in
+      let asc : InOrder (entryOf t parts g ∷ es) = rw (f .is) at (w .said .ascending) in
       let here : added object (stripped parts (w .rest)) ≡ link o n (spelled n) (added object es) =
       ap (λ (ms : Members). added object (stripped parts ms)) (f .is) ∙ added-linked object (pointerIn t parts g) (changeOf (docOf t g)) es asc in
       let bytes = ap (λ (ms : Members). writtenMembers ms (s .first)) here ∙ linked o n (spelled n) (added object es) (s .first) in

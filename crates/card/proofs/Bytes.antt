@@ -21,15 +21,15 @@ use Rattle.laws.proofs.Places.{any-default}
 use Rattle.laws.proofs.Parts.{part-none, part-back, part-out, part-more}
 use Rattle.laws.proofs.Sets.{sets-append, sets-out}
 use Rattle.text.specs.Doc.{labelAt}
-use Rattle.card.specs.Written.{full, Counts, Wrote}
+use Rattle.card.specs.Written.{full, CountedPlace, Wrote}
 
 -- ---- counting ----
 
-pub counts-same : (n : ℕ) → Counts n n
+pub counts-same : (n : ℕ) → CountedPlace n n
 counts-same n = record { exact = λ h. refl; past = λ h. h }
 
 -- from the n-th place to one further on
-counts-on : {n s r : ℕ} (k : ℕ) → Counts n s → Counts (s + k) r → Counts (n + k) r
+counts-on : {n s r : ℕ} (k : ℕ) → CountedPlace n s → CountedPlace (s + k) r → CountedPlace (n + k) r
 counts-on {n} {s} {r} k a b =
     record {
       exact = λ h. let e : s ≡ n = a .exact (omega arith) in b .exact (omega arith) ∙ ap (λ (m : ℕ). m + k) e;
@@ -44,12 +44,12 @@ counts-on {n} {s} {r} k a b =
 -- ---- bytes that are left ----
 
 -- of the bytes `total` that go into `old` from `at` on, `todo` are left, which go into `new` from `to` on
-pub record Left (old : List ℕ) (at : ℕ) (total new : List ℕ) (to : ℕ) (todo : List ℕ) : Type 0 where
-  pub place : {r : ℕ} → Counts (to + length todo) r → Counts (at + length total) r
+pub record BytesLeft (old : List ℕ) (at : ℕ) (total new : List ℕ) (to : ℕ) (todo : List ℕ) : Type 0 where
+  pub place : {r : ℕ} → CountedPlace (to + length todo) r → CountedPlace (at + length total) r
   pub bytes : sets old at total ≡ sets new to todo
 
 -- past the end it does not matter where
-anywhere : (new : List ℕ) (n r : ℕ) (todo : List ℕ) → length new < full → Counts n r → sets new n todo ≡ sets new r todo
+anywhere : (new : List ℕ) (n r : ℕ) (todo : List ℕ) → length new < full → CountedPlace n r → sets new n todo ≡ sets new r todo
 anywhere new n r todo fits c =
     elim (decLe full n) [
       | yes le ↦ let g : full ≤ r = c .past le in sets-out todo new n (omega arith) ∙ sym (sets-out todo new r (omega arith))
@@ -60,12 +60,12 @@ pub wrote-none : {old : List ℕ} (at : ℕ) → length old < full → Wrote old
 wrote-none at fits = record { to = rw add-zero (counts-same at); out = refl; fits = fits }
 
 module _ {old : List ℕ} {at : ℕ} {total : List ℕ} where
-  pub left-all : Left old at total old at total
+  pub left-all : BytesLeft old at total old at total
   left-all = record { place = λ c. c; bytes = refl }
 
-  pub left-on : {new : List ℕ} {to : ℕ} (bytes todo : List ℕ) {new′ : List ℕ} {r : ℕ} → Left old at total new to (bytes ++ todo)
+  pub left-on : {new : List ℕ} {to : ℕ} (bytes todo : List ℕ) {new′ : List ℕ} {r : ℕ} → BytesLeft old at total new to (bytes ++ todo)
       → Wrote new to bytes new′ r
-      → Left old at total new′ r todo
+      → BytesLeft old at total new′ r todo
   left-on {new} {to} bytes todo {new′} {r} l w =
       record {
         place = λ c. l .place (rw (length-append, ← add-assoc) (counts-on (length todo) (w .to) c));
@@ -76,17 +76,17 @@ module _ {old : List ℕ} {at : ℕ} {total : List ℕ} where
             ∙ ap (λ (o : List ℕ). sets o r todo) (sym (w .out));
       }
 
-  pub left-none : {new : List ℕ} {to : ℕ} → length old < full → Left old at total new to [] → Wrote old at total new to
+  pub left-none : {new : List ℕ} {to : ℕ} → length old < full → BytesLeft old at total new to [] → Wrote old at total new to
   left-none {new} {to} fits l = record { to = l .place (rw add-zero (counts-same to)); out = sym (l .bytes); fits = fits }
 
-  pub left-length : {new : List ℕ} {to : ℕ} {todo : List ℕ} → Left old at total new to todo → length new ≡ length old
+  pub left-length : {new : List ℕ} {to : ℕ} {todo : List ℕ} → BytesLeft old at total new to todo → length new ≡ length old
   left-length {new} {to} {todo} l = sym (length-sets new to todo) ∙ sym (ap length (l .bytes)) ∙ length-sets old at total
 
-  pub left-last : {new : List ℕ} {to : ℕ} (bytes : List ℕ) {new′ : List ℕ} {r : ℕ} → Left old at total new to bytes → Wrote new to bytes new′ r
+  pub left-last : {new : List ℕ} {to : ℕ} (bytes : List ℕ) {new′ : List ℕ} {r : ℕ} → BytesLeft old at total new to bytes → Wrote new to bytes new′ r
       → Wrote old at total new′ r
   left-last bytes l w = left-none (rw (← left-length l) (w .fits)) (left-on bytes [] (rw append-nil l) w)
 
-  pub left-as : {new : List ℕ} {to : ℕ} {todo todo′ : List ℕ} → todo ≡ todo′ → Left old at total new to todo → Left old at total new to todo′
+  pub left-as : {new : List ℕ} {to : ℕ} {todo todo′ : List ℕ} → todo ≡ todo′ → BytesLeft old at total new to todo → BytesLeft old at total new to todo′
   left-as e l = rw e at l
 
 pub wrote-then : {old : List ℕ} {at : ℕ} (xs ys : List ℕ) {mid : List ℕ} {p : ℕ} {new : List ℕ} {r : ℕ} → Wrote old at xs mid p → Wrote mid p ys new r

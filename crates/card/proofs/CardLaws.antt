@@ -31,7 +31,7 @@ use Rattle.contact.proofs.Patching.Readback.{card-shorter}
 use Rattle.contact.proofs.Patching.Steps.{judged-answer, no-patch, no-patch-object, patched-so}
 use Rattle.json.specs.Rows.{kindIn}
 use Rattle.card.specs.Members.{firstMember}
-use Rattle.card.specs.Language.{Held, At, Leads}
+use Rattle.card.specs.Language.{Held, PropertyAt, PropertyFound}
 use Rattle.card.specs.Rows.{KnownAt}
 use Rattle.card.specs.declared.members.Found.{Found}
 use Rattle.card.specs.declared.members.Found.the-variants.{Row, Nothing}
@@ -71,7 +71,7 @@ module _ {t table : List ℕ} {f : Forest} (c : CardIn t table f) where
 
 -- ---- what the card has for a language
 
-module _ {t table : List ℕ} {f : Forest} (c : CardIn t table f) (lang : Name) {m : ℕ} (a : At t table mostEntries (find (patchAt lang) (docOf t f)) m)
+module _ {t table : List ℕ} {f : Forest} (c : CardIn t table f) (lang : Name) {m : ℕ} (a : PropertyAt t table mostEntries (find (patchAt lang) (docOf t f)) m)
   where
     no-object-for : (kindIn table m ≡ 7 → ⊥) → (words room : ℕ) → localizedDoc base words room (docOf t f) lang ≡ denied NoLanguage
     no-object-for h words room =
@@ -96,12 +96,12 @@ module _ {t table : List ℕ} {f : Forest} (c : CardIn t table f) (lang : Name) 
 
 -- by the row that was found for it; a refusal says nothing of the output
 module _ {t table : List ℕ} (lang : Name) {found : Found}
-    (leads : (g : Forest) (limit : ℕ) → Held table limit 0 g → Leads t table limit (find (patchAt lang) (docOf t g)) found) where
+    (leads : (g : Forest) (limit : ℕ) → Held table limit 0 g → PropertyFound t table limit (find (patchAt lang) (docOf t g)) found) where
   pub for-nothing : (room : ℕ) → found ≡ Nothing → MakesFor t table lang room [] (Refused NoLanguage)
   for-nothing room e f c = no-patch base (length table) room (docOf t f) lang (rw e at (leads f mostEntries (card-held c)))
 
   module _ {m : ℕ} (e : found ≡ Row m) where
-    at-it : {f : Forest} → CardIn t table f → At t table mostEntries (find (patchAt lang) (docOf t f)) m
+    at-it : {f : Forest} → CardIn t table f → PropertyAt t table mostEntries (find (patchAt lang) (docOf t f)) m
     at-it {f} c = rw e at (leads f mostEntries (card-held c))
 
     pub for-needs : (f : Forest) → CardIn t table f → ((g : Forest) × KnownAt table 0 g) × ((p : Forest) × Held table mostEntries m p)

@@ -23,7 +23,7 @@ use Rattle.contact.specs.Localize.{patchAt}
 use Rattle.card.specs.Members.{Finds}
 use Rattle.card.specs.Rows.{KnownAt}
 use Rattle.card.specs.Entries.{Collects}
-use Rattle.card.specs.Language.{Held, At, Leads}
+use Rattle.card.specs.Language.{Held, PropertyAt, PropertyFound}
 use Rattle.card.specs.Localizing.{mostEntries}
 use Rattle.card.specs.declared.members.Found.{Found}
 use Rattle.card.specs.declared.members.Found.the-variants.{Row, Nothing}
@@ -60,7 +60,7 @@ inside-size (T.node b ns ne from to inside rest) s = omega arith
 
 module _ {table : List ℕ} {limit row : ℕ} {g : Forest} (h : Held table limit row g) (t : List ℕ) (n : Name) where
   pub child-is : kindIn table row ≡ 7 → (r : Found) → Finds t table (row + 1 + belowIn table row) n (insideAt g) r
-      → Leads t table limit (child n (docOf t g)) r
+      → PropertyFound t table limit (child n (docOf t g)) r
   child-is e Nothing f = rw (doc-object t g (h .value .some) (h .value .kinds) (sym (value-row (h .value) .kind) ∙ e)) f
   child-is e (Row m) f =
       let v = h .value in
@@ -91,10 +91,10 @@ collects {g = g} h e =
 pub no-patch-in : (lang : Name) (card : Doc) → child (bytes "localizations") card ≡ none → find (patchAt lang) card ≡ none
 no-patch-in lang card e = ap (within (find (last lang))) e
 
-pub patch-in : {t table : List ℕ} {limit : ℕ} (lang : Name) (card : Doc) {m : ℕ} (a : At t table limit (child (bytes "localizations") card) m) (r : Found)
-    → Leads t table limit (child lang (docOf t (a .found))) r → Leads t table limit (find (patchAt lang) card) r
+pub patch-in : {t table : List ℕ} {limit : ℕ} (lang : Name) (card : Doc) {m : ℕ} (a : PropertyAt t table limit (child (bytes "localizations") card) m) (r : Found)
+    → PropertyFound t table limit (child lang (docOf t (a .found))) r → PropertyFound t table limit (find (patchAt lang) card) r
 patch-in lang card a r h = rw (ap (within (find (last lang))) (a .is)) h
 
 -- what an answer that found it says
-pub at-row : {t table : List ℕ} {limit : ℕ} {o : Option Property} {m : ℕ} → At t table limit o m → At t table limit o m
+pub at-row : {t table : List ℕ} {limit : ℕ} {o : Option Property} {m : ℕ} → PropertyAt t table limit o m → PropertyAt t table limit o m
 at-row a = a

@@ -29,7 +29,7 @@ use Rattle.contact.proofs.Patching.Apart.{to-anyClash}
 use Rattle.contact.proofs.Patching.Order.{any-order}
 use Rattle.contact.proofs.Patching.Steps.{short-so, room-so}
 use Rattle.card.specs.Entries.{Listed, stripped, rowOrder}
-use Rattle.card.specs.Runs.{Ascending}
+use Rattle.card.specs.Runs.{InOrder}
 use Rattle.card.specs.Written.{Wrote}
 use Rattle.card.specs.Localizing.{mostEntries, Countable, entriesOutcome, fittingOf, Composed, Made, Makes}
 use Rattle.card.specs.Rows.{KnownAt}
@@ -49,7 +49,7 @@ use Rattle.card.proofs.ChildLaws.{inside-to}
 
 pub sorted-wrote : {t table rows new : List ℕ} {n : ℕ} (d : Doc) (ms : Members) → n ≤ length rows → Arranged (rowOrder t table) rows 0 n new
     → Listed t table rows 0 n ms → NoClash (entriesOf ms) → {old out : List ℕ} {r : ℕ}
-    → ((ns : Members) → Listed t table new 0 n ns → Ascending (stripped 0 ns) → Wrote old 0 (written (applied d (entriesOf ns))) out r)
+    → ((ns : Members) → Listed t table new 0 n ns → InOrder (stripped 0 ns) → Wrote old 0 (written (applied d (entriesOf ns))) out r)
     → Wrote old 0 (written (applied d (entriesOf ms))) out r
 sorted-wrote d ms h a l nc w =
     let s = resorted h a l in

@@ -18,7 +18,7 @@ use Rattle.contact.specs.Pointer.{Pointer, last, down, pointerOf, firstPart}
 use Rattle.contact.specs.Patch.{Change, Entry, entry, changeOf, mine, under}
 use Rattle.card.specs.Pointers.{pointerOrder, strip}
 use Rattle.card.specs.Entries.{stripped}
-use Rattle.card.specs.Runs.{Leads, leads-none, leads-more, Ascending, asc-none, asc-more, aheadBy, Side, side-none, side-more, joined, Bound}
+use Rattle.card.specs.Runs.{BeforeAll, leads-none, leads-more, InOrder, asc-none, asc-more, aheadBy, Side, side-none, side-more, joined, Bound}
 use Rattle.card.specs.Patched.{Said}
 use Rattle.card.proofs.PointerLaws.{strip-on}
 
@@ -29,15 +29,15 @@ unfolding stripped joined
 stripped-joined j empty ms = refl
 stripped-joined j (member key label d ls) ms = ap (λ (es : List Entry). entry (strip j (pointerOf key)) (changeOf d) ∷ es) (stripped-joined j ls ms)
 
-leads-left : {p : Pointer} (xs ys : List Entry) → Leads p (xs ++ ys) → Leads p xs
+leads-left : {p : Pointer} (xs ys : List Entry) → BeforeAll p (xs ++ ys) → BeforeAll p xs
 leads-left [] ys h = leads-none
 leads-left (x ∷ xs) ys (leads-more e h) = leads-more e (leads-left xs ys h)
 
-asc-left : (xs ys : List Entry) → Ascending (xs ++ ys) → Ascending xs
+asc-left : (xs ys : List Entry) → InOrder (xs ++ ys) → InOrder xs
 asc-left [] ys h = asc-none
 asc-left (x ∷ xs) ys (asc-more l h) = asc-more (leads-left xs ys l) (asc-left xs ys h)
 
-asc-right : (xs ys : List Entry) → Ascending (xs ++ ys) → Ascending ys
+asc-right : (xs ys : List Entry) → InOrder (xs ++ ys) → InOrder ys
 asc-right [] ys h = h
 asc-right (x ∷ xs) ys (asc-more l h) = asc-right xs ys h
 
@@ -135,9 +135,9 @@ pub middle : {t table rows : List ℕ} {lo hi parts : ℕ} {n : Name} {a b : ℕ
     → Bound t table rows lo hi parts n false a → Bound t table rows a hi parts n true b → Middle t table rows a b parts n ms
 middle {parts = j} {n = n} {ms = ms} s x y =
     let p = x .parted ms (s .listed) (s .ascending) in
-    let whole : Ascending (stripped j (p .left) ++ stripped j (p .right)) = rw (p .is, stripped-joined j (p .left) (p .right)) at (s .ascending) in
+    let whole : InOrder (stripped j (p .left) ++ stripped j (p .right)) = rw (p .is, stripped-joined j (p .left) (p .right)) at (s .ascending) in
     let q = y .parted (p .right) (p .listed-right) (asc-right (stripped j (p .left)) (stripped j (p .right)) whole) in
-    let right : Ascending (stripped j (q .left) ++ stripped j (q .right)) =
+    let right : InOrder (stripped j (q .left) ++ stripped j (q .right)) =
     rw (q .is, stripped-joined j (q .left) (q .right)) at (asc-right (stripped j (p .left)) (stripped j (p .right)) whole) in
     let none : Side false n false (stripped j (q .left) ++ stripped j (q .right)) = rw (q .is, stripped-joined j (q .left) (q .right)) at (p .none-before) in
     let is : ms ≡ joined (p .left) (joined (q .left) (q .right)) = p .is ∙ ap (joined (p .left)) (q .is) in
@@ -174,12 +174,12 @@ goes-too n q (last m) e f =
     let z : _≡_ {A = ℕ} 0 1 = cc in
     absurd (omega arith)
 
-deep-after : (j : ℕ) (n : Name) (q : Pointer) (ms : Members) → Leads (down n q) (stripped j ms) → Named n (stripped j ms) → Deep j n ms
+deep-after : (j : ℕ) (n : Name) (q : Pointer) (ms : Members) → BeforeAll (down n q) (stripped j ms) → Named n (stripped j ms) → Deep j n ms
 unfolding stripped
 deep-after j n q empty l h = deep-none
 deep-after j n q (member key label d ms) (leads-more e l) (named-more f h) = deep-more (goes-too n q (strip j (pointerOf key)) e f .1) (deep-after j n q ms l h)
 
-pub deep : (j : ℕ) (n key label : List ℕ) (d : Doc) (ms : Members) (q : Pointer) → Ascending (stripped j (member key label d ms))
+pub deep : (j : ℕ) (n key label : List ℕ) (d : Doc) (ms : Members) (q : Pointer) → InOrder (stripped j (member key label d ms))
     → Named n (stripped j (member key label d ms)) → strip j (pointerOf key) ≡ down (firstPart (strip j (pointerOf key))) q → Deep j n (member key label d ms)
 unfolding stripped
 deep j n key label d ms q (asc-more l a) (named-more f h) g =
@@ -197,12 +197,12 @@ module _ (j : ℕ) (n : Name) where
   deep-under deep-none = refl
   deep-under (deep-more {key = key} e h) = rw (e, same-refl n, strip-on j (pointerOf key) e, deep-under h)
 
-  deep-leads : {q : Pointer} {ms : Members} → Deep j n ms → Leads (down n q) (stripped j ms) → Leads q (stripped (j + 1) ms)
+  deep-leads : {q : Pointer} {ms : Members} → Deep j n ms → BeforeAll (down n q) (stripped j ms) → BeforeAll q (stripped (j + 1) ms)
   unfolding stripped pointerOrder
   deep-leads deep-none l = leads-none
   deep-leads (deep-more {key = key} e h) (leads-more o l) = rw (strip-on j (pointerOf key) e) (leads-more (rw (e, order-refl n) at o) (deep-leads h l))
 
-  pub deep-ascending : {ms : Members} → Deep j n ms → Ascending (stripped j ms) → Ascending (stripped (j + 1) ms)
+  pub deep-ascending : {ms : Members} → Deep j n ms → InOrder (stripped j ms) → InOrder (stripped (j + 1) ms)
   unfolding stripped
   deep-ascending deep-none a = asc-none
   deep-ascending (deep-more {key = key} e h) (asc-more l a) = rw (strip-on j (pointerOf key) e) (asc-more (deep-leads h (rw e at l)) (deep-ascending h a))

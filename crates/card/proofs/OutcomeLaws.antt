@@ -27,7 +27,7 @@ use Rattle.contact.specs.declared.Localized.the-variants.{Written, Denied}
 use Rattle.contact.proofs.Patching.Public.{given-iff, passed-so}
 use Rattle.contact.proofs.Patching.Contract.{paper-follows}
 use Rattle.contact.proofs.Patching.Steps.{judged-answer}
-use Rattle.card.specs.Localizing.{CardIn, judgedOutcome, Composed, MakesFor, Rejudged, Left, Answers, usedBy}
+use Rattle.card.specs.Localizing.{CardIn, judgedOutcome, Composed, MakesFor, Rejudged, LeavesCard, Answers, usedBy}
 use Rattle.card.specs.declared.compose.Attempt.the-variants.{Bytes, Refused}
 use Rattle.card.proofs.CardLaws.{card-there}
 
@@ -82,7 +82,7 @@ judged-so {words} {room} {n} {o} {r} {table} {out} c j =
     long = length-take-le n out (c .fits)
 
     go : (v : Judged) → table ≡ tableOfOutcome words (byJudge base words room (take n out) v)
-        → Left words (byJudge base words room (take n out) v) table out
+        → LeavesCard words (byJudge base words room (take n out) v) table out
     go (passed f) e = (e, omega (arith, c .fits, long), rw long)
     go (failed q) e = tt
 

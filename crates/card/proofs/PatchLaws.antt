@@ -30,7 +30,7 @@ use Rattle.json.specs.declared.decode.Cursor.{Cursor}
 use Rattle.contact.specs.Pointer.{Pointer, last, down, pointerOf, firstPart}
 use Rattle.contact.specs.Patch.{Change, remove, set, Entry, entry, mine, under, insert, fresh, added, keep, applied, kept, without, changeOf}
 use Rattle.card.specs.Pointers.{pointerOrder, strip}
-use Rattle.card.specs.Runs.{Leads, leads-more, Ascending, asc-more}
+use Rattle.card.specs.Runs.{BeforeAll, leads-more, InOrder, asc-more}
 use Rattle.card.specs.Patched.{based, basedAll, isOut, keptBy, stays, freshly, adds, pointerIn, link, piece, since, Passed}
 use Rattle.card.specs.Written.{full, Wrote}
 use Rattle.card.specs.Rows.{KnownAt}
@@ -107,13 +107,13 @@ unfolding pointerOrder
 less-before n m e = rw e
 
 -- it stands before the names of all members that later entries add
-heads-added : (n : Name) (ms : Members) (es : List Entry) → Leads (last n) es → Heads n (added ms es)
+heads-added : (n : Name) (ms : Members) (es : List Entry) → BeforeAll (last n) es → Heads n (added ms es)
 heads-added n ms [] l = tt
 heads-added n ms (entry (last m) remove ∷ es) (leads-more e l) = heads-added n ms es l
 heads-added n ms (entry (last m) (set v) ∷ es) (leads-more e l) = heads-fresh n m v (seek m ms) (added ms es) (less-before n m e) (heads-added n ms es l)
 heads-added n ms (entry (down m p) c ∷ es) (leads-more e l) = heads-added n ms es l
 
-pub added-linked : (ms : Members) (p : Pointer) (c : Change) (es : List Entry) → Ascending (entry p c ∷ es)
+pub added-linked : (ms : Members) (p : Pointer) (c : Change) (es : List Entry) → InOrder (entry p c ∷ es)
     → added ms (entry p c ∷ es) ≡ link (adds ms (entry p c)) (firstPart p) (spelled (firstPart p)) (added ms es)
 added-linked ms (last n) remove es a = refl
 added-linked ms (down n p) c es a = refl

@@ -24,7 +24,7 @@ use Rattle.contact.specs.Patch.{Change, Entry, changeOf, mine, under, kept, app
 use Rattle.contact.proofs.Patching.Untouched.{applied-nil}
 use Rattle.card.specs.Pointers.{strip}
 use Rattle.card.specs.Entries.{stripped}
-use Rattle.card.specs.Runs.{Ascending}
+use Rattle.card.specs.Runs.{InOrder}
 use Rattle.card.specs.Written.{Wrote}
 use Rattle.card.specs.Patched.{Said, based, basedAll, isOut, keptBy, stays, pointerIn, isLast, isEnd, endsFirst, idle, piece, since, Passed}
 use Rattle.card.specs.Parts.{Goes}
@@ -94,7 +94,7 @@ module _ {t table rows : List ℕ} {lo hi parts : ℕ} {n : Name} {ms : Members}
   unfolding stripped
   goes-deep e = go (m .run) (m .said .ascending) (m .names) e
     where
-      go : (ls : Members) → Ascending (stripped parts ls) → Named n (stripped parts ls) → false ≡ endsFirst (stripped parts ls) → Deep parts n ls
+      go : (ls : Members) → InOrder (stripped parts ls) → Named n (stripped parts ls) → false ≡ endsFirst (stripped parts ls) → Deep parts n ls
       go empty a h q = deep-none
       go (member key label v ls) a h q =
           let g = down-goes (strip parts (pointerOf key)) (sym q) in

@@ -22,7 +22,7 @@ use Rattle.text.specs.Doc.{Name, Members, empty, member, labelAt, docOf}
 use Rattle.contact.specs.Pointer.{Pointer, pointerOf, firstPart}
 use Rattle.card.specs.Pointers.{pointerOrder, strip}
 use Rattle.card.specs.Entries.{Listed, over, next, stripped, keyAt}
-use Rattle.card.specs.Runs.{Leads, leads-more, Ascending, asc-more, aheadBy, Side, side-none, side-more, joined, Bound}
+use Rattle.card.specs.Runs.{BeforeAll, leads-more, InOrder, asc-more, aheadBy, Side, side-none, side-more, joined, Bound}
 use Rattle.card.proofs.PointerOrders.{first-upto}
 use Rattle.card.proofs.EntryOrders.{key-is}
 
@@ -49,7 +49,7 @@ module _ (t table rows : List ℕ) (parts : ℕ) where
   abbrev pub pointAt : ℕ → Pointer
   pointAt k = strip parts (pointerOf (keyAt t table (getD rows k 0)))
 
-  leads-at : {p : Pointer} {i n : ℕ} {ms : Members} → Listed t table rows i n ms → Leads p (stripped parts ms) → (l : ℕ) → i ≤ l → l < n
+  leads-at : {p : Pointer} {i n : ℕ} {ms : Members} → Listed t table rows i n ms → BeforeAll p (stripped parts ms) → (l : ℕ) → i ≤ l → l < n
       → pointerOrder p (pointAt l) ≡ Less
   unfolding stripped
   leads-at over u l a b = absurd (omega arith)
@@ -63,7 +63,7 @@ module _ (t table rows : List ℕ) (parts : ℕ) where
     abbrev pub aheadAt : ℕ → Bool
     aheadAt k = aheadBy past (orderOf (firstPart (pointAt k)) n)
 
-    pub falling : {lo hi : ℕ} {ms : Members} → Listed t table rows lo hi ms → Ascending (stripped parts ms) → Falling aheadAt lo hi
+    pub falling : {lo hi : ℕ} {ms : Members} → Listed t table rows lo hi ms → InOrder (stripped parts ms) → Falling aheadAt lo hi
     unfolding stripped
     falling over u k l a b c e = absurd (omega arith)
     falling (next {i} g h s kinds stands r) (asc-more lead u) k l a b c e =

@@ -17,7 +17,7 @@ use Rattle.text.proofs.Promise.{FirstRow, first-row, inside, after, some-at, no
 use Rattle.json.specs.Rows.{kindIn, belowIn}
 use Rattle.card.specs.Rows.{KnownAt}
 use Rattle.card.specs.Members.{Near}
-use Rattle.card.proofs.Bytes.{Left}
+use Rattle.card.proofs.Bytes.{BytesLeft}
 
 pub kinds-inside : (g : Forest) → Kinds g → Kinds (insideAt g)
 kinds-inside none k = tt
@@ -60,11 +60,11 @@ pub record Walk (table : List ℕ) (end : ℕ) (rest : Forest → Bool → List 
   pub values : Forest
   pub kinds : Kinds values
   pub standing : StandsTo table m end values
-  pub left : Left old at total new to (rest values first)
+  pub left : BytesLeft old at total new to (rest values first)
 
 module _ {table : List ℕ} {end : ℕ} {rest : Forest → Bool → List ℕ} {old : List ℕ} {at : ℕ} {total : List ℕ} where
   pub walk-start : {row : ℕ} {g : Forest} (first : Bool) → KnownAt table row g → end ≡ row + 1 + belowIn table row
-      → {new : List ℕ} {to : ℕ} → Left old at total new to (rest (insideAt g) first) → Walk table end rest old at total new to first (row + 1)
+      → {new : List ℕ} {to : ℕ} → BytesLeft old at total new to (rest (insideAt g) first) → Walk table end rest old at total new to first (row + 1)
   walk-start {row} {g} first v e l =
       record { values = insideAt g; kinds = kinds-inside g (v .kinds); standing = rw (e, value-row v .below) (inside g (v .some) (v .stands)); left = l }
 
@@ -75,7 +75,7 @@ module _ {table : List ℕ} {end : ℕ} {rest : Forest → Bool → List ℕ} {o
 
     -- it is written
     pub walk-on : m < end → (next : ℕ) → next ≡ m + 1 + belowIn table m → {new′ : List ℕ} {to′ : ℕ} {first′ : Bool}
-        → Left old at total new′ to′ (rest (restAt (w .values)) first′) → Walk table end rest old at total new′ to′ first′ next
+        → BytesLeft old at total new′ to′ (rest (restAt (w .values)) first′) → Walk table end rest old at total new′ to′ first′ next
     walk-on h next e l =
         record {
           values = restAt (w .values);
@@ -85,5 +85,5 @@ module _ {table : List ℕ} {end : ℕ} {rest : Forest → Bool → List ℕ} {o
         }
 
     -- none is left
-    pub walk-end : end ≤ m → Left old at total new to (rest none first)
+    pub walk-end : end ≤ m → BytesLeft old at total new to (rest none first)
     walk-end h = rw (none-at (w .values) (w .standing) h) at (w .left)

@@ -16,12 +16,12 @@ pub record Held (table : List ℕ) (limit row : ℕ) (g : Forest) : Type 0 where
   pub within : row + size g ≤ limit
 
 -- the property is there, and its value stands at row m
-pub record At (t table : List ℕ) (limit : ℕ) (o : Option Property) (m : ℕ) : Type 0 where
+pub record PropertyAt (t table : List ℕ) (limit : ℕ) (o : Option Property) (m : ℕ) : Type 0 where
   pub found : Forest
   pub held : Held table limit m found
   pub is : o ≡ some (firstMember t found)
 
 -- what an answer says of a property
-abbrev pub Leads : (t table : List ℕ) → (limit : ℕ) → Option Property → Found → Type 0
-Leads t table limit o (Row m) = At t table limit o m
-Leads t table limit o Nothing = o ≡ none
+abbrev pub PropertyFound : (t table : List ℕ) → (limit : ℕ) → Option Property → Found → Type 0
+PropertyFound t table limit o (Row m) = PropertyAt t table limit o m
+PropertyFound t table limit o Nothing = o ≡ none

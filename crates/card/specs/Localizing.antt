@@ -77,14 +77,14 @@ pub record Rejudged (words : ℕ) (o : Outcome) (r : Localized) (table : List �
   pub rows : table ≡ tableOfOutcome words o
 
 -- the output begins with the text and the table is as it must be, where there is a card
-abbrev pub Left : (words : ℕ) → Outcome → (table out : List ℕ) → Type 0
-Left words (done text f) table out = (table ≡ filled words (treeRows f)) × (length text ≤ length out) × (take (length text) out ≡ text)
-Left words (denied r) table out = Prim.Unit {0}
+abbrev pub LeavesCard : (words : ℕ) → Outcome → (table out : List ℕ) → Type 0
+LeavesCard words (done text f) table out = (table ≡ filled words (treeRows f)) × (length text ≤ length out) × (take (length text) out ≡ text)
+LeavesCard words (denied r) table out = Prim.Unit {0}
 
 -- the answer is the outcome's, and the table and the output are left so
 pub record Answers (words : ℕ) (o : Outcome) (r : Localized) (table out : List ℕ) : Type 0 where
   pub answer : r ≡ answerOfOutcome o
-  pub left : Left words o table out
+  pub left : LeavesCard words o table out
 
 -- how many bytes of the output an answer says are used
 abbrev pub usedBy : Localized → ℕ

@@ -19,7 +19,7 @@ use Rattle.contact.specs.Patch.{Change, remove, set, Entry, entry, changeOf, wi
 use Rattle.contact.specs.Localize.{start, patchedDoc}
 use Rattle.card.specs.Pointers.{strip}
 use Rattle.card.specs.Entries.{Listed, stripped}
-use Rattle.card.specs.Runs.{Ascending}
+use Rattle.card.specs.Runs.{InOrder}
 use Rattle.card.specs.Written.{Wrote}
 use Rattle.card.specs.Rows.{KnownAt}
 use Rattle.card.specs.Copied.{headOf}
@@ -37,7 +37,7 @@ pub record InRows (rows : List ℕ) (lo hi : ℕ) : Type 0 where
 -- the members that are listed by the run; their entries, without the parts that were taken, ascend
 pub record Said (t table rows : List ℕ) (lo hi parts : ℕ) (ms : Members) : Type 0 where
   pub listed : Listed t table rows lo hi ms
-  pub ascending : Ascending (stripped parts ms)
+  pub ascending : InOrder (stripped parts ms)
 
 -- ---- the card at its root is taken without its localizations
 
@@ -162,5 +162,5 @@ PutValue t table row root pt ptable rows lo hi parts old at new r =
 -- the card was written: without its localizations, as the listed entries leave it
 abbrev pub PutCard : (t table pt ptable rows : List ℕ) → (n : ℕ) → (old new : List ℕ) → (r : ℕ) → Type 0
 PutCard t table pt ptable rows n old new r =
-    (g : Forest) (ms : Members) → KnownAt table 0 g → Listed pt ptable rows 0 n ms → Ascending (stripped 0 ms)
+    (g : Forest) (ms : Members) → KnownAt table 0 g → Listed pt ptable rows 0 n ms → InOrder (stripped 0 ms)
     → Wrote old 0 (written (patchedDoc (docOf t g) ms)) new r

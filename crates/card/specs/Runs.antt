@@ -15,14 +15,14 @@ use Rattle.card.specs.Entries.{Listed, stripped}
 -- ---- strictly ascending entries
 
 -- the pointer stands before that of each of the entries
-pub data Leads (p : Pointer) : List Entry → Type 0 where
-  leads-none : Leads p []
-  leads-more : {q : Pointer} {c : Change} {es : List Entry} → pointerOrder p q ≡ Less → Leads p es → Leads p (entry q c ∷ es)
+pub data BeforeAll (p : Pointer) : List Entry → Type 0 where
+  leads-none : BeforeAll p []
+  leads-more : {q : Pointer} {c : Change} {es : List Entry} → pointerOrder p q ≡ Less → BeforeAll p es → BeforeAll p (entry q c ∷ es)
 
 -- each stands before all that follow it
-pub data Ascending : List Entry → Type 0 where
-  asc-none : Ascending []
-  asc-more : {p : Pointer} {c : Change} {es : List Entry} → Leads p es → Ascending es → Ascending (entry p c ∷ es)
+pub data InOrder : List Entry → Type 0 where
+  asc-none : InOrder []
+  asc-more : {p : Pointer} {c : Change} {es : List Entry} → BeforeAll p es → InOrder es → InOrder (entry p c ∷ es)
 
 -- ---- a run parted by a name
 
@@ -66,4 +66,4 @@ pub record Parted (t table rows : List ℕ) (lo hi parts : ℕ) (n : Name) (past
 pub record Bound (t table rows : List ℕ) (lo hi parts : ℕ) (n : Name) (past : Bool) (r : ℕ) : Type 0 where
   pub low : lo ≤ r
   pub high : r ≤ hi
-  pub parted : (ms : Members) → Listed t table rows lo hi ms → Ascending (stripped parts ms) → Parted t table rows lo hi parts n past ms r
+  pub parted : (ms : Members) → Listed t table rows lo hi ms → InOrder (stripped parts ms) → Parted t table rows lo hi parts n past ms r

@@ -4,6 +4,6 @@ use Rattle.intake.specs.declared.Got.{Got}
 use Rattle.intake.specs.declared.Got.the-variants.{Bytes, Failed}
 
 -- no more bytes than there was room for
-abbrev pub Within : ℕ → Got → Type 0
-Within room (Bytes n) = n ≤ room
-Within room Failed = Prim.Unit {0}
+abbrev pub FitsRoom : ℕ → Got → Type 0
+FitsRoom room (Bytes n) = n ≤ room
+FitsRoom room Failed = Prim.Unit {0}

@@ -9,7 +9,7 @@ use libc::STDERR_FILENO;
 use libc::STDIN_FILENO;
 use libc::STDOUT_FILENO;
 ghost use lib.ListN.{length};
-ghost use Rattle.intake.specs.Input.{Within};
+ghost use Rattle.intake.specs.Input.{FitsRoom};
 
 // The limit of a card's bytes, and one more, by which a longer one shows.
 const ROOM: usize = BYTES + 1;
@@ -25,7 +25,7 @@ enum Got {
 
 // Reads once.
 fn read_some(buffer: &mut [u8]) -> Got
-    ensures { λ r. ⌜ Within (length (now (buffer .entry))) r ⌝ }
+    ensures { λ r. ⌜ FitsRoom (length (now (buffer .entry))) r ⌝ }
 {
     let got = libc::read(STDIN_FILENO, buffer);
     if got < 0 {
@@ -37,7 +37,7 @@ fn read_some(buffer: &mut [u8]) -> Got
 
 // Reads until the buffer is full or the input is over.
 fn fill(buffer: &mut [u8]) -> Got
-    ensures { λ r. ⌜ Within (length (now (buffer .entry))) r ⌝ }
+    ensures { λ r. ⌜ FitsRoom (length (now (buffer .entry))) r ⌝ }
 {
     let mut at = 0;
     while at < buffer.len() {

@@ -24,7 +24,7 @@ upTo limit = withValues base limit
 
 -- What is asked of a reader at a place, with n values before it: the place is inside the text, the values so far are within the limit, the table has
 -- a row for each value that the limit allows, and places and numbers of values fit a word.
-pub record Asks (t table : List ℕ) (limit at n : ℕ) : Type 0 where
+pub record ItemAsks (t table : List ℕ) (limit at n : ℕ) : Type 0 where
   pub short : Word (length t)
   pub wide : Word limit
   pub room : limit * rowWords ≤ length table

@@ -14,7 +14,7 @@ ghost use Prim.Native.Nat.{_≤_};
 ghost use lib.ListN.{length, replicate};
 ghost use Rattle.text.specs.Limits.{base};
 ghost use Rattle.text.specs.Whole.{readOf, wholeOf, Reads};
-ghost use Rattle.json.specs.Parts.{upTo, Asks};
+ghost use Rattle.json.specs.Parts.{upTo, ItemAsks};
 ghost use Rattle.json.specs.Answers.{Room, Ended, isMany, againOf, Whole};
 
 // Reads a text: its rows and zeros after them, or the refusal and zeros alone.
@@ -97,7 +97,7 @@ fn read_again(text: &[u8]) -> Reading
 // A value with white space around it, of at most `limit` values.
 fn read_whole(text: &[u8], table: &mut [u32], limit: usize) -> Reading
     requires { ⌜ length (now text) ≤ base .bytes ⌝ }
-    requires { ⌜ Asks (now text) (now table) limit 0 0 ⌝ }
+    requires { ⌜ ItemAsks (now text) (now table) limit 0 0 ⌝ }
     ensures { λ r. ⌜ Ended (readOf (upTo limit) (now (text .entry))) (now (table .entry)) (now (table .exit)) r ⌝ }
 {
     let from = skip(text, 0);

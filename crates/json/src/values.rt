@@ -21,7 +21,7 @@ ghost use Rattle.text.specs.Tree.{Forest};
 ghost use Rattle.text.specs.Standing.{StandsTo};
 ghost use Rattle.text.specs.Reader.{scalarAt, arrayAt, objectAt, memberOf, valueAt};
 ghost use Rattle.json.specs.Rows.{Row};
-ghost use Rattle.json.specs.Parts.{upTo, Asks, NamePlaces, Took, Closable, Closes, bracketOf, containerAt, itemsAt, itemOf};
+ghost use Rattle.json.specs.Parts.{upTo, ItemAsks, NamePlaces, Took, Closable, Closes, bracketOf, containerAt, itemsAt, itemOf};
 
 // What reading a part of a text gives: the place after it and the number of values so far, or the refusal.
 pub enum Part {
@@ -53,7 +53,7 @@ fn read_scalar(
     at: usize,
     count: usize,
 ) -> Part
-    requires { ⌜ Asks (now text) (now table) limit at count ⌝ }
+    requires { ⌜ ItemAsks (now text) (now table) limit at count ⌝ }
     requires { ⌜ NamePlaces (now text) ns ne ⌝ }
     requires { ⌜ kind < 8 ⌝ }
     ensures { λ r. ⌜ Took (scalarAt (upTo limit) (now (text .entry)) kind ns ne at count) (now (text .entry)) limit at count (now (table .entry)) (now (table .exit)) r ⌝ }
@@ -126,7 +126,7 @@ pub(crate) fn read_value(
     at: usize,
     count: usize,
 ) -> Part
-    requires { ⌜ Asks (now text) (now table) limit at count ⌝ }
+    requires { ⌜ ItemAsks (now text) (now table) limit at count ⌝ }
     requires { ⌜ NamePlaces (now text) ns ne ⌝ }
     ensures { λ r. ⌜ Took (valueAt (upTo limit) (now (text .entry)) depth ns ne at count) (now (text .entry)) limit at count (now (table .entry)) (now (table .exit)) r ⌝ }
 {
@@ -154,7 +154,7 @@ fn read_array(
     at: usize,
     count: usize,
 ) -> Part
-    requires { ⌜ Asks (now text) (now table) limit (at + 1) count ⌝ }
+    requires { ⌜ ItemAsks (now text) (now table) limit (at + 1) count ⌝ }
     requires { ⌜ NamePlaces (now text) ns ne ⌝ }
     ensures { λ r. ⌜ Took (arrayAt (upTo limit) (now (text .entry)) depth ns ne at count) (now (text .entry)) limit at count (now (table .entry)) (now (table .exit)) r ⌝ }
 {
@@ -182,7 +182,7 @@ fn read_object(
     at: usize,
     count: usize,
 ) -> Part
-    requires { ⌜ Asks (now text) (now table) limit (at + 1) count ⌝ }
+    requires { ⌜ ItemAsks (now text) (now table) limit (at + 1) count ⌝ }
     requires { ⌜ NamePlaces (now text) ns ne ⌝ }
     ensures { λ r. ⌜ Took (objectAt (upTo limit) (now (text .entry)) depth ns ne at count) (now (text .entry)) limit at count (now (table .entry)) (now (table .exit)) r ⌝ }
 {
@@ -211,7 +211,7 @@ fn read_container(
     at: usize,
     count: usize,
 ) -> Part
-    requires { ⌜ Asks (now text) (now table) limit (at + 1) count ⌝ }
+    requires { ⌜ ItemAsks (now text) (now table) limit (at + 1) count ⌝ }
     requires { ⌜ NamePlaces (now text) ns ne ⌝ }
     ensures { λ r. ⌜ Took (containerAt of (upTo limit) (now (text .entry)) depth ns ne at count) (now (text .entry)) limit at count (now (table .entry)) (now (table .exit)) r ⌝ }
 {
@@ -235,7 +235,7 @@ fn read_items(
     from: usize,
     first: usize,
 ) -> Part
-    requires { ⌜ Asks (now text) (now table) limit from first ⌝ }
+    requires { ⌜ ItemAsks (now text) (now table) limit from first ⌝ }
     ensures { λ r. ⌜ Took (itemsAt of (upTo limit) (now (text .entry)) depth from first) (now (text .entry)) limit from first (now (table .entry)) (now (table .exit)) r ⌝ }
 {
     let z = closing(of);
@@ -277,7 +277,7 @@ fn read_item(
     at: usize,
     count: usize,
 ) -> Part
-    requires { ⌜ Asks (now text) (now table) limit at count ⌝ }
+    requires { ⌜ ItemAsks (now text) (now table) limit at count ⌝ }
     ensures { λ r. ⌜ ((done : Forest) → StandsTo (now (table .entry)) first count done → Took (itemOf of (upTo limit) (now (text .entry)) depth done at count) (now (text .entry)) limit at count (now (table .entry)) (now (table .exit)) r) ⌝ }
 {
     match of {
@@ -296,7 +296,7 @@ fn read_member(
     at: usize,
     count: usize,
 ) -> Part
-    requires { ⌜ Asks (now text) (now table) limit at count ⌝ }
+    requires { ⌜ ItemAsks (now text) (now table) limit at count ⌝ }
     ensures { λ r. ⌜ ((done : Forest) → StandsTo (now (table .entry)) first count done → Took (memberOf (upTo limit) (now (text .entry)) (valueAt (upTo limit) (now (text .entry)) depth) done at count) (now (text .entry)) limit at count (now (table .entry)) (now (table .exit)) r) ⌝ }
 {
     let k = read_key(text, table, first, count, at);

@@ -66,12 +66,12 @@ not-empty [] n left e = let z : _≡_ {A = ℕ} 0 1 = cc in omega arith
 not-empty (m ∷ ns) n left e = let z : _≡_ {A = ℕ} 0 1 = cc in omega arith
 
 -- the pointer that is left at the value reached, where the walk goes on
-record Left (p : Pointer) (d x : Doc) (n : Name) (left : List Name) : Type 0 where
+record PointerLeft (p : Pointer) (d x : Doc) (n : Name) (left : List Name) : Type 0 where
   rest : Pointer
   has : parts rest ≡ n ∷ left
   on : walk p d ≡ walk rest x
 
-follow : {way : List Name} {d x : Doc} → Leads way d x → (p : Pointer) (n : Name) (left : List Name) → parts p ≡ way ++ (n ∷ left) → Left p d x n left
+follow : {way : List Name} {d x : Doc} → Leads way d x → (p : Pointer) (n : Name) (left : List Name) → parts p ≡ way ++ (n ∷ left) → PointerLeft p d x n left
 follow here p n left e = record { rest = p; has = e; on = refl }
 follow (into {n = m} {ns = ns} k l) (last m′) n left e = absurd (not-empty ns n left (tail-eq-of-cons-eq e))
 follow (into {n = m} {ns = ns} {ms = ms} {s = s} k l) (down m′ p) n left e =

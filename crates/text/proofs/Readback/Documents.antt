@@ -31,7 +31,7 @@ use Rattle.text.proofs.Grammar.Prefixes.{stands-drop}
 use Rattle.text.proofs.Grammar.Words.{skip-inside}
 use Rattle.text.proofs.Grammar.Sound.{Parsed}
 use Rattle.text.proofs.Grammar.Wholes.{root-told}
-use Rattle.text.proofs.Readback.Runs.{At}
+use Rattle.text.proofs.Readback.Runs.{BytesAt}
 use Rattle.text.proofs.Readback.Says.{insideOf, says, docBy, says-value, value-doc}
 use Rattle.text.proofs.Readback.Shorter.{value-shorter}
 
@@ -124,7 +124,7 @@ module _ (L : Limits) (t : List ℕ) (f : Forest) (to : ℕ) (e : readOf L t ≡
       let p : Parsed L t value (L .depth) top 0 0 (skip t 0) f (a .end) = rw (a .value) at (root-told L t) in
       let n = stands-to (p .stands) in
       let i = stands-inside (p .stands) (skip-inside t 0 (omega arith)) in
-      let here : At t (skip t 0) (p .word) = record { rest = _; there = stands-drop (p .stands); inside = omega arith } in
+      let here : BytesAt t (skip t 0) (p .word) = record { rest = _; there = stands-drop (p .stands); inside = omega arith } in
       record { word = p .word; is = p .is; inside = omega arith; doc = ap (docOf t) (p .trees) ∙ value-doc t (p .is) (skip t 0) here }
 
   pub text-lexical : Lexical (docOf t f)

@@ -12,7 +12,7 @@ use Rattle.text.specs.Tree.{Forest, none, leaf, node, join}
 use Rattle.text.specs.Grammar.{JsonString, quoted, simpleKind, opening, Part, value, Is, simple, empty, full, element, member, one, comma, JsonText, json-text, treeOf, rootOf, closing}
 use Rattle.text.specs.Doc.{Name, Doc, scalar, array, Members, boxed, labelAt, membersOf, docOf}
 use Rattle.text.proofs.Labels.{no-label}
-use Rattle.text.proofs.Readback.Runs.{At, at-left, at-right, at-behind, part-at}
+use Rattle.text.proofs.Readback.Runs.{BytesAt, at-left, at-right, at-behind, part-at}
 use Rattle.text.proofs.Grammar.Trees.{join-none, join-assoc}
 
 -- ---- what a derivation says ----
@@ -53,12 +53,12 @@ some-quote (quoted c) = omega arith
 
 module _ (t : List ℕ) where
   -- a name of the grammar
-  string-name : {m : List ℕ} (at : ℕ) (g : JsonString m) → At t at m → nameOf t (at + 1) (at + length m - 1) ≡ decode (insideOf g)
+  string-name : {m : List ℕ} (at : ℕ) (g : JsonString m) → BytesAt t at m → nameOf t (at + 1) (at + length m - 1) ≡ decode (insideOf g)
   string-name at (quoted {w} c) a =
-      let inner : At t (at + 1) (w ++ 34 ∷ []) = at-right (34 ∷ []) (w ++ 34 ∷ []) (at + 1) a refl in
+      let inner : BytesAt t (at + 1) (w ++ 34 ∷ []) = at-right (34 ∷ []) (w ++ 34 ∷ []) (at + 1) a refl in
       ap decode (part-at w (at + length (34 ∷ w ++ 34 ∷ []) - 1) (at-left w (34 ∷ []) inner) (omega (arith, length-append w (34 ∷ []))))
 
-  string-label : {m : List ℕ} (at : ℕ) → JsonString m → At t at m → labelAt t (at + 1) (at + length m - 1) ≡ m
+  string-label : {m : List ℕ} (at : ℕ) → JsonString m → BytesAt t at m → labelAt t (at + 1) (at + length m - 1) ≡ m
   string-label {m} at g a =
       let s : at + 1 - 1 ≡ at = omega arith in
       let e : at + length m ≡ at + length m - 1 + 1 = omega (arith, some-quote g) in
@@ -71,7 +71,7 @@ module _ (t : List ℕ) where
       ap₂ (λ (name : Name) (label : List ℕ). says d name label more) (n .nameless) (n .unwritten)
 
   -- the members of its tree, and of what follows
-  said : {a : Part} {w : List ℕ} (d : Is a w) (ns ne at : ℕ) (g : Forest) → At t at w
+  said : {a : Part} {w : List ℕ} (d : Is a w) (ns ne at : ℕ) (g : Forest) → BytesAt t at w
       → membersOf t (join (treeOf d ns ne at) g) ≡ says d (nameOf t ns ne) (labelAt t ns ne) (membersOf t g)
   unfolding membersOf treeOf join
   said (simple {w} k l) ns ne at g a =
@@ -79,13 +79,13 @@ module _ (t : List ℕ) where
   said (empty b p) ns ne at g a = refl
   said (full {s} {w} b p d) ns ne at g a =
       let to = at + 1 + length s in
-      let i : At t to w = at-left w (closing b ∷ []) (at-right (opening b ∷ s) (w ++ closing b ∷ []) to a (omega arith)) in
+      let i : BytesAt t to w = at-left w (closing b ∷ []) (at-right (opening b ∷ s) (w ++ closing b ∷ []) to a (omega arith)) in
       ap (λ (ms : Members). Members.member (nameOf t ns ne) (labelAt t ns ne) (boxed b ms) (membersOf t g))
       (ap (membersOf t) (sym (join-none (treeOf d 0 0 to))) ∙ said d 0 0 to none i ∙ says-unnamed d Members.empty)
   said (element d) ns ne at g a = said d 0 0 at g a ∙ says-unnamed d (membersOf t g)
   said (member {m} {s} {r} {w} c p o d) ns ne at g a =
       let to = at + length m + length s + 1 + length r in
-      let here : At t at m = at-left m (s ++ 58 ∷ (r ++ w)) a in
+      let here : BytesAt t at m = at-left m (s ++ 58 ∷ (r ++ w)) a in
       said d (at + 1) (at + length m - 1) to g (at-behind 58 m s r w to a refl)
       ∙ ap₂ (λ (name : Name) (label : List ℕ). says d name label (membersOf t g)) (string-name at c here) (string-label at c here)
   said (one {v} {s} d p) ns ne at g a = said d 0 0 at g (at-left v s a) ∙ says-unnamed d (membersOf t g)
@@ -102,7 +102,7 @@ doc-members t none = refl
 doc-members t (leaf kind ns ne from to rest) = refl
 doc-members t (node b ns ne from to inside rest) = refl
 
-module _ (t : List ℕ) {w : List ℕ} (d : Is value w) (at : ℕ) (a : At t at w) where
+module _ (t : List ℕ) {w : List ℕ} (d : Is value w) (at : ℕ) (a : BytesAt t at w) where
   -- one value, without a name
   value-members : membersOf t (treeOf d 0 0 at) ≡ Members.member [] [] (docBy d) Members.empty
   unfolding membersOf

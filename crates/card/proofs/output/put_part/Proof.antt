@@ -5,12 +5,12 @@ use native.Mathlib.Omega.{arith}
 use lib.ListN.{getD}
 use Rattle.laws.specs.Lists.{partOf}
 use Rattle.laws.proofs.Parts.{part-out}
-use Rattle.card.proofs.Bytes.{Left, wrote-none, left-all, left-on, left-none, left-as, left-length, part-done, part-next}
+use Rattle.card.proofs.Bytes.{BytesLeft, wrote-none, left-all, left-on, left-none, left-as, left-length, part-done, part-next}
 use Rattle.card.proofs.output.put_part.Statement.{statement}
 use Rattle.card.proofs.output.put_part.Tie as tie
 
 abbrev Inv-loop : tie.InvT-loop
-Inv-loop text from to out₀ at i₀ p₀ out i p = Left out₀ at (partOf text from to) out p (partOf text i to)
+Inv-loop text from to out₀ at i₀ p₀ out i p = BytesLeft out₀ at (partOf text from to) out p (partOf text i to)
 
 abbrev μ-loop : tie.MeasureT-loop
 μ-loop text from to out₀ at i₀ p₀ out i p = to - i

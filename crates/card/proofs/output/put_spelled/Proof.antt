@@ -10,12 +10,12 @@ use Rattle.text.specs.Writing.{spelledByte, spelledBytes}
 use Rattle.json.specs.Cursors.{rest}
 use Rattle.card.specs.Parts.{partLeft}
 use Rattle.card.proofs.PartLaws.{named, over}
-use Rattle.card.proofs.Bytes.{Left, left-all, left-on, left-as, left-last, left-length, wrote-then}
+use Rattle.card.proofs.Bytes.{BytesLeft, left-all, left-on, left-as, left-last, left-length, wrote-then}
 use Rattle.card.proofs.output.put_spelled.Statement.{statement}
 use Rattle.card.proofs.output.put_spelled.Tie as tie
 
 abbrev Inv-loop : tie.InvT-loop
-Inv-loop key out₀ at p₀ c₀ out p c = Left out₀ p₀ (spelledBytes (partLeft (rest key c₀)) ++ (34 ∷ [])) out p (spelledBytes (partLeft (rest key c)) ++ (34 ∷ []))
+Inv-loop key out₀ at p₀ c₀ out p c = BytesLeft out₀ p₀ (spelledBytes (partLeft (rest key c₀)) ++ (34 ∷ [])) out p (spelledBytes (partLeft (rest key c)) ++ (34 ∷ []))
 
 abbrev μ-loop : tie.MeasureT-loop
 μ-loop key out₀ at p₀ c₀ out p c = length (partLeft (rest key c))
