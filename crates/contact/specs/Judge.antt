@@ -81,14 +81,18 @@ chosen (listOf ty) d = listOf ty
 chosen (mapOf keys ty) d = mapOf keys ty
 chosen (byType usual special) d = objectOf (cond (isOf special d) special usual)
 
--- the type that is asked of a member, by its name and its value; none of an unknown property
+-- the type that stands for a member of that name; none for an unknown property
+abbrev pub typeBelow : Ty → Name → Ty
+typeBelow any n = any
+typeBelow (simple l) n = any
+typeBelow (objectOf o) n = typeIn (properties o) n
+typeBelow (listOf ty) n = ty
+typeBelow (mapOf keys ty) n = ty
+typeBelow (byType usual special) n = any
+
+-- the type that is asked of a member, by its name and its value
 abbrev pub memberType : Ty → Name → Doc → Ty
-memberType any n d = any
-memberType (simple l) n d = any
-memberType (objectOf o) n d = chosen (typeIn (properties o) n) d
-memberType (listOf ty) n d = chosen ty d
-memberType (mapOf keys ty) n d = chosen ty d
-memberType (byType usual special) n d = any
+memberType ty n d = chosen (typeBelow ty n) d
 
 -- is a key allowed? The test has the keys before it too, the nearest first
 abbrev pub keyIn : Keys → (earlier : List Name) → Name → Bool
