@@ -10,6 +10,7 @@ pub mod Roles
 pub mod Along
 pub mod ValueLaws
 pub mod Separators
+pub mod RuleLaws
 pub mod PartLaws
 pub mod PointerLaws
 pub mod MemberLaws

@@ -8,6 +8,7 @@ use mathlib.Core.Bool.{true, false}
 use mathlib.Core.List.{List}
 use mathlib.Core.Option.{none, some}
 use Rattle.laws.specs.Order.{same}
+use Rattle.laws.proofs.Orders.{same-eq}
 use Rattle.text.specs.Strings.{nameOf}
 use Rattle.text.specs.Tree.{Forest}
 use Rattle.text.specs.Tree as T
@@ -60,6 +61,7 @@ module _ (t table : List ℕ) (from end : ℕ) (n : Name) where
           found = l .ahead;
           some-found = s;
           stands = l .stands;
+          named = same-eq (nameOf t (nameStartIn table at) (nameEndIn table at)) n e;
           kinds = l .kinds;
           is = l .is ∙ seek-here t n (l .ahead) s (rw (name-at lt) at e);
         }

@@ -16,7 +16,7 @@ use Rattle.text.specs.Firsts.{HasFirst, Kinds, kindAt, nameStart, nameEnd, insi
 use Rattle.text.specs.Standing.{StandsTo}
 use Rattle.text.specs.Doc.{Name, Doc, scalar, array, object, membersOf, docOf, below, countOf}
 use Rattle.text.proofs.Promise.{first-row, inside, after, some-at, none-at, doc-kind, doc-token, doc-below, members-first, members-none, count-doc}
-use Rattle.contact.specs.Schema.{ObjectType, SimpleType, anyString, exactly, flag, yes, count, time, Ty, any, simple, objectOf, listOf, mapOf, fits, fitsSimple}
+use Rattle.contact.specs.Schema.{ObjectType, SimpleType, anyString, exactly, flag, yes, count, time, Ty, any, simple, objectOf, listOf, mapOf, byType, fits, fitsSimple}
 use Rattle.contact.specs.Judge.{memberType, keyFits, rowNumber, Breach, nothing, found, onRow, orElse, breachOf, breachAmong}
 use Rattle.json.specs.Rows.{nameStartIn, nameEndIn, belowIn}
 use Rattle.card.specs.Types.{NotObject}
@@ -64,6 +64,8 @@ module _ (t : List ℕ) (f : Forest) (s : HasFirst f) where
   row-value (listOf ty) false n e = rw (doc-kind t f s, e)
   row-value (mapOf keys ty) true n e = rw (doc-kind t f s, e)
   row-value (mapOf keys ty) false n e = rw (doc-kind t f s, e)
+  row-value (byType usual special) true n e = rw (doc-kind t f s, e)
+  row-value (byType usual special) false n e = rw (doc-kind t f s, e)
 
 -- ---- what is below ----
 
@@ -89,7 +91,7 @@ breach-below ty key row d e = breach-steps ty key row d ∙ ap (λ m. onRow m ro
 -- the first of the members, and those after it
 among-first : (t : List ℕ) (ty : Ty) (earlier : List Name) (at : ℕ) (ws : Forest) → HasFirst ws
     → breachAmong ty earlier at (membersOf t ws)
-    ≡ orElse (breachOf (memberType ty (nameOf t (nameStart ws) (nameEnd ws))) (keyFits ty earlier (nameOf t (nameStart ws) (nameEnd ws))) at (docOf t ws))
+    ≡ orElse (breachOf (memberType ty (nameOf t (nameStart ws) (nameEnd ws)) (docOf t ws)) (keyFits ty earlier (nameOf t (nameStart ws) (nameEnd ws))) at (docOf t ws))
     (breachAmong ty (nameOf t (nameStart ws) (nameEnd ws) ∷ earlier) (at + 1 + belowAt ws) (membersOf t (restAt ws)))
 unfolding breachAmong breachOf
 among-first t ty earlier at ws s =
@@ -136,7 +138,7 @@ module _ (t table : List ℕ) (ty : Ty) (key : Bool) (row end : ℕ) where
     kinds-here = g f v k .kinds
 
     -- the breach of the value here, of the type and key that the code has asked
-    module _ (inner : Ty) (fit : Bool) (b : Breach) (typed : inner ≡ memberType ty (nameOf t (nameStartIn table at) (nameEndIn table at)))
+    module _ (inner : Ty) (fit : Bool) (b : Breach) (typed : inner ≡ memberType ty (nameOf t (nameStartIn table at) (nameEndIn table at)) (docOf t here))
         (keyed : (earlier : List Name) → fit ≡ keyFits ty earlier (nameOf t (nameStartIn table at) (nameEndIn table at)))
         (is : b ≡ breachOf inner fit at (docOf t here)) where
       rest-of : Breach
@@ -149,7 +151,7 @@ module _ (t table : List ℕ) (ty : Ty) (key : Bool) (row end : ℕ) where
           let r = first-row here some-here (g f v k .stands .stands) in
           let n : nameOf t (nameStartIn table at) (nameEndIn table at) ≡ nameOf t (nameStart here) (nameEnd here) = rw (r .name-start, r .name-end) in
           let name = nameOf t (nameStart here) (nameEnd here) in
-          let q : breachOf (memberType ty name) (keyFits ty (g f v k .earlier) name) at (docOf t here) ≡ b =
+          let q : breachOf (memberType ty name (docOf t here)) (keyFits ty (g f v k .earlier) name) at (docOf t here) ≡ b =
           rw (is, typed, keyed (g f v k .earlier), n) refl in
           g f v k .is ∙ among-first t ty (g f v k .earlier) at here some-here ∙ ap (λ x. orElse x rest-of) q
 

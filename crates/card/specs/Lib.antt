@@ -2,6 +2,7 @@ pub mod Types
 pub mod Table
 pub mod Rows
 pub mod Marks
+pub mod RuleTable
 pub mod Parts
 pub mod Pointers
 pub mod Entries

@@ -3,10 +3,12 @@ use Prim.Native.Nat.{ℕ, _<_}
 use mathlib.Core.Path.{_≡_}
 use mathlib.Core.List.{List}
 use mathlib.Core.Option.{none, some}
+use Rattle.text.specs.Strings.{nameOf}
 use Rattle.text.specs.Tree.{Forest}
 use Rattle.text.specs.Firsts.{HasFirst, Kinds, nameStart, nameEnd}
 use Rattle.text.specs.Standing.{StandsTo}
 use Rattle.text.specs.Doc.{Name, Property, property, labelAt, docOf, membersOf, seek}
+use Rattle.json.specs.Rows.{nameStartIn, nameEndIn}
 use Rattle.card.specs.declared.members.Found.{Found}
 use Rattle.card.specs.declared.members.Found.the-variants.{Row, Nothing}
 
@@ -23,6 +25,7 @@ pub record Standing (t table : List ℕ) (end : ℕ) (n : Name) (f : Forest) (m 
   pub found : Forest
   pub some-found : HasFirst found
   pub stands : StandsTo table m end found
+  pub named : nameOf t (nameStartIn table m) (nameEndIn table m) ≡ n
   pub kinds : Kinds f → Kinds found
   pub is : seek n (membersOf t f) ≡ some (firstMember t found)
 

@@ -2,13 +2,11 @@
 use Prim.Native.Nat.{ℕ}
 use mathlib.Core.Path.{_≡_}
 use mathlib.Core.List.{List}
-use mathlib.Core.Bool.{cond}
 use mathlib.Core.Option.{Option, none, some}
-use lib.Dec.{eqb}
 use Rattle.text.specs.Tree.{Forest}
 use Rattle.text.specs.Firsts.{HasFirst, Kinds}
 use Rattle.text.specs.Standing.{Stands}
-use Rattle.text.specs.Doc.{Property, docOf, kindOf}
+use Rattle.text.specs.Doc.{Property, docOf}
 use Rattle.card.specs.declared.members.Found.{Found}
 use Rattle.card.specs.declared.members.Found.the-variants.{Row, Nothing}
 
@@ -29,8 +27,3 @@ RowOf text table (Row k) (some p) = (f : Forest) × ValueAt table k f × (p .con
 RowOf text table (Row k) none = ⊥
 RowOf text table Nothing (some p) = ⊥
 RowOf text table Nothing none = Prim.Unit {0}
-
--- a member of another kind counts as absent
-abbrev pub ofKind : ℕ → Option Property → Option Property
-ofKind kind none = none
-ofKind kind (some p) = cond (eqb (kindOf (p .content)) kind) (some p) none

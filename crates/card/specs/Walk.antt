@@ -9,7 +9,8 @@ use Rattle.text.specs.Doc.{Members}
 use Rattle.contact.specs.Schema.{ObjectType, Ty, properties}
 use Rattle.contact.specs.Rules.{breaks}
 use Rattle.contact.specs.Judge as J
-use Rattle.contact.specs.Judge.{lacking, allowed}
+use Rattle.contact.specs.Judge.{lacking}
+use Rattle.card.specs.Types.{allowedAs}
 use Rattle.card.specs.declared.walk.Breach.{Breach}
 use Rattle.card.specs.declared.walk.Breach.the-variants.{Nothing, At}
 
@@ -23,7 +24,7 @@ objectNumber o key ms =
 -- 13 on the first value, for its key or for itself
 unfoldable pub valueNumber : Ty → (key : Bool) → List ℕ → Forest → ℕ
 valueNumber ty key t f =
-    let own : ℕ = cond (allowed ty (kindAt f) (partOf t (startAt f) (endAt f))) 0 13 in
+    let own : ℕ = cond (allowedAs ty (kindAt f) (partOf t (startAt f) (endAt f))) 0 13 in
     cond key own 13
 
 -- a breach of the code

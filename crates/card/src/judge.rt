@@ -1,6 +1,6 @@
 // Judging a text as a card.
+use crate::schema::CARD;
 use crate::types::Item;
-use crate::types::Object;
 use crate::types::Ty;
 use crate::walk::Breach;
 use crate::walk::breach_at;
@@ -39,7 +39,7 @@ fn judge_rows(text: &[u8], table: &mut [u32], n: usize) -> Verdict
     requires { ⌜ ((f : Forest) × ReadInto (now text) (now table) n f) ⌝ }
     ensures { λ r. ⌜ ((f : Forest) → ReadInto (now (text .entry)) (now (table .entry)) n f → JudgedRows (now (text .entry)) (now (table .entry)) n f r (now (table .exit))) ⌝ }
 {
-    let card = Ty::One(Item::ObjectOf(Object::Card));
+    let card = Ty::One(Item::ObjectOf(CARD));
     match breach_at(text, table, 0, card, true) {
         Breach::Nothing => Verdict::Passed(n),
         Breach::At(row, number) => {

@@ -19,7 +19,7 @@ ghost use Rattle.text.specs.Doc.{docOf, membersOf, seek, isThere};
 ghost use Rattle.contact.specs.Rules.{isString, hasKind};
 ghost use Rattle.json.specs.Rows.{nameStartIn, nameEndIn, belowIn};
 ghost use Rattle.card.specs.Members.{Finds};
-ghost use Rattle.card.specs.Rows.{ValueAt, RowOf, ofKind};
+ghost use Rattle.card.specs.Rows.{ValueAt};
 
 // The row after a value and all that is below it.
 pub(crate) fn next_row(table: &[u32], at: usize) -> usize
@@ -62,47 +62,8 @@ pub(crate) fn has(text: &[u8], table: &[u32], from: usize, end: usize, name: &[u
     }
 }
 
-// Where the member of that name is, if it is of that kind.
-pub(crate) fn find_kind(
-    text: &[u8],
-    table: &[u32],
-    from: usize,
-    end: usize,
-    name: &[u8],
-    wanted: usize,
-) -> Found
-    requires { ⌜ ((f : Forest) × StandsTo (now table) from end f) ⌝ }
-    ensures { λ r. ⌜ ((f : Forest) → StandsTo (now (table .entry)) from end f → RowOf (now (text .entry)) (now (table .entry)) r (ofKind wanted (seek (now (name .entry)) (membersOf (now (text .entry)) f)))) ⌝ }
-{
-    let Found::Row(k) = find(text, table, from, end, name) else {
-        return Found::Nothing;
-    };
-    if kind(table, k) == wanted {
-        return Found::Row(k);
-    }
-    Found::Nothing
-}
-
-// Is there a member of that name and kind?
-pub(crate) fn has_kind(
-    text: &[u8],
-    table: &[u32],
-    from: usize,
-    end: usize,
-    name: &[u8],
-    wanted: usize,
-) -> bool
-    requires { ⌜ ((f : Forest) × StandsTo (now table) from end f) ⌝ }
-    ensures { λ r. ⌜ ((f : Forest) → StandsTo (now (table .entry)) from end f → r ≡ isThere (ofKind wanted (seek (now (name .entry)) (membersOf (now (text .entry)) f)))) ⌝ }
-{
-    match find_kind(text, table, from, end, name, wanted) {
-        Found::Row(_) => true,
-        Found::Nothing => false,
-    }
-}
-
 // Is the value at a row a string with that content?
-fn is_string(text: &[u8], table: &[u32], k: usize, content: &[u8]) -> bool
+pub(crate) fn is_string(text: &[u8], table: &[u32], k: usize, content: &[u8]) -> bool
     ensures { λ r. ⌜ ((f : Forest) → ValueAt (now (table .entry)) k f → r ≡ isString (now (content .entry)) (docOf (now (text .entry)) f)) ⌝ }
 {
     if kind(table, k) != STRING {

@@ -1,10 +1,10 @@
 // The one table of the known properties of a card's types.
 // A new property is a line in contact/specs/Schema.antt and, at the same place of its type, one in NAMES and one in KNOWN; COUNT, and `count` in
-// specs/Table.antt, go up by one. The proofs compute over the table.
+// specs/Table.antt, go up by one. A new object type is a number here, a line of TYPE_NAMES and its properties; TYPES, and `typeCount` there, go up by
+// one. The proofs compute over the table.
 use crate::rows::has;
 use crate::types::Item;
 use crate::types::Keys;
-use crate::types::Object;
 use crate::types::Ty;
 use json::names::name_is;
 use json::names::part_is;
@@ -12,13 +12,14 @@ ghost use mathlib.Core.Path.{_≡_};
 ghost use Prim.Native.Nat.{_*_, _≤_, _<_};
 ghost use lib.ListN.{length, getD, drop};
 ghost use Rattle.laws.specs.Order.{same};
+ghost use Rattle.text.specs.Text.{bytes};
 ghost use Rattle.text.specs.Strings.{decode, nameOf};
 ghost use Rattle.text.specs.Tree.{Forest};
 ghost use Rattle.text.specs.Standing.{StandsTo};
 ghost use Rattle.text.specs.Doc.{membersOf, seek, isThere};
-ghost use Rattle.contact.specs.Schema.{properties, typeIn};
+ghost use Rattle.contact.specs.Schema.{properties, ownName, typeIn};
 ghost use Rattle.contact.specs.Judge.{lacking};
-ghost use Rattle.card.specs.Types.{numberOf, objectType, typeName, typeOf, itemType, objectAt, itemAt, typeAt};
+ghost use Rattle.card.specs.Types.{typeOf, itemType, itemAt, typeAt};
 ghost use Rattle.card.specs.Table.{count, nameWidth, wordOf, WordEnd, lines, noLine, isOwned, isProperty, isMissing, CodeOf};
 
 // ---- the table
@@ -56,13 +57,13 @@ const OBJECT: u32 = 32;
 const NAME_OF: u32 = 64;
 
 // The object types.
-const CARD: u32 = 0;
+pub(crate) const CARD: u32 = 0;
 
-const NAME: u32 = 1;
+pub(crate) const NAME: u32 = 1;
 
 const NAME_COMPONENT: u32 = 2;
 
-const ADDRESS: u32 = 3;
+pub(crate) const ADDRESS: u32 = 3;
 
 const ADDRESS_COMPONENT: u32 = 4;
 
@@ -73,7 +74,7 @@ const PHONE: u32 = 6;
 // How many object types there are, and the bytes for each name.
 const TYPES: usize = 7;
 
-const WIDTH: usize = 20;
+pub(crate) const WIDTH: usize = 20;
 
 // The names of the object types, by their numbers.
 const TYPE_NAMES: [u8; TYPES * WIDTH] = *b"\
@@ -201,21 +202,6 @@ const KNOWN: [u32; COUNT] = [
     PHONE * HAS + STRING, // label
 ];
 
-// The number of an object type in the table.
-fn number_of(o: Object) -> u32
-    ensures { λ r. ⌜ r ≡ numberOf (objectType o) ⌝ }
-{
-    match o {
-        Object::Card => CARD,
-        Object::Name => NAME,
-        Object::NameComponent => NAME_COMPONENT,
-        Object::Address => ADDRESS,
-        Object::AddressComponent => ADDRESS_COMPONENT,
-        Object::EmailAddress => EMAIL_ADDRESS,
-        Object::Phone => PHONE,
-    }
-}
-
 // The end of the word that begins at a place: the next space.
 fn word_end(names: &[u8], from: usize) -> usize
     requires { ⌜ from ≤ length (now names) ⌝ }
@@ -232,7 +218,7 @@ fn word_end(names: &[u8], from: usize) -> usize
 }
 
 // The word with that number among words of the same width, without the spaces after it.
-fn word_at(names: &[u8], i: usize) -> &[u8]
+pub(crate) fn word_at(names: &[u8], i: usize) -> &[u8]
     requires { ⌜ i * nameWidth ≤ length (now names) ⌝ }
     ensures { λ r. ⌜ now r ≡ wordOf (drop (i * nameWidth) (now (names .entry))) ⌝ }
 {
@@ -244,32 +230,20 @@ fn word_at(names: &[u8], i: usize) -> &[u8]
 // Is a name of a text, decoded, that of property i?
 fn named(text: &[u8], s: usize, e: usize, i: usize) -> bool
     requires { ⌜ i < count ⌝ }
-    ensures { λ r. ⌜ r ≡ same (nameOf (now (text .entry)) s e) (getD lines i noLine .known .spelling) ⌝ }
+    ensures { λ r. ⌜ r ≡ same (nameOf (now (text .entry)) s e) (getD lines i noLine .what .spelling) ⌝ }
 {
     name_is(text, s, e, word_at(&NAMES, i))
 }
 
-// Do a string's inner bytes decode to the name of the object type?
-pub(crate) fn is_type_name(content: &[u8], o: Object) -> bool
-    ensures { λ r. ⌜ r ≡ same (decode (now (content .entry))) (typeName (objectType o)) ⌝ }
+// Do a string's inner bytes decode to the name of the object type? One without a record has the empty name.
+pub(crate) fn is_type_name(content: &[u8], o: u32) -> bool
+    ensures { λ r. ⌜ r ≡ same (decode (now (content .entry))) (bytes (ownName o)) ⌝ }
 {
-    let i = number_of(o) as usize;
-    part_is(content, word_at(&TYPE_NAMES, i))
-}
-
-// The object type with that number.
-fn object_of(n: u32) -> Object
-    ensures { λ r. ⌜ objectType r ≡ objectAt n ⌝ }
-{
-    match n {
-        CARD => Object::Card,
-        NAME => Object::Name,
-        NAME_COMPONENT => Object::NameComponent,
-        ADDRESS => Object::Address,
-        ADDRESS_COMPONENT => Object::AddressComponent,
-        EMAIL_ADDRESS => Object::EmailAddress,
-        _ => Object::Phone,
+    let i = o as usize;
+    if TYPES < i {
+        return part_is(content, word_at(&TYPE_NAMES, TYPES));
     }
+    part_is(content, word_at(&TYPE_NAMES, i))
 }
 
 // The item that the lowest part of a property's number stands for.
@@ -277,10 +251,10 @@ fn item_of(n: u32) -> Item
     ensures { λ r. ⌜ itemType r ≡ itemAt n ⌝ }
 {
     if NAME_OF <= n {
-        return Item::TypeName(object_of(n - NAME_OF));
+        return Item::TypeName(n - NAME_OF);
     }
     if OBJECT <= n {
-        return Item::ObjectOf(object_of(n - OBJECT));
+        return Item::ObjectOf(n - OBJECT);
     }
     match n {
         STRING => Item::AnyString,
@@ -318,23 +292,23 @@ fn code_at(i: usize) -> u32
 // Is property i mandatory?
 fn is_needed(i: usize) -> bool
     requires { ⌜ i < count ⌝ }
-    ensures { λ r. ⌜ r ≡ getD lines i noLine .known .mandatory ⌝ }
+    ensures { λ r. ⌜ r ≡ getD lines i noLine .what .mandatory ⌝ }
 {
     code_at(i) / MUST % 2 == 1
 }
 
 // Is property i one of the object type's?
-fn is_owned(o: Object, i: usize) -> bool
+fn is_owned(o: u32, i: usize) -> bool
     requires { ⌜ i < count ⌝ }
-    ensures { λ r. ⌜ r ≡ isOwned (objectType o) (getD lines i noLine) ⌝ }
+    ensures { λ r. ⌜ r ≡ isOwned o (getD lines i noLine) ⌝ }
 {
-    code_at(i) / HAS == number_of(o)
+    code_at(i) / HAS == o
 }
 
 // Is a name of a text, decoded, that of property i of the object type?
-fn is_property(text: &[u8], o: Object, s: usize, e: usize, i: usize) -> bool
+fn is_property(text: &[u8], o: u32, s: usize, e: usize, i: usize) -> bool
     requires { ⌜ i < count ⌝ }
-    ensures { λ r. ⌜ r ≡ isProperty (objectType o) (nameOf (now (text .entry)) s e) (getD lines i noLine) ⌝ }
+    ensures { λ r. ⌜ r ≡ isProperty o (nameOf (now (text .entry)) s e) (getD lines i noLine) ⌝ }
 {
     if !is_owned(o, i) {
         return false;
@@ -346,16 +320,16 @@ fn is_property(text: &[u8], o: Object, s: usize, e: usize, i: usize) -> bool
 fn has_property(text: &[u8], table: &[u32], from: usize, end: usize, i: usize) -> bool
     requires { ⌜ i < count ⌝ }
     requires { ⌜ ((f : Forest) × StandsTo (now table) from end f) ⌝ }
-    ensures { λ r. ⌜ ((f : Forest) → StandsTo (now (table .entry)) from end f → r ≡ isThere (seek (getD lines i noLine .known .spelling) (membersOf (now (text .entry)) f))) ⌝ }
+    ensures { λ r. ⌜ ((f : Forest) → StandsTo (now (table .entry)) from end f → r ≡ isThere (seek (getD lines i noLine .what .spelling) (membersOf (now (text .entry)) f))) ⌝ }
 {
     has(text, table, from, end, word_at(&NAMES, i))
 }
 
 // Is property i a mandatory one of the object type, and not there?
-fn is_missing(text: &[u8], table: &[u32], from: usize, end: usize, o: Object, i: usize) -> bool
+fn is_missing(text: &[u8], table: &[u32], from: usize, end: usize, o: u32, i: usize) -> bool
     requires { ⌜ i < count ⌝ }
     requires { ⌜ ((f : Forest) × StandsTo (now table) from end f) ⌝ }
-    ensures { λ r. ⌜ ((f : Forest) → StandsTo (now (table .entry)) from end f → r ≡ isMissing (objectType o) (membersOf (now (text .entry)) f) (getD lines i noLine)) ⌝ }
+    ensures { λ r. ⌜ ((f : Forest) → StandsTo (now (table .entry)) from end f → r ≡ isMissing o (membersOf (now (text .entry)) f) (getD lines i noLine)) ⌝ }
 {
     if !is_owned(o, i) {
         return false;
@@ -367,9 +341,9 @@ fn is_missing(text: &[u8], table: &[u32], from: usize, end: usize, o: Object, i:
 }
 
 // Is a mandatory member of the object type missing?
-pub(crate) fn is_lacking(text: &[u8], table: &[u32], from: usize, end: usize, o: Object) -> bool
+pub(crate) fn is_lacking(text: &[u8], table: &[u32], from: usize, end: usize, o: u32) -> bool
     requires { ⌜ ((f : Forest) × StandsTo (now table) from end f) ⌝ }
-    ensures { λ r. ⌜ ((f : Forest) → StandsTo (now (table .entry)) from end f → r ≡ lacking (properties (objectType o)) (membersOf (now (text .entry)) f)) ⌝ }
+    ensures { λ r. ⌜ ((f : Forest) → StandsTo (now (table .entry)) from end f → r ≡ lacking (properties o) (membersOf (now (text .entry)) f)) ⌝ }
 {
     let mut i: usize = 0;
     while i < COUNT {
@@ -382,8 +356,8 @@ pub(crate) fn is_lacking(text: &[u8], table: &[u32], from: usize, end: usize, o:
 }
 
 // The type of a member of that name in an object of that type.
-pub(crate) fn type_in(text: &[u8], o: Object, s: usize, e: usize) -> Ty
-    ensures { λ r. ⌜ typeOf r ≡ typeIn (properties (objectType o)) (nameOf (now (text .entry)) s e) ⌝ }
+pub(crate) fn type_in(text: &[u8], o: u32, s: usize, e: usize) -> Ty
+    ensures { λ r. ⌜ typeOf r ≡ typeIn (properties o) (nameOf (now (text .entry)) s e) ⌝ }
 {
     let mut i: usize = 0;
     while i < COUNT {

@@ -23,19 +23,8 @@ ghost use Rattle.laws.specs.Order.{same};
 ghost use Rattle.text.specs.Strings.{nameOf, contentOf};
 ghost use Rattle.text.specs.Doc.{Name};
 ghost use Rattle.contact.specs.Schema.{fits};
-ghost use Rattle.contact.specs.Judge.{allowed, memberType, keyFits};
-ghost use Rattle.card.specs.Types.{typeOf, itemType, AsObject, innerType};
-
-// Object types.
-pub(crate) enum Object {
-    Card,
-    Name,
-    NameComponent,
-    Address,
-    AddressComponent,
-    EmailAddress,
-    Phone,
-}
+ghost use Rattle.contact.specs.Judge.{typeBelow, keyFits};
+ghost use Rattle.card.specs.Types.{typeOf, itemType, AsObject, innerType, allowedAs};
 
 // The keys of a map: any, or Ids.
 pub(crate) enum Keys {
@@ -43,13 +32,13 @@ pub(crate) enum Keys {
     Ids,
 }
 
-// What a value may have to be, or each value of a list or a map.
+// What a value may have to be, or each value of a list or a map. An object type is its number in the table.
 pub(crate) enum Item {
     // of an unknown property: nothing is judged
     Any,
     AnyString,
     // the name of that object type
-    TypeName(Object),
+    TypeName(u32),
     // "1.0"
     Version,
     Flag,
@@ -58,7 +47,7 @@ pub(crate) enum Item {
     // an unsigned integer from the one to the other
     Count(u64, u64),
     Time,
-    ObjectOf(Object),
+    ObjectOf(u32),
     // an object whose members aren't judged
     AnyObject,
 }
@@ -111,7 +100,7 @@ pub(crate) fn kind_fits(ty: Ty, kind: usize) -> bool
 
 // What a type is for the rules on objects.
 pub(crate) enum Role {
-    As(Object),
+    As(u32),
     Other,
 }
 
@@ -157,9 +146,9 @@ fn inner(ty: Ty) -> Ty
     }
 }
 
-// The type of a member of that name.
+// The type that stands for a member of that name.
 pub(crate) fn member_type(text: &[u8], ty: Ty, s: usize, e: usize) -> Ty
-    ensures { λ r. ⌜ typeOf r ≡ memberType (typeOf ty) (nameOf (now (text .entry)) s e) ⌝ }
+    ensures { λ r. ⌜ typeOf r ≡ typeBelow (typeOf ty) (nameOf (now (text .entry)) s e) ⌝ }
 {
     match role_of(ty) {
         Role::As(o) => type_in(text, o, s, e),
@@ -204,7 +193,7 @@ pub(crate) fn is_content(text: &[u8], from: usize, to: usize, lit: &[u8]) -> boo
 
 // Is a value of that kind, which may be such an item, allowed as one?
 fn item_allows(text: &[u8], item: Item, kind: usize, from: usize, to: usize) -> bool
-    ensures { λ r. ⌜ r ≡ allowed (itemType item) kind (partOf (now (text .entry)) from to) ⌝ }
+    ensures { λ r. ⌜ r ≡ allowedAs (itemType item) kind (partOf (now (text .entry)) from to) ⌝ }
 {
     match item {
         Item::Any => true,
@@ -222,7 +211,7 @@ fn item_allows(text: &[u8], item: Item, kind: usize, from: usize, to: usize) -> 
 
 // Is a value of that kind, whose token stands from a place up to another, allowed?
 pub(crate) fn allows(text: &[u8], ty: Ty, kind: usize, from: usize, to: usize) -> bool
-    ensures { λ r. ⌜ r ≡ allowed (typeOf ty) kind (partOf (now (text .entry)) from to) ⌝ }
+    ensures { λ r. ⌜ r ≡ allowedAs (typeOf ty) kind (partOf (now (text .entry)) from to) ⌝ }
 {
     match ty {
         Ty::One(item) => item_allows(text, item, kind, from, to),

@@ -2,7 +2,6 @@
 use crate::rows::next_row;
 use crate::rules::breaks;
 use crate::schema::is_lacking;
-use crate::types::Object;
 use crate::types::Role;
 use crate::types::Ty;
 use crate::types::allows;
@@ -21,7 +20,7 @@ ghost use Rattle.text.specs.Firsts.{Kinds};
 ghost use Rattle.text.specs.Standing.{StandsTo};
 ghost use Rattle.text.specs.Doc.{docOf, membersOf};
 ghost use Rattle.contact.specs.Judge.{rowNumber, breachOf};
-ghost use Rattle.card.specs.Types.{typeOf, objectType};
+ghost use Rattle.card.specs.Types.{typeOf};
 ghost use Rattle.card.specs.Rows.{ValueAt};
 ghost use Rattle.card.specs.Walk.{objectNumber, valueNumber, foundOf};
 
@@ -32,9 +31,9 @@ pub(crate) enum Breach {
 }
 
 // 12 to 14 on an object of a type, whose members are the rows from .. end.
-fn object_number(text: &[u8], table: &[u32], from: usize, end: usize, o: Object, key: bool) -> usize
+fn object_number(text: &[u8], table: &[u32], from: usize, end: usize, o: u32, key: bool) -> usize
     requires { ⌜ ((f : Forest) × StandsTo (now table) from end f) ⌝ }
-    ensures { λ r. ⌜ ((f : Forest) → StandsTo (now (table .entry)) from end f → r ≡ objectNumber (objectType o) key (membersOf (now (text .entry)) f)) ⌝ }
+    ensures { λ r. ⌜ ((f : Forest) → StandsTo (now (table .entry)) from end f → r ≡ objectNumber o key (membersOf (now (text .entry)) f)) ⌝ }
 {
     if is_lacking(text, table, from, end, o) {
         return 12;

@@ -1,14 +1,15 @@
--- The rules between members (refusal 14) as 01 says them: how a Card, a Name and an Address break one.
+-- The rules between members (refusal 14): how an object breaks one, by what the rule says and not by a test.
 -- Assumes nothing: these are definitions.
 use Prim.Native.Nat.{ℕ}
 use Prim.Native.String.{String}
 use mathlib.Core.Path.{_≡_}
-use mathlib.Core.List.{List, [], _∷_}
+use mathlib.Core.List.{List, [], _∷_, List·Memᴰ as In}
 use Rattle.laws.specs.Each.{Each, Some, Neighbours}
 use Rattle.text.specs.Text.{bytes}
 use Rattle.text.specs.Strings.{contentOf}
 use Rattle.text.specs.Doc.{Name, Doc, scalar, object, Members, empty, member, kindOf, below}
-use Rattle.contact.specs.Schema.{ObjectType, card, name, nameComponent, address, addressComponent}
+use Rattle.contact.specs.Schema.{ObjectType, Rule, oneOf, needs, needsString, needsTrue, rulesOf}
+use Rattle.contact.specs.Schema as S
 use Rattle.contact.specs.AskedKinds.{Tabled}
 
 -- ---- members
@@ -31,9 +32,9 @@ Absent o ms n = (d : Doc) → ¬ Counts o ms n d
 pub data IsString (content : String) : Doc → Type 0 where
   string : {token : List ℕ} → contentOf token ≡ bytes content → IsString content (scalar 5 token)
 
--- without true `isOrdered`
-abbrev pub Unordered : ObjectType → Members → Type 0
-Unordered o ms = (d : Doc) → Counts o ms "isOrdered" d → ¬ (kindOf d ≡ 3)
+-- no member of that name counts that is true
+abbrev pub Untrue : ObjectType → Members → String → Type 0
+Untrue o ms n = (d : Doc) → Counts o ms n d → ¬ (kindOf d ≡ 3)
 
 -- ---- separators
 
@@ -48,30 +49,29 @@ elements (member n label d ms) = d ∷ elements ms
 
 -- ---- how the rules are broken
 
--- Card: `members` is there, and `kind` isn't "group"
-pub data BreaksCard (ms : Members) : Type 0 where
-  no-group : {d : Doc} → Counts card ms "members" d → ((k : Doc) → Counts card ms "kind" k → ¬ IsString "group" k) → BreaksCard ms
-
--- Name and Address, and the type of their entries
-pub data BreaksSeparators (o entry : ObjectType) (ms : Members) : Type 0 where
+-- how the members of an object of that type break a rule
+pub data Broken (o : ObjectType) (ms : Members) : Rule → Type 0 where
+  -- none of them is there
+  none-there : {ns : List String} → Each (Absent o ms) ns → Broken o ms (oneOf ns)
+  -- the first is there, and none of the others
+  alone : {n : String} {ns : List String} {d : Doc} → Counts o ms n d → Each (Absent o ms) ns → Broken o ms (needs n ns)
+  -- the first is there, and the other isn't a String with that content
+  other-content : {n m content : String} {d : Doc} → Counts o ms n d → ((k : Doc) → Counts o ms m k → ¬ IsString content k)
+      → Broken o ms (needsString n m content)
+  -- the first is there, and the other isn't true
+  not-so : {n m : String} {d : Doc} → Counts o ms n d → Untrue o ms m → Broken o ms (needsTrue n m)
   -- two separator entries stand in a row
-  in-a-row : {list : Doc} → Counts o ms "components" list → Neighbours (Separator entry) (elements (below list)) → BreaksSeparators o entry ms
-  -- a separator entry, without true `isOrdered`
-  unordered : {list : Doc} → Counts o ms "components" list → Some (Separator entry) (elements (below list)) → Unordered o ms → BreaksSeparators o entry ms
-  -- `defaultSeparator` without true `isOrdered`, or without `components`
-  default-unordered : {d : Doc} → Counts o ms "defaultSeparator" d → Unordered o ms → BreaksSeparators o entry ms
-  default-alone : {d : Doc} → Counts o ms "defaultSeparator" d → Absent o ms "components" → BreaksSeparators o entry ms
-
--- Name
-pub data BreaksName (ms : Members) : Type 0 where
-  -- neither `full` nor `components` is there
-  nameless : Absent name ms "full" → Absent name ms "components" → BreaksName ms
+  in-a-row : {n order : String} {entry : ObjectType} {list : Doc} → Counts o ms n list → Neighbours (Separator entry) (elements (below list))
+      → Broken o ms (S.separators n order entry)
+  -- there is a separator entry, and what orders the list isn't true
+  unordered : {n order : String} {entry : ObjectType} {list : Doc} → Counts o ms n list → Some (Separator entry) (elements (below list))
+      → Untrue o ms order → Broken o ms (S.separators n order entry)
   -- a list is there, and has no entry that isn't a separator
-  only-separators : {list : Doc} → Counts name ms "components" list → Each (Separator nameComponent) (elements (below list)) → BreaksName ms
-  separators : BreaksSeparators name nameComponent ms → BreaksName ms
+  only-separators : {n : String} {entry : ObjectType} {list : Doc} → Counts o ms n list → Each (Separator entry) (elements (below list))
+      → Broken o ms (S.notOnly n entry)
 
--- by the type; an Address may have neither `full` nor `components`, and the entry that isn't a separator isn't asked of it (house ruling)
-pub data BreaksBetween : ObjectType → Members → Type 0 where
-  of-card : {ms : Members} → BreaksCard ms → BreaksBetween card ms
-  of-name : {ms : Members} → BreaksName ms → BreaksBetween name ms
-  of-address : {ms : Members} → BreaksSeparators address addressComponent ms → BreaksBetween address ms
+-- a rule of the type is broken
+pub record BreaksBetween (o : ObjectType) (ms : Members) : Type 0 where
+  pub rule : Rule
+  pub listed : In rule (rulesOf o)
+  pub broken : Broken o ms rule

@@ -5,12 +5,13 @@ use Prim.Native.Nat.{ℕ, _+_, _≤_}
 use mathlib.Core.Path.{_≡_}
 use mathlib.Core.Bool.{true}
 use mathlib.Core.List.{List, [], _∷_, List·Memᴰ as In}
+use Rattle.text.specs.Text.{bytes}
 use Rattle.text.specs.Strings.{contentOf}
 use Rattle.text.specs.Doc.{Name, Doc, scalar, array, object, Members, empty, member, kindOf, tokenOf, below, countOf}
-use Rattle.contact.specs.Schema.{ObjectType, exactly, yes, count, time, Keys, ids, Ty, simple, objectOf, listOf, mapOf, card, Known, properties}
+use Rattle.contact.specs.Schema.{ObjectType, exactly, yes, count, time, Keys, ids, Ty, simple, objectOf, any, listOf, mapOf, byType, SimpleType, card, Known, properties, ownName}
 use Rattle.contact.specs.SimpleValues.{Id, UnsignedInt, UTCDateTime}
 use Rattle.contact.specs.AskedKinds.{Suits}
-use Rattle.contact.specs.BetweenMembers.{HasMember, BreaksBetween}
+use Rattle.contact.specs.BetweenMembers.{HasMember, IsString, BreaksBetween}
 
 -- ---- what the rules see of a value
 
@@ -27,11 +28,27 @@ pub data Under : Type 0 where
   unkeyed : Under
   key : Keys → (earlier : List Name) → Name → Under
 
--- the type of what stands below a value of a type, by its name there; unknown properties have none
-pub data Gives : Ty → (earlier : List Name) → Name → Ty → Under → Type 0 where
-  of-object : {k : Known} {earlier : List Name} {o : ObjectType} → In k (properties o) → Gives (objectOf o) earlier (k .spelling) (k .type) unkeyed
-  of-list : {ty : Ty} {earlier : List Name} {n : Name} → Gives (listOf ty) earlier n ty unkeyed
-  of-map : {keys : Keys} {ty : Ty} {earlier : List Name} {n : Name} → Gives (mapOf keys ty) earlier n ty (key keys earlier n)
+-- an object whose `@type` is the own name of that type
+pub data IsOf (o : ObjectType) : Doc → Type 0 where
+  named : {ms : Members} {type : Doc} → HasMember ms (bytes "@type") type → IsString (ownName o) type → IsOf o (object ms)
+
+-- the type that is asked of a value where a type stands: that one itself, or the one of two that its `@type` chooses
+pub data Chooses : Ty → Doc → Ty → Type 0 where
+  nothing : {d : Doc} → Chooses any d any
+  value : {l : SimpleType} {d : Doc} → Chooses (simple l) d (simple l)
+  typed : {o : ObjectType} {d : Doc} → Chooses (objectOf o) d (objectOf o)
+  list : {ty : Ty} {d : Doc} → Chooses (listOf ty) d (listOf ty)
+  map : {keys : Keys} {ty : Ty} {d : Doc} → Chooses (mapOf keys ty) d (mapOf keys ty)
+  special-one : {usual special : ObjectType} {d : Doc} → IsOf special d → Chooses (byType usual special) d (objectOf special)
+  usual-one : {usual special : ObjectType} {d : Doc} → ¬ IsOf special d → Chooses (byType usual special) d (objectOf usual)
+
+-- the type of a value that stands below a value of a type, by its name there and by itself; unknown properties have none
+pub data Gives : Ty → (earlier : List Name) → Name → Doc → Ty → Under → Type 0 where
+  of-object : {k : Known} {earlier : List Name} {o : ObjectType} {d : Doc} {ty : Ty} → In k (properties o) → Chooses (k .type) d ty
+      → Gives (objectOf o) earlier (k .spelling) d ty unkeyed
+  of-list : {ty ty′ : Ty} {earlier : List Name} {n : Name} {d : Doc} → Chooses ty d ty′ → Gives (listOf ty) earlier n d ty′ unkeyed
+  of-map : {keys : Keys} {ty ty′ : Ty} {earlier : List Name} {n : Name} {d : Doc} → Chooses ty d ty′
+      → Gives (mapOf keys ty) earlier n d ty′ (key keys earlier n)
 
 -- Among members, after some whose names are `passed`, stands a value under a name. So many values stand between the first of the members and it,
 -- those inside others too; and `earlier` are all names before its own.
@@ -45,7 +62,7 @@ pub data Among : (passed : List Name) → Members → (between : ℕ) → (earli
 pub data At (whole : Doc) : (row : ℕ) → Ty → Under → Doc → Type 0 where
   root : At whole 0 (objectOf card) unkeyed whole
   inside : {row k : ℕ} {ty ty′ : Ty} {u u′ : Under} {v d : Doc} {earlier : List Name} {n : Name}
-      → At whole row ty u v → Suits ty (kindOf v) → Among [] (below v) k earlier n d → Gives ty earlier n ty′ u′ → At whole (row + 1 + k) ty′ u′ d
+      → At whole row ty u v → Suits ty (kindOf v) → Among [] (below v) k earlier n d → Gives ty earlier n d ty′ u′ → At whole (row + 1 + k) ty′ u′ d
 
 -- ---- what a value breaks
 

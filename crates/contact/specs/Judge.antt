@@ -6,12 +6,13 @@ use mathlib.Core.List.{List, [], _∷_}
 use mathlib.Core.Bool.{Bool, true, false, not, cond, _&&_}
 use lib.Dec.{eqb}
 use Rattle.laws.specs.Order.{same}
+use Rattle.text.specs.Text.{bytes}
 use Rattle.text.specs.Strings.{contentOf}
 use Rattle.text.specs.Doc.{Name, Doc, scalar, array, object, Members, empty, member, kindOf, tokenOf, below, countOf, seek, isThere}
-use Rattle.contact.specs.Schema.{SimpleType, anyString, exactly, flag, yes, count, time, Keys, free, ids, Ty, any, simple, objectOf, listOf, mapOf, card, Known, properties, typeIn, fits}
+use Rattle.contact.specs.Schema.{SimpleType, anyString, exactly, flag, yes, count, time, Keys, free, ids, Ty, any, simple, objectOf, listOf, mapOf, byType, ObjectType, card, Known, properties, ownName, typeIn, fits}
 use Rattle.contact.specs.Values.{isId, isCount}
 use Rattle.contact.specs.Dates.{isTime}
-use Rattle.contact.specs.Rules.{breaks}
+use Rattle.contact.specs.Rules.{hasKind, breaks}
 
 -- ---- one row
 
@@ -27,6 +28,7 @@ lacks (simple l) ms = false
 lacks (objectOf o) ms = lacking (properties o) ms
 lacks (listOf ty) ms = false
 lacks (mapOf keys ty) ms = false
+lacks (byType usual special) ms = false
 
 -- 13: a value that is allowed, by its kind and its token
 abbrev pub allowedSimple : SimpleType → (kind : ℕ) → (token : List ℕ) → Bool
@@ -38,12 +40,13 @@ allowedSimple (count low high) kind token = isCount low high token
 allowedSimple time kind token = isTime (contentOf token)
 
 -- of a value of a type: only simple ones are asked
-abbrev pub allowed : Ty → (kind : ℕ) → (token : List ℕ) → Bool
-allowed any kind token = true
-allowed (simple l) kind token = allowedSimple l kind token
-allowed (objectOf o) kind token = true
-allowed (listOf ty) kind token = true
-allowed (mapOf keys ty) kind token = true
+abbrev pub allowed : Ty → Doc → Bool
+allowed any d = true
+allowed (simple l) d = allowedSimple l (kindOf d) (tokenOf d)
+allowed (objectOf o) d = true
+allowed (listOf ty) d = true
+allowed (mapOf keys ty) d = true
+allowed (byType usual special) d = true
 
 -- 14: a rule between members
 abbrev pub breaksRule : Ty → Members → Bool
@@ -52,25 +55,44 @@ breaksRule (simple l) ms = false
 breaksRule (objectOf o) ms = breaks o ms
 breaksRule (listOf ty) ms = false
 breaksRule (mapOf keys ty) ms = false
+breaksRule (byType usual special) ms = false
 
 -- The smallest number that a value breaks by itself, or 0; 11 where its kind isn't the type's, and then it isn't looked into.
 -- `key` is whether it stands under a key that its map allows: a key that is no Id is 13 on the value's row
 unfoldable pub rowNumber : Ty → (key : Bool) → Doc → ℕ
 rowNumber ty key d =
     let fine : ℕ = cond (breaksRule ty (below d)) 14 0 in
-    let value : ℕ = cond (key && allowed ty (kindOf d) (tokenOf d)) fine 13 in
+    let value : ℕ = cond (key && allowed ty d) fine 13 in
     let whole : ℕ = cond (lacks ty (below d)) 12 value in
     cond (fits ty (kindOf d)) whole 11
 
 -- ---- what stands below
 
--- the type of a member of that name
-abbrev pub memberType : Ty → Name → Ty
-memberType any n = any
-memberType (simple l) n = any
-memberType (objectOf o) n = typeIn (properties o) n
-memberType (listOf ty) n = ty
-memberType (mapOf keys ty) n = ty
+-- is it an object whose `@type` is the own name of that type?
+unfoldable pub isOf : ObjectType → Doc → Bool
+isOf o d = let named = hasKind (bytes (ownName o)) (seek (bytes "@type") (below d)) in cond (eqb (kindOf d) 7) named false
+
+-- the type that is asked of a value where a type stands: its `@type` may choose it
+abbrev pub chosen : Ty → Doc → Ty
+chosen any d = any
+chosen (simple l) d = simple l
+chosen (objectOf o) d = objectOf o
+chosen (listOf ty) d = listOf ty
+chosen (mapOf keys ty) d = mapOf keys ty
+chosen (byType usual special) d = objectOf (cond (isOf special d) special usual)
+
+-- the type that stands for a member of that name; none for an unknown property
+abbrev pub typeBelow : Ty → Name → Ty
+typeBelow any n = any
+typeBelow (simple l) n = any
+typeBelow (objectOf o) n = typeIn (properties o) n
+typeBelow (listOf ty) n = ty
+typeBelow (mapOf keys ty) n = ty
+typeBelow (byType usual special) n = any
+
+-- the type that is asked of a member, by its name and its value
+abbrev pub memberType : Ty → Name → Doc → Ty
+memberType ty n d = chosen (typeBelow ty n) d
 
 -- is a key allowed? The test has the keys before it too, the nearest first
 abbrev pub keyIn : Keys → (earlier : List Name) → Name → Bool
@@ -84,6 +106,7 @@ keyFits (simple l) earlier n = true
 keyFits (objectOf o) earlier n = true
 keyFits (listOf ty) earlier n = true
 keyFits (mapOf keys ty) earlier n = keyIn keys earlier n
+keyFits (byType usual special) earlier n = true
 
 -- ---- the first breach
 
@@ -114,7 +137,7 @@ unfoldable mutual
   breachAmong ty earlier row empty = nothing
   breachAmong ty earlier row (member n label d ms) =
       let after = breachAmong ty (n ∷ earlier) (row + countOf d) ms in
-      orElse (breachOf (memberType ty n) (keyFits ty earlier n) row d) after
+      orElse (breachOf (memberType ty n d) (keyFits ty earlier n) row d) after
 
 -- a whole card
 abbrev pub cardBreach : Doc → Breach

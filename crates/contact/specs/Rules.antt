@@ -1,7 +1,8 @@
--- Rules between members (refusal 14), by object type. A member of the wrong kind counts as absent.
+-- The rules between members (refusal 14) by tests, one for each shape of rule. A member of the wrong kind counts as absent.
 -- Assumes nothing: these are definitions.
+use Prim.Native.String.{String}
 use mathlib.Core.List.{List, [], _∷_}
-use mathlib.Core.Bool.{Bool, false, not, cond, _&&_, _||_}
+use mathlib.Core.Bool.{Bool, true, false, not, cond, _&&_, _||_}
 use mathlib.Core.Option.{Option, none, some}
 use lib.Dec.{eqb}
 use Rattle.text.specs.Text.{bytes}
@@ -9,7 +10,7 @@ use Rattle.laws.specs.Order.{same}
 use Rattle.laws.specs.Tests.{anyMark, allMarks, adjacent}
 use Rattle.text.specs.Strings.{contentOf}
 use Rattle.text.specs.Doc.{Name, Doc, Members, empty, member, kindOf, tokenOf, below, Property, seek, isThere}
-use Rattle.contact.specs.Schema.{ObjectType, card, name, nameComponent, address, addressComponent, emailAddress, phone, Ty, properties, typeIn, fits}
+use Rattle.contact.specs.Schema.{ObjectType, Ty, Rule, oneOf, needs, needsString, needsTrue, separators, notOnly, properties, rulesOf, typeIn, fits}
 
 -- ---- members that count
 
@@ -59,33 +60,33 @@ marks (some list) = marksOf (below list)
 
 -- ---- the rules
 
--- `members` is there, and then `kind` is "group"
-unfoldable pub breaksCard : Members → Bool
-breaksCard ms = isThere (present card (bytes "members") ms) && not (isThisString (bytes "group") (present card (bytes "kind") ms))
+-- there is a member of that name, of the kind that the table asks
+abbrev pub counts : ObjectType → Members → String → Bool
+counts o ms n = isThere (present o (bytes n) ms)
 
--- Name and Address: no two separators stand in a row; without true `isOrdered` there is none; `defaultSeparator` needs true `isOrdered` and `components`
-unfoldable pub breaksSeparators : ObjectType → Members → Bool
-breaksSeparators o ms =
-    let listed = present o (bytes "components") ms in
-    let ordered = isTrue (present o (bytes "isOrdered") ms) in
-    adjacent (marks listed)
-    || (anyMark (marks listed) && not ordered)
-    || (isThere (present o (bytes "defaultSeparator") ms) && not (ordered && isThere listed))
+-- one of those names has a member
+unfoldable pub anyCounts : ObjectType → Members → List String → Bool
+anyCounts o ms [] = false
+anyCounts o ms (n ∷ ns) = counts o ms n || anyCounts o ms ns
 
--- Name: `full` or `components` is there; a list there has an entry that isn't a separator
-unfoldable pub breaksName : Members → Bool
-breaksName ms =
-    let listed = present name (bytes "components") ms in
-    not (isThere (present name (bytes "full") ms) || isThere listed)
-    || (isThere listed && allMarks (marks listed))
-    || breaksSeparators name ms
+-- `order` says how: no two separators stand in a row, and where it isn't true there is none
+unfoldable pub badlySeparated : (marks : List Bool) → (ordered : Bool) → Bool
+badlySeparated ms ordered = adjacent ms || (anyMark ms && not ordered)
 
--- in the base an Address may have neither `full` nor `components`, and the entry that isn't a separator isn't asked (house ruling)
+-- the members of an object of that type break a rule
+abbrev pub breaksOne : ObjectType → Members → Rule → Bool
+breaksOne o ms (oneOf ns) = not (anyCounts o ms ns)
+breaksOne o ms (needs n ns) = counts o ms n && not (anyCounts o ms ns)
+breaksOne o ms (needsString n m content) = counts o ms n && not (isThisString (bytes content) (present o (bytes m) ms))
+breaksOne o ms (needsTrue n m) = counts o ms n && not (isTrue (present o (bytes m) ms))
+breaksOne o ms (separators n order entry) = badlySeparated (marks (present o (bytes n) ms)) (isTrue (present o (bytes order) ms))
+breaksOne o ms (notOnly n entry) = counts o ms n && allMarks (marks (present o (bytes n) ms))
+
+-- they break one of some rules
+unfoldable pub breaksAny : ObjectType → Members → List Rule → Bool
+breaksAny o ms [] = false
+breaksAny o ms (r ∷ rs) = let more = breaksAny o ms rs in cond (breaksOne o ms r) true more
+
+-- they break a rule of the type
 abbrev pub breaks : ObjectType → Members → Bool
-breaks card ms = breaksCard ms
-breaks name ms = breaksName ms
-breaks nameComponent ms = false
-breaks address ms = breaksSeparators address ms
-breaks addressComponent ms = false
-breaks emailAddress ms = false
-breaks phone ms = false
+breaks o ms = breaksAny o ms (rulesOf o)

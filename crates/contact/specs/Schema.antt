@@ -1,11 +1,11 @@
--- The types of a card and the one table of their known properties (RFC 9553, sections 1 and 2, as 01 lists them).
--- A new property is a line here and its signature in Signatures.antt; a new object type is a constructor, its lines, its name and signatures
--- there (also in `typeWords`), and its rules between members in Rules.antt and BetweenMembers.antt.
+-- The types of a card and the one table of their known properties and rules (RFC 9553, sections 1 and 2, as 01 lists them).
+-- A new property is a line here and its signature in Signatures.antt; a new object type is its number, its record in `types` and its signatures.
 -- Assumes nothing: these are definitions.
 use Prim.Native.Nat.{ℕ}
 use Prim.Native.String.{String}
 use mathlib.Core.List.{List, [], _∷_}
 use mathlib.Core.Bool.{Bool, true, false, cond}
+use lib.ListN.{getD}
 use lib.Dec.{eqb}
 use Rattle.text.specs.Text.{bytes}
 use Rattle.laws.specs.Order.{same}
@@ -13,9 +13,37 @@ use Rattle.text.specs.Doc.{Name}
 
 -- ---- types
 
--- the objects that have known properties
-pub data ObjectType : Type 0 where
-  card name nameComponent address addressComponent emailAddress phone : ObjectType
+-- the objects that have known properties, by their place in `types`
+abbrev pub ObjectType : Type 0
+ObjectType = ℕ
+
+-- Card
+abbrev pub card : ObjectType
+card = 0
+
+-- Name
+abbrev pub name : ObjectType
+name = 1
+
+-- NameComponent
+abbrev pub nameComponent : ObjectType
+nameComponent = 2
+
+-- Address
+abbrev pub address : ObjectType
+address = 3
+
+-- AddressComponent
+abbrev pub addressComponent : ObjectType
+addressComponent = 4
+
+-- EmailAddress
+abbrev pub emailAddress : ObjectType
+emailAddress = 5
+
+-- Phone
+abbrev pub phone : ObjectType
+phone = 6
 
 -- what a value may be that holds no others
 pub data SimpleType : Type 0 where
@@ -46,6 +74,8 @@ pub data Ty : Type 0 where
   listOf : Ty → Ty
   -- an object of such values
   mapOf : Keys → Ty → Ty
+  -- an object of the special type where its `@type` is that type's own name, else of the usual one
+  byType : (usual special : ObjectType) → Ty
 
 -- `pref` is 1 to 100
 abbrev pub pref : Ty
@@ -101,42 +131,128 @@ component = must "value" string ∷ must "kind" string ∷ may "phonetic" string
 abbrev pub contact : List Known
 contact = may "contexts" keySet ∷ may "pref" pref ∷ may "label" string ∷ []
 
--- the known properties of each object type
-unfoldable pub properties : ObjectType → List Known
-properties card =
-    must "@type" (simple (exactly (bytes "Card")))
-    ∷ must "version" (simple (exactly (bytes "1.0")))
-    ∷ must "uid" string
-    ∷ may "created" (simple time)
-    ∷ may "updated" (simple time)
-    ∷ may "kind" string
-    ∷ may "language" string
-    ∷ may "prodId" string
-    ∷ may "members" keySet
-    ∷ may "name" (objectOf name)
-    ∷ may "emails" (mapOf ids (objectOf emailAddress))
-    ∷ may "phones" (mapOf ids (objectOf phone))
-    ∷ may "addresses" (mapOf ids (objectOf address))
-    ∷ may "localizations" (mapOf free anyObject)
+-- ---- rules between members
+
+-- A rule between the members of an object (refusal 14). It counts a member only as the table has it: one of the wrong kind is absent.
+pub data Rule : Type 0 where
+  -- one of these is there
+  oneOf : (members : List String) → Rule
+  -- where the first is there, so is one of the others
+  needs : (member : String) → (others : List String) → Rule
+  -- where the first is there, the other is a String with that content
+  needsString : (member other content : String) → Rule
+  -- where the first is there, the other is true
+  needsTrue : (member other : String) → Rule
+  -- of a list of such entries: no two separators stand in a row, and where `order` isn't true there is none
+  separators : (list order : String) → (entry : ObjectType) → Rule
+  -- a list of such entries, where it is there, has one that isn't a separator
+  notOnly : (list : String) → (entry : ObjectType) → Rule
+
+-- the members that a rule counts
+abbrev pub namesIn : Rule → List String
+namesIn (oneOf ns) = ns
+namesIn (needs n ns) = n ∷ ns
+namesIn (needsString n m content) = n ∷ m ∷ []
+namesIn (needsTrue n m) = n ∷ m ∷ []
+namesIn (separators list order entry) = list ∷ order ∷ []
+namesIn (notOnly list entry) = list ∷ []
+
+-- the types of the entries that it looks at
+abbrev pub entriesIn : Rule → List ObjectType
+entriesIn (oneOf ns) = []
+entriesIn (needs n ns) = []
+entriesIn (needsString n m content) = []
+entriesIn (needsTrue n m) = []
+entriesIn (separators list order entry) = entry ∷ []
+entriesIn (notOnly list entry) = entry ∷ []
+
+-- Name and Address, and the type of their entries
+abbrev pub separated : ObjectType → List Rule
+separated entry =
+    separators "components" "isOrdered" entry
+    ∷ needsTrue "defaultSeparator" "isOrdered"
+    ∷ needs "defaultSeparator" ("components" ∷ [])
     ∷ []
-properties name =
-    own "Name"
-    ∷ may "components" (listOf (objectOf nameComponent))
-    ∷ may "sortAs" (mapOf free string)
-    ∷ naming
-properties nameComponent = own "NameComponent" ∷ component
-properties address =
-    own "Address"
-    ∷ may "components" (listOf (objectOf addressComponent))
-    ∷ may "countryCode" string
-    ∷ may "coordinates" string
-    ∷ may "timeZone" string
-    ∷ may "contexts" keySet
-    ∷ may "pref" pref
-    ∷ naming
-properties addressComponent = own "AddressComponent" ∷ component
-properties emailAddress = own "EmailAddress" ∷ must "address" string ∷ contact
-properties phone = own "Phone" ∷ must "number" string ∷ may "features" keySet ∷ contact
+
+-- ---- the object types
+
+-- an object type: the name that its `@type` has, its known properties, and the rules between them
+pub record TypeRecord : Type 0 where
+  pub own : String
+  pub known : List Known
+  pub rules : List Rule
+
+-- all of them; the place of each is its number above
+unfoldable pub types : List TypeRecord
+types =
+    record {
+      own = "Card";
+      known =
+          must "@type" (simple (exactly (bytes "Card")))
+          ∷ must "version" (simple (exactly (bytes "1.0")))
+          ∷ must "uid" string
+          ∷ may "created" (simple time)
+          ∷ may "updated" (simple time)
+          ∷ may "kind" string
+          ∷ may "language" string
+          ∷ may "prodId" string
+          ∷ may "members" keySet
+          ∷ may "name" (objectOf name)
+          ∷ may "emails" (mapOf ids (objectOf emailAddress))
+          ∷ may "phones" (mapOf ids (objectOf phone))
+          ∷ may "addresses" (mapOf ids (objectOf address))
+          ∷ may "localizations" (mapOf free anyObject)
+          ∷ [];
+      rules = needsString "members" "kind" "group" ∷ [];
+    }
+    ∷ record {
+      own = "Name";
+      known =
+          own "Name"
+          ∷ may "components" (listOf (objectOf nameComponent))
+          ∷ may "sortAs" (mapOf free string)
+          ∷ naming;
+      rules = oneOf ("full" ∷ "components" ∷ []) ∷ notOnly "components" nameComponent ∷ separated nameComponent;
+    }
+    ∷ record { own = "NameComponent"; known = own "NameComponent" ∷ component; rules = [] }
+    -- an Address may have neither `full` nor `components`, and the entry that isn't a separator isn't asked of it (house ruling)
+    ∷ record {
+      own = "Address";
+      known =
+          own "Address"
+          ∷ may "components" (listOf (objectOf addressComponent))
+          ∷ may "countryCode" string
+          ∷ may "coordinates" string
+          ∷ may "timeZone" string
+          ∷ may "contexts" keySet
+          ∷ may "pref" pref
+          ∷ naming;
+      rules = separated addressComponent;
+    }
+    ∷ record { own = "AddressComponent"; known = own "AddressComponent" ∷ component; rules = [] }
+    ∷ record { own = "EmailAddress"; known = own "EmailAddress" ∷ must "address" string ∷ contact; rules = [] }
+    ∷ record { own = "Phone"; known = own "Phone" ∷ must "number" string ∷ may "features" keySet ∷ contact; rules = [] }
+    ∷ []
+
+-- what stands behind the last one: nothing is known of it
+abbrev pub noType : TypeRecord
+noType = record { own = ""; known = []; rules = [] }
+
+-- the record of an object type
+unfoldable pub recordOf : ObjectType → TypeRecord
+recordOf o = getD types o noType
+
+-- its own name
+abbrev pub ownName : ObjectType → String
+ownName o = recordOf o .own
+
+-- its known properties
+abbrev pub properties : ObjectType → List Known
+properties o = recordOf o .known
+
+-- its rules between members
+abbrev pub rulesOf : ObjectType → List Rule
+rulesOf o = recordOf o .rules
 
 -- the type of the property of that name, by the table
 unfoldable pub typeIn : List Known → Name → Ty
@@ -161,3 +277,4 @@ fits (simple l) kind = fitsSimple l kind
 fits (objectOf o) kind = eqb kind 7
 fits (listOf ty) kind = eqb kind 6
 fits (mapOf keys ty) kind = eqb kind 7
+fits (byType usual special) kind = eqb kind 7

@@ -2,7 +2,7 @@
 -- sections 1.5 and 2 give them, and a reader of that notation. `AsSigned` says that the table (Schema.antt) is what the signatures say;
 -- proofs/Judging/Signatures.antt proves it.
 -- Assumes nothing: these are definitions.
-use Prim.Native.Nat.{ℕ}
+use Prim.Native.Nat.{ℕ, suc}
 use Prim.Native.String.{String}
 use mathlib.Core.Path.{_≡_}
 use mathlib.Core.List.{List, [], _∷_, map, List·Memᴰ as In}
@@ -10,16 +10,18 @@ use mathlib.Core.Bool.{Bool, true, false, cond}
 use mathlib.Core.Option.{Option, none, some, bind, Option·map, Option·elim}
 use lib.ListN.{length, take, drop}
 use Rattle.laws.specs.Order.{same}
+use Rattle.laws.specs.Each.{Each}
 use Rattle.text.specs.Text.{bytes}
-use Rattle.contact.specs.Schema.{ObjectType, card, name, nameComponent, address, addressComponent, emailAddress, phone, anyString, exactly, flag, yes, count, time, Keys, free, ids, Ty, any, simple, objectOf, listOf, mapOf, Known, properties, typeIn}
+use Rattle.contact.specs.Schema.{ObjectType, anyString, exactly, flag, yes, count, time, Keys, free, ids, Ty, any, simple, objectOf, listOf, mapOf, byType, Known, TypeRecord, types, properties, rulesOf, typeIn}
+use Rattle.contact.specs.AskedKinds.{Sound}
 use Rattle.contact.specs.Values.{valueFrom}
 
 -- ---- the signatures
 
 -- Name: type (attribute). After the attribute may stand the one content of a String, or the bounds of an UnsignedInt, which the RFC gives in prose.
-unfoldable pub signatures : ObjectType → List String
-signatures card =
-    "@type: String (mandatory; \"Card\")"
+unfoldable pub signatures : List (List String)
+signatures =
+    ("@type: String (mandatory; \"Card\")"
     ∷ "version: String (mandatory; \"1.0\")"
     ∷ "uid: String (mandatory)"
     ∷ "created: UTCDateTime (optional)"
@@ -33,9 +35,8 @@ signatures card =
     ∷ "phones: Id[Phone] (optional)"
     ∷ "addresses: Id[Address] (optional)"
     ∷ "localizations: String[PatchObject] (optional)"
-    ∷ []
-signatures name =
-    "@type: String (optional; \"Name\")"
+    ∷ [])
+    ∷ ("@type: String (optional; \"Name\")"
     ∷ "components: NameComponent[] (optional)"
     ∷ "sortAs: String[String] (optional)"
     ∷ "isOrdered: Boolean (optional)"
@@ -43,15 +44,13 @@ signatures name =
     ∷ "full: String (optional)"
     ∷ "phoneticScript: String (optional)"
     ∷ "phoneticSystem: String (optional)"
-    ∷ []
-signatures nameComponent =
-    "@type: String (optional; \"NameComponent\")"
+    ∷ [])
+    ∷ ("@type: String (optional; \"NameComponent\")"
     ∷ "value: String (mandatory)"
     ∷ "kind: String (mandatory)"
     ∷ "phonetic: String (optional)"
-    ∷ []
-signatures address =
-    "@type: String (optional; \"Address\")"
+    ∷ [])
+    ∷ ("@type: String (optional; \"Address\")"
     ∷ "components: AddressComponent[] (optional)"
     ∷ "countryCode: String (optional)"
     ∷ "coordinates: String (optional)"
@@ -63,40 +62,28 @@ signatures address =
     ∷ "full: String (optional)"
     ∷ "phoneticScript: String (optional)"
     ∷ "phoneticSystem: String (optional)"
-    ∷ []
-signatures addressComponent =
-    "@type: String (optional; \"AddressComponent\")"
+    ∷ [])
+    ∷ ("@type: String (optional; \"AddressComponent\")"
     ∷ "value: String (mandatory)"
     ∷ "kind: String (mandatory)"
     ∷ "phonetic: String (optional)"
-    ∷ []
-signatures emailAddress =
-    "@type: String (optional; \"EmailAddress\")"
+    ∷ [])
+    ∷ ("@type: String (optional; \"EmailAddress\")"
     ∷ "address: String (mandatory)"
     ∷ "contexts: String[Boolean] (optional)"
     ∷ "pref: UnsignedInt (optional; 1 to 100)"
     ∷ "label: String (optional)"
-    ∷ []
-signatures phone =
-    "@type: String (optional; \"Phone\")"
+    ∷ [])
+    ∷ ("@type: String (optional; \"Phone\")"
     ∷ "number: String (mandatory)"
     ∷ "features: String[Boolean] (optional)"
     ∷ "contexts: String[Boolean] (optional)"
     ∷ "pref: UnsignedInt (optional; 1 to 100)"
     ∷ "label: String (optional)"
+    ∷ [])
     ∷ []
 
 -- ---- words
-
--- what each object type is called
-unfoldable pub typeName : ObjectType → String
-typeName card = "Card"
-typeName name = "Name"
-typeName nameComponent = "NameComponent"
-typeName address = "Address"
-typeName addressComponent = "AddressComponent"
-typeName emailAddress = "EmailAddress"
-typeName phone = "Phone"
 
 -- a word, and what it stands for
 pub record Word (A : Type 0) : Type 0 where
@@ -107,6 +94,15 @@ pub record Word (A : Type 0) : Type 0 where
 abbrev pub stands : {A : Type 0} → String → A → Word A
 stands s a = record { spelling = s; means = a }
 
+-- the names of the types from a number on, each for its number
+unfoldable pub namesFrom : ObjectType → List TypeRecord → List (Word ObjectType)
+namesFrom o [] = []
+namesFrom o (r ∷ rs) = stands (r .own) o ∷ namesFrom (suc o) rs
+
+-- what each object type is called
+abbrev pub objectWords : List (Word ObjectType)
+objectWords = namesFrom 0 types
+
 -- the types of values by themselves; a PatchObject is a String[*]
 unfoldable pub typeWords : List (Word Ty)
 typeWords =
@@ -115,7 +111,7 @@ typeWords =
     ∷ stands "UnsignedInt" (simple (count 0 9007199254740991))
     ∷ stands "UTCDateTime" (simple time)
     ∷ stands "PatchObject" (mapOf free any)
-    ∷ map (λ o. stands (typeName o) (objectOf o)) (card ∷ name ∷ nameComponent ∷ address ∷ addressComponent ∷ emailAddress ∷ phone ∷ [])
+    ∷ map (λ (w : Word ObjectType). stands (w .spelling) (objectOf (w .means))) objectWords
 
 -- those of the values of an object: a Boolean there is true, as the RFC says of each String[Boolean] above
 abbrev pub valueWords : List (Word Ty)
@@ -162,9 +158,15 @@ bracketed h =
     (Option·map listOf (meaning typeWords (h .before)))
     (bind (meaning keyWords (h .before)) (λ keys. Option·map (mapOf keys) (meaning valueWords inside))))
 
+-- A|B, cut at the first bar: an object of the type B if its `@type` says so, else of the type A
+unfoldable pub choice : Halves → Option Ty
+choice h = bind (meaning objectWords (h .before)) (λ usual. Option·map (byType usual) (meaning objectWords (h .after)))
+
 -- a type without a note
 unfoldable pub typeOf : List ℕ → Option Ty
-typeOf t = Option·elim (cut "[" t) (meaning typeWords t) bracketed
+typeOf t =
+    let whole = Option·elim (cut "|" t) (meaning typeWords t) choice in
+    Option·elim (cut "[" t) whole bracketed
 
 -- a type with a note: the content of a String, or the bounds of an UnsignedInt
 unfoldable pub noted : (type note : List ℕ) → Option Ty
@@ -192,9 +194,11 @@ parsed s =
 
 -- the table is what the signatures say
 pub record AsSigned : Type 0 where
-  -- line by line, for each object type
-  pub lines : (o : ObjectType) → map parsed (signatures o) ≡ map some (properties o)
-  -- `@type` is the type's own name
-  pub own-name : (o : ObjectType) → typeIn (properties o) (bytes "@type") ≡ simple (exactly (bytes (typeName o)))
+  -- line by line, for all object types
+  pub lines : map (map parsed) signatures ≡ map (λ (r : TypeRecord). map some (r .known)) types
+  -- `@type` is the type's own name, by which the signatures of others call it
+  pub own-name : map (λ (r : TypeRecord). typeIn (r .known) (bytes "@type")) types ≡ map (λ (r : TypeRecord). simple (exactly (bytes (r .own)))) types
   -- a name has one line
   pub one-line : (o : ObjectType) (k j : Known) → In k (properties o) → In j (properties o) → k .spelling ≡ j .spelling → k ≡ j
+  -- the rules between members count names that have a line
+  pub rules : (o : ObjectType) → Each (Sound o) (rulesOf o)

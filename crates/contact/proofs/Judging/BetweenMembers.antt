@@ -1,27 +1,28 @@
 -- The tests of the rules between members decide what specs/BetweenMembers.antt says:
 --     there-test      a member of that name is there
---     between-test    a rule between members is broken, by the type
+--     rule-test       a rule is broken, by its shape
+--     between-test    a rule of the type is broken
 -- Assumes nothing.
 use Prim.Native.Nat.{ℕ}
 use Prim.Native.String.{String}
 use mathlib.Core.Path.{_≡_, refl, sym, subst}
-use mathlib.Core.Bool.{Bool, false, cond, _&&_, true≢false}
-use mathlib.Core.List.{List, [], _∷_}
+use mathlib.Core.Bool.{Bool, false, not, cond, _&&_, _||_, true≢false}
+use mathlib.Core.List.{List, [], _∷_, List·Memᴰ as In, List·Memᴰ·head as head, List·Memᴰ·tail as tail, List·Memᴰ·not-nil as not-nil, List·Memᴰ·cases-cons as cases}
 use mathlib.Core.Logic.{_⊎_, inl, inr, ⊎-elim}
 use mathlib.Core.Option.{Option, none, some}
-use Rattle.laws.specs.Order.{orderOf}
 use Rattle.laws.specs.Tests.{anyMark, allMarks, adjacent}
 use Rattle.laws.specs.Each.{Each, Some, Neighbours}
 use Rattle.laws.specs.Each as E
-use Rattle.laws.proofs.Decides.{Decides, holds, fails, told, itself, swap, equal, bytes-same, both, either, unless, lets, not-both}
+use Rattle.laws.proofs.Decides.{Decides, holds, fails, itself, swap, equal, bytes-same, both, either, unless, lets, grants}
 use Rattle.text.specs.Text.{bytes}
 use Rattle.text.specs.Strings.{contentOf}
 use Rattle.text.specs.Doc.{Name, Doc, scalar, array, object, Members, empty, member, kindOf, tokenOf, below, Property, property, seek, isThere}
-use Rattle.contact.specs.Schema.{ObjectType, card, name, nameComponent, address, addressComponent, emailAddress, phone, properties, typeIn}
-use Rattle.contact.specs.Rules.{ifFits, present, isTrue, isString, isThisString, hasKind, isSeparator, marksOf, marks, breaksCard, breaksSeparators, breaksName, breaks}
-use Rattle.contact.specs.AskedKinds.{Tabled}
-use Rattle.contact.specs.BetweenMembers.{HasMember, here, later, Counts, IsString, string, Separator, separator, elements, BreaksCard, no-group, BreaksSeparators, in-a-row, unordered, default-unordered, default-alone, BreaksName, nameless, only-separators, separators, BreaksBetween, of-card, of-name, of-address}
-use Rattle.contact.proofs.Judging.Table.{InTable, table-test}
+use Rattle.contact.specs.Schema.{ObjectType, Rule, oneOf, needs, needsString, needsTrue, properties, rulesOf, typeIn}
+use Rattle.contact.specs.Schema as S
+use Rattle.contact.specs.Rules.{ifFits, present, isTrue, isString, isThisString, hasKind, isSeparator, marksOf, marks, anyCounts, badlySeparated, breaksOne, breaksAny, breaks}
+use Rattle.contact.specs.AskedKinds.{Tabled, HasLine, Sound}
+use Rattle.contact.specs.BetweenMembers.{HasMember, here, later, Counts, Absent, IsString, string, Separator, separator, elements, Broken, none-there, alone, other-content, not-so, in-a-row, unordered, only-separators, BreaksBetween}
+use Rattle.contact.proofs.Judging.Table.{table-test, rules-sound}
 
 -- ---- members
 
@@ -62,7 +63,7 @@ data Is (P : Doc → Type 0) : Option Doc → Type 0 where
   one : (d : Doc) → P d → ((e : Doc) → P e → e ≡ d) → Is P (some d)
   no-one : ((d : Doc) → ¬ P d) → Is P none
 
-present-is : (o : ObjectType) (n : String) → InTable o (bytes n) → (ms : Members) → Is (Counts o ms n) (present o (bytes n) ms)
+present-is : (o : ObjectType) (n : String) → HasLine o n → (ms : Members) → Is (Counts o ms n) (present o (bytes n) ms)
 unfolding present
 present-is o n known ms = go (sought (bytes n) ms)
   where
@@ -72,7 +73,7 @@ present-is o n known ms = go (sought (bytes n) ms)
     pick p h u (fails f) = no-one (λ d c. f (subst (λ (x : Doc). Tabled o (bytes n) (kindOf x)) (u d (c .has)) (c .suits)))
 
     go : {x : Option Property} → Sought ms (bytes n) x → Is (Counts o ms n) (ifFits (typeIn (properties o) (bytes n)) x)
-    go (got p h u) = pick p h u (table-test o (bytes n) known (kindOf (p .content)))
+    go (got p h u) = pick p h u (table-test o n known (kindOf (p .content)))
     go (lost f) = no-one (λ d c. f d (c .has))
 
 -- a test on the value of a member that counts, which an absent one fails
@@ -81,7 +82,7 @@ module _ {P : Doc → Type 0} {Q : Doc → Type 0} (f : Option Doc → Bool) (ab
   such (one d p u) = swap (λ q. (d, p, q)) (λ h. subst Q (u (h .0) (h .1)) (h .2)) (test d)
   such (no-one g) = rw absent (fails (λ h. g (h .0) (h .1)))
 
-present-test : (o : ObjectType) (n : String) → InTable o (bytes n) → (ms : Members)
+present-test : (o : ObjectType) (n : String) → HasLine o n → (ms : Members)
     → Decides ((d : Doc) × Counts o ms n d) (isThere (present o (bytes n) ms))
 present-test o n known ms = go (present-is o n known ms)
   where
@@ -102,6 +103,15 @@ string-test s (scalar kind token) =
 string-test s (array ms) = fails (λ h. elim h [ ])
 string-test s (object ms) = fails (λ h. elim h [ ])
 
+-- the member of that name is a String with that content
+pub string-member : (n : Name) (content : String) (ms : Members)
+    → Decides ((d : Doc) × HasMember ms n d × IsString content d) (hasKind (bytes content) (seek n ms))
+string-member n content ms = go (sought n ms)
+  where
+    go : {x : Option Property} → Sought ms n x → Decides ((d : Doc) × HasMember ms n d × IsString content d) (hasKind (bytes content) x)
+    go (got p h u) = swap (λ s. (p .content, h, s)) (λ k. subst (IsString content) (u (k .0) (k .1)) (k .2)) (string-test content (p .content))
+    go (lost f) = fails (λ k. f (k .0) (k .1))
+
 -- entries of a type whose `kind` is a String
 module _ (entry : ObjectType) (kind-string : Tabled entry (bytes "kind") 5) where
   separator-is : {ms : Members} → Separator entry (object ms) → (kind : Doc) × Counts entry ms "kind" kind × IsString "separator" kind
@@ -111,15 +121,11 @@ module _ (entry : ObjectType) (kind-string : Tabled entry (bytes "kind") 5) wher
   unfolding isSeparator
   separator-test (scalar kind token) = swap (λ h. absurd (true≢false (sym (h .1)))) (λ h. elim h [ ]) (lets (equal kind 7) (itself false))
   separator-test (array ms) = fails (λ h. elim h [ ])
-  separator-test (object ms) = go (sought (bytes "kind") ms)
-    where
-      go : {x : Option Property} → Sought ms (bytes "kind") x → Decides (Separator entry (object ms)) (hasKind (bytes "separator") x)
-      go (got p h u) =
-          swap
-          (λ s. separator (record { has = h; suits = subst (Tabled entry (bytes "kind")) (sym (string-is s .0)) kind-string }) s)
-          (λ s. let k = separator-is s in subst (IsString "separator") (u (k .0) (k .1 .has)) (k .2))
-          (string-test "separator" (p .content))
-      go (lost f) = fails (λ s. let k = separator-is s in f (k .0) (k .1 .has))
+  separator-test (object ms) =
+      swap
+      (λ h. separator (record { has = h .1; suits = subst (Tabled entry (bytes "kind")) (sym (string-is (h .2) .0)) kind-string }) (h .2))
+      (λ s. let k = separator-is s in (k .0, k .1 .has, k .2))
+      (string-member (bytes "kind") "separator" ms)
 
   each-separator : (ms : Members) → Decides (Each (Separator entry) (elements ms)) (allMarks (marksOf ms))
   unfolding elements marksOf allMarks
@@ -153,113 +159,112 @@ module _ (entry : ObjectType) (kind-string : Tabled entry (bytes "kind") 5) wher
       parts (E.both p q) = inl (p, q)
       parts (E.further h) = inr h
 
--- ---- the rules
+-- ---- the rules, one by one
 
-card-test : (ms : Members) → Decides (BreaksCard ms) (breaksCard ms)
-unfolding breaksCard properties typeIn orderOf
-card-test ms =
-    swap
-    (λ h. no-group (h .0 .1) (λ k c s. h .1 (k, c, s)))
-    parts
-    (both (present-test card "members" refl ms) (unless (such (isThisString (bytes "group")) refl (string-test "group") (present-is card "kind" refl ms))))
-  where
-    parts : BreaksCard ms → ((d : Doc) × Counts card ms "members" d) × (((d : Doc) × Counts card ms "kind" d × IsString "group" d) → ⊥)
-    parts (no-group c f) = ((_, c), λ h. f (h .0) (h .1) (h .2))
+-- the only element of a list
+only : {A : Type 0} {P : A → Type 0} {x : A} {xs : List A} → Each P (x ∷ xs) → P x
+only (E.more p ps) = p
 
--- the table has what the rules on separators ask for, in an object and in its entries
-record Names (o entry : ObjectType) : Type 0 where
-  list : InTable o (bytes "components")
-  order : InTable o (bytes "isOrdered")
-  default : InTable o (bytes "defaultSeparator")
-  kind-string : Tabled entry (bytes "kind") 5
+module _ (o : ObjectType) (ms : Members) where
+  -- none of some names counts
+  absent-test : (ns : List String) → Each (HasLine o) ns → Decides (Each (Absent o ms) ns) (not (anyCounts o ms ns))
+  unfolding anyCounts
+  absent-test [] known = holds E.none
+  absent-test (n ∷ ns) (E.more k ks) = go (anyCounts o ms ns) (present-test o n k ms) (absent-test ns ks)
+    where
+      parts : Each (Absent o ms) (n ∷ ns) → Absent o ms n × Each (Absent o ms) ns
+      parts (E.more p ps) = (p, ps)
 
-module _ {o entry : ObjectType} (names : Names o entry) (ms : Members) where
-  abbrev Listed : (Doc → Type 0) → Type 0
-  Listed Q = (d : Doc) × Counts o ms "components" d × Q d
+      go : {a : Bool} (b : Bool) → Decides ((d : Doc) × Counts o ms n d) a → Decides (Each (Absent o ms) ns) (not b)
+          → Decides (Each (Absent o ms) (n ∷ ns)) (not (a || b))
+      go b (holds h) r = fails (λ e. parts e .0 (h .0) (h .1))
+      go b (fails f) r = swap (λ e. E.more (λ d c. f (d, c)) e) (λ e. parts e .1) r
 
-  abbrev Ordered : Type 0
-  Ordered = (d : Doc) × Counts o ms "isOrdered" d × (kindOf d ≡ 3)
-
-  ordered : Decides Ordered (isTrue (present o (bytes "isOrdered") ms))
-  ordered = such isTrue refl (λ d. equal (kindOf d) 3) (present-is o "isOrdered" (names .order) ms)
+  true-test : (n : String) → HasLine o n → Decides ((d : Doc) × Counts o ms n d × (kindOf d ≡ 3)) (isTrue (present o (bytes n) ms))
+  true-test n known = such isTrue refl (λ d. equal (kindOf d) 3) (present-is o n known ms)
 
   -- a test on the marks of a list that counts
   marked : {Q : Members → Type 0} (f : List Bool → Bool) → f [] ≡ false → ((es : Members) → Decides (Q es) (f (marksOf es)))
-      → Decides (Listed (λ d. Q (below d))) (f (marks (present o (bytes "components") ms)))
-  marked f empty-fails test = such (λ x. f (marks x)) empty-fails (λ d. test (below d)) (present-is o "components" (names .list) ms)
+      → (n : String) → HasLine o n → Decides ((d : Doc) × Counts o ms n d × Q (below d)) (f (marks (present o (bytes n) ms)))
+  marked f empty-fails test n known = such (λ x. f (marks x)) empty-fails (λ d. test (below d)) (present-is o n known ms)
 
-  -- the three ways of the test
-  abbrev Ways : Type 0
-  Ways =
-      (Listed (λ d. Neighbours (Separator entry) (elements (below d))) ⊎ (Listed (λ d. Some (Separator entry) (elements (below d))) × (Ordered → ⊥)))
-      ⊎ (((d : Doc) × Counts o ms "defaultSeparator" d) × ((Ordered × ((d : Doc) × Counts o ms "components" d)) → ⊥))
+  one-of-test : (ns : List String) → Each (HasLine o) ns → Decides (Broken o ms (oneOf ns)) (breaksOne o ms (oneOf ns))
+  one-of-test ns known = swap none-there (λ h. elim h [ none-there e ↦ e ]) (absent-test ns known)
 
-  separators-by : Ways → BreaksSeparators o entry ms
-  separators-by (inl (inl h)) = in-a-row (h .1) (h .2)
-  separators-by (inl (inr h)) = unordered (h .0 .1) (h .0 .2) (λ d c e. h .1 (d, c, e))
-  separators-by (inr h) =
-      ⊎-elim
-      (λ (f : Ordered → ⊥). default-unordered (h .0 .1) (λ d c e. f (d, c, e)))
-      (λ (f : ((d : Doc) × Counts o ms "components" d) → ⊥). default-alone (h .0 .1) (λ d c. f (d, c)))
-      (not-both ordered (h .1))
+  needs-test : (n : String) (ns : List String) → HasLine o n → Each (HasLine o) ns → Decides (Broken o ms (needs n ns)) (breaksOne o ms (needs n ns))
+  needs-test n ns k ks =
+      swap (λ h. alone (h .0 .1) (h .1)) (λ h. elim h [ alone c e ↦ ((_, c), e) ]) (both (present-test o n k ms) (absent-test ns ks))
 
-  by-separators : BreaksSeparators o entry ms → Ways
-  by-separators (in-a-row c n) = inl (inl (_, c, n))
-  by-separators (unordered c s f) = inl (inr ((_, c, s), λ h. f (h .0) (h .1) (h .2)))
-  by-separators (default-unordered c f) = inr ((_, c), λ h. f (h .0 .0) (h .0 .1) (h .0 .2))
-  by-separators (default-alone c f) = inr ((_, c), λ h. f (h .1 .0) (h .1 .1))
+  string-needed : (n m content : String) → HasLine o n → HasLine o m
+      → Decides (Broken o ms (needsString n m content)) (breaksOne o ms (needsString n m content))
+  string-needed n m content k l =
+      swap (λ h. other-content (h .0 .1) (λ d c s. h .1 (d, c, s))) (λ h. elim h [ other-content c f ↦ ((_, c), λ x. f (x .0) (x .1) (x .2)) ])
+      (both (present-test o n k ms) (unless (such (isThisString (bytes content)) refl (string-test content) (present-is o m l ms))))
 
-  separators-test : Decides (BreaksSeparators o entry ms) (breaksSeparators o ms)
-  unfolding breaksSeparators adjacent anyMark
-  separators-test =
-      swap separators-by by-separators
-      (either
-      (either
-      (marked adjacent refl (two-separators entry (names .kind-string)))
-      (both (marked anyMark refl (some-separator entry (names .kind-string))) (unless ordered)))
-      (both (present-test o "defaultSeparator" (names .default) ms) (unless (both ordered (present-test o "components" (names .list) ms)))))
+  true-needed : (n m : String) → HasLine o n → HasLine o m → Decides (Broken o ms (needsTrue n m)) (breaksOne o ms (needsTrue n m))
+  true-needed n m k l =
+      swap (λ h. not-so (h .0 .1) (λ d c e. h .1 (d, c, e))) (λ h. elim h [ not-so c f ↦ ((_, c), λ x. f (x .0) (x .1) (x .2)) ])
+      (both (present-test o n k ms) (unless (true-test m l)))
 
-name-names : Names name nameComponent
-unfolding properties typeIn orderOf
-name-names = record { list = refl; order = refl; default = refl; kind-string = told (table-test nameComponent (bytes "kind") refl 5) refl }
+  -- of a list of entries whose `kind` is a String
+  module _ (n : String) (known : HasLine o n) (entry : ObjectType) (kind-string : Tabled entry (bytes "kind") 5) where
+    not-only-test : Decides (Broken o ms (S.notOnly n entry)) (breaksOne o ms (S.notOnly n entry))
+    not-only-test =
+        swap (λ h. only-separators (h .1) (h .2)) (λ h. elim h [ only-separators c e ↦ (_, c, e) ])
+        (such (λ x. isThere x && allMarks (marks x)) refl (λ d. each-separator entry kind-string (below d)) (present-is o n known ms))
 
-address-names : Names address addressComponent
-unfolding properties typeIn orderOf
-address-names = record { list = refl; order = refl; default = refl; kind-string = told (table-test addressComponent (bytes "kind") refl 5) refl }
+    -- a list that counts, whose entries are so
+    abbrev Listed : (List Doc → Type 0) → Type 0
+    Listed Q = (d : Doc) × Counts o ms n d × Q (elements (below d))
 
-abbrev NameWays : Members → Type 0
-NameWays ms =
-    (((((d : Doc) × Counts name ms "full" d) ⊎ ((d : Doc) × Counts name ms "components" d)) → ⊥)
-    ⊎ ((d : Doc) × Counts name ms "components" d × Each (Separator nameComponent) (elements (below d))))
-    ⊎ BreaksSeparators name nameComponent ms
+    -- the two ways of the test
+    abbrev Ways : (order : String) → Type 0
+    Ways order = Listed (Neighbours (Separator entry)) ⊎ (Listed (Some (Separator entry)) × (((d : Doc) × Counts o ms order d × (kindOf d ≡ 3)) → ⊥))
 
-name-test : (ms : Members) → Decides (BreaksName ms) (breaksName ms)
-unfolding breaksName properties typeIn orderOf
-name-test ms =
-    swap name-by by-name
-    (either
-    (either
-    (unless (either (present-test name "full" refl ms) (present-test name "components" refl ms)))
-    (such
-    (λ x. isThere x && allMarks (marks x)) refl
-    (λ d. each-separator nameComponent (name-names .kind-string) (below d)) (present-is name "components" refl ms)))
-    (separators-test name-names ms))
-  where
-    name-by : NameWays ms → BreaksName ms
-    name-by (inl (inl f)) = nameless (λ d c. f (inl (d, c))) (λ d c. f (inr (d, c)))
-    name-by (inl (inr h)) = only-separators (h .1) (h .2)
-    name-by (inr h) = separators h
+    separators-test : (order : String) → HasLine o order → Decides (Broken o ms (S.separators n order entry)) (breaksOne o ms (S.separators n order entry))
+    unfolding badlySeparated adjacent anyMark
+    separators-test order l =
+        swap by-ways ways
+        (either
+        (marked adjacent refl (two-separators entry kind-string) n known)
+        (both (marked anyMark refl (some-separator entry kind-string) n known) (unless (true-test order l))))
+      where
+        by-ways : Ways order → Broken o ms (S.separators n order entry)
+        by-ways (inl h) = in-a-row (h .1) (h .2)
+        by-ways (inr h) = unordered (h .0 .1) (h .0 .2) (λ d c e. h .1 (d, c, e))
 
-    by-name : BreaksName ms → NameWays ms
-    by-name (nameless f g) = inl (inl (⊎-elim (λ h. f (h .0) (h .1)) (λ h. g (h .0) (h .1))))
-    by-name (only-separators c e) = inl (inr (_, c, e))
-    by-name (separators h) = inr h
+        ways : Broken o ms (S.separators n order entry) → Ways order
+        ways (in-a-row c h) = inl (_, c, h)
+        ways (unordered c s f) = inr ((_, c, s), λ h. f (h .0) (h .1) (h .2))
+
+  -- ---- a rule, and the rules of a type
+
+  pub rule-test : (r : Rule) → Sound o r → Decides (Broken o ms r) (breaksOne o ms r)
+  rule-test (oneOf ns) s = one-of-test ns (s .names)
+  rule-test (needs n ns) s = elim (s .names) [ E.more k ks ↦ needs-test n ns k ks ]
+  rule-test (needsString n m content) s = elim (s .names) [ E.more k ks ↦ string-needed n m content k (only ks) ]
+  rule-test (needsTrue n m) s = elim (s .names) [ E.more k ks ↦ true-needed n m k (only ks) ]
+  rule-test (S.separators n order entry) s = elim (s .names) [ E.more k ks ↦ separators-test n k entry (only (s .kinds)) order (only ks) ]
+  rule-test (S.notOnly n entry) s = not-only-test n (only (s .names)) entry (only (s .kinds))
+
+  -- one of some rules is broken
+  abbrev SomeBroken : List Rule → Type 0
+  SomeBroken rs = (r : Rule) × In r rs × Broken o ms r
+
+  any-test : (rs : List Rule) → Each (Sound o) rs → Decides (SomeBroken rs) (breaksAny o ms rs)
+  unfolding breaksAny
+  any-test [] s = fails (λ h. not-nil (h .1))
+  any-test (r ∷ rs) (E.more s ss) = swap (⊎-elim now further) parts (grants (rule-test r s) (any-test rs ss))
+    where
+      now : Broken o ms r → SomeBroken (r ∷ rs)
+      now h = (r, head refl, h)
+
+      further : SomeBroken rs → SomeBroken (r ∷ rs)
+      further h = (h .0, tail (h .1), h .2)
+
+      parts : SomeBroken (r ∷ rs) → Broken o ms r ⊎ SomeBroken rs
+      parts h = ⊎-elim (λ (e : h .0 ≡ r). inl (subst (Broken o ms) e (h .2))) (λ (i : In (h .0) rs). inr (h .0, i, h .2)) (cases (h .1))
 
 pub between-test : (o : ObjectType) (ms : Members) → Decides (BreaksBetween o ms) (breaks o ms)
-between-test card ms = swap of-card (λ h. elim h [ of-card b ↦ b ]) (card-test ms)
-between-test name ms = swap of-name (λ h. elim h [ of-name b ↦ b ]) (name-test ms)
-between-test nameComponent ms = fails (λ h. elim h [ ])
-between-test address ms = swap of-address (λ h. elim h [ of-address b ↦ b ]) (separators-test address-names ms)
-between-test addressComponent ms = fails (λ h. elim h [ ])
-between-test emailAddress ms = fails (λ h. elim h [ ])
-between-test phone ms = fails (λ h. elim h [ ])
+between-test o ms =
+    swap (λ h. record { rule = h .0; listed = h .1; broken = h .2 }) (λ h. (h .rule, h .listed, h .broken)) (any-test o ms (rulesOf o) (rules-sound o))

@@ -2,20 +2,22 @@
 --     first-breach    nothing, where nothing is broken; else the first row that breaks a line, with its smallest
 -- Assumes nothing.
 use Prim.Native.Nat.{ℕ, zero, suc, _+_, _≤_, _<_}
-use mathlib.Core.Path.{_≡_, refl, sym, subst, subst₂, _∙_}
-use mathlib.Core.Bool.{Bool, true, not}
+use mathlib.Core.Path.{_≡_, refl, sym, ap, subst, subst₂, _∙_}
+use mathlib.Core.Bool.{Bool, true, false, not, cond, true≢false}
 use mathlib.Core.List.{List, [], _∷_, List·Memᴰ as In}
 use mathlib.Core.Logic.{_⊎_, inl, inr, ⊎-elim}
 use native.Mathlib.Omega.{arith}
-use Rattle.laws.proofs.Decides.{Decides, fails, swap, unless}
+use Rattle.laws.proofs.Decides.{Decides, holds, fails, test-true, test-false, swap, unless, lets, equal, itself}
+use Rattle.text.specs.Text.{bytes}
 use Rattle.text.specs.Doc.{Name, Doc, scalar, array, object, Members, empty, member, kindOf, below, countOf, countAll}
-use Rattle.contact.specs.Schema.{ObjectType, Known, Keys, free, ids, Ty, any, simple, objectOf, listOf, mapOf, card, properties}
-use Rattle.contact.specs.Judge.{memberType, keyIn, keyFits, Breach, nothing, found, onRow, orElse, breachOf, breachAmong, cardBreach}
+use Rattle.contact.specs.Schema.{ObjectType, Known, Keys, free, ids, Ty, any, simple, objectOf, listOf, mapOf, byType, card, properties, ownName}
+use Rattle.contact.specs.Judge.{isOf, chosen, memberType, keyIn, keyFits, Breach, nothing, found, onRow, orElse, breachOf, breachAmong, cardBreach}
 use Rattle.contact.specs.AskedKinds.{Suits, unknown}
-use Rattle.contact.specs.Breaches.{Under, key, Gives, of-object, of-list, of-map, Among, first, later, At, root, inside, UnallowedKey, no-id, BreaksLine, RowBreaks}
+use Rattle.contact.specs.Breaches.{Under, key, IsOf, named, Chooses, Gives, of-object, of-list, of-map, Among, first, later, At, root, inside, UnallowedKey, no-id, BreaksLine, RowBreaks}
 use Rattle.contact.specs.Breaches as B
 use Rattle.contact.proofs.Judging.SimpleValues.{id-test}
 use Rattle.contact.proofs.Judging.Table.{Typed, line, no-line, type-in, line-of}
+use Rattle.contact.proofs.Judging.BetweenMembers.{string-member}
 use Rattle.contact.proofs.Judging.Rows.{RowSays, clean, worst, row-says}
 
 -- ---- values inside others, from the outermost on
@@ -24,12 +26,12 @@ use Rattle.contact.proofs.Judging.Rows.{RowSays, clean, worst, row-says
 data Inside (r : ℕ) (ty′ : Ty) (u′ : Under) (v : Doc) : Ty → Under → (row : ℕ) → Doc → Type 0 where
   self : Inside r ty′ u′ v ty′ u′ r v
   down : {ty ty₁ : Ty} {u u₁ : Under} {row k : ℕ} {d e : Doc} {earlier : List Name} {n : Name}
-      → Suits ty (kindOf d) → Among [] (below d) k earlier n e → Gives ty earlier n ty₁ u₁ → Inside r ty′ u′ v ty₁ u₁ (row + 1 + k) e
+      → Suits ty (kindOf d) → Among [] (below d) k earlier n e → Gives ty earlier n e ty₁ u₁ → Inside r ty′ u′ v ty₁ u₁ (row + 1 + k) e
       → Inside r ty′ u′ v ty u row d
 
 -- one step further in
 deeper : {ty ty₁ ty₂ : Ty} {u u₁ u₂ : Under} {row r k : ℕ} {d v e : Doc} {earlier : List Name} {n : Name}
-    → Inside r ty₁ u₁ v ty u row d → Suits ty₁ (kindOf v) → Among [] (below v) k earlier n e → Gives ty₁ earlier n ty₂ u₂
+    → Inside r ty₁ u₁ v ty u row d → Suits ty₁ (kindOf v) → Among [] (below v) k earlier n e → Gives ty₁ earlier n e ty₂ u₂
     → Inside (r + 1 + k) ty₂ u₂ e ty u row d
 deeper self s a g = down s a g self
 deeper (down s₁ a₁ g₁ i) s a g = down s₁ a₁ g₁ (deeper i s a g)
@@ -92,7 +94,7 @@ record Broken (ty : Ty) (u : Under) (row : ℕ) (d : Doc) (r m : ℕ) : Type 0 w
 record HeadBroken (ty : Ty) (passed : List Name) (n : Name) (row : ℕ) (d : Doc) (r m : ℕ) : Type 0 where
   type : Ty
   under : Under
-  gives : Gives ty passed n type under
+  gives : Gives ty passed n d type under
   broken : Broken type under row d r m
 
 record AmongBroken (ty : Ty) (passed : List Name) (row : ℕ) (ms : Members) (r m : ℕ) : Type 0 where
@@ -142,41 +144,78 @@ module _ {ty : Ty} {row r m : ℕ} where
 
 -- ---- the type and the key of a member
 
+-- an object's `@type` says of which type it is
+of-test : (o : ObjectType) (d : Doc) → Decides (IsOf o d) (isOf o d)
+unfolding isOf
+of-test o (scalar kind token) = swap (λ h. absurd (true≢false (sym (h .1)))) (λ h. elim h [ ]) (lets (equal kind 7) (itself false))
+of-test o (array ms) = fails (λ h. elim h [ ])
+of-test o (object ms) =
+    swap (λ h. named (h .1) (h .2)) (λ h. elim h [ named m s ↦ (_, m, s) ]) (string-member (bytes "@type") (ownName o) ms)
+
+-- a value where a type stands is asked the type that the definition has, and no other
+chooses : (ty : Ty) (d : Doc) → Chooses ty d (chosen ty d)
+chooses any d = B.nothing
+chooses (simple l) d = B.value
+chooses (objectOf o) d = B.typed
+chooses (listOf ty) d = B.list
+chooses (mapOf keys ty) d = B.map
+chooses (byType usual special) d = go (of-test special d)
+  where
+    go : {b : Bool} → Decides (IsOf special d) b → Chooses (byType usual special) d (objectOf (cond b special usual))
+    go (holds h) = B.special-one h
+    go (fails f) = B.usual-one f
+
+chose : {ty ty₂ : Ty} {d : Doc} → Chooses ty d ty₂ → ty₂ ≡ chosen ty d
+chose B.nothing = refl
+chose B.value = refl
+chose B.typed = refl
+chose B.list = refl
+chose B.map = refl
+chose (B.special-one {usual = usual} {special = special} {d = d} h) =
+    ap (λ (b : Bool). objectOf (cond b special usual)) (sym (test-true (of-test special d) h))
+chose (B.usual-one {usual = usual} {special = special} {d = d} f) =
+    ap (λ (b : Bool). objectOf (cond b special usual)) (sym (test-false (of-test special d) f))
+
 -- the definition's type and key of a member are those that the table gives; of an unknown property nothing is asked
-data Given (ty : Ty) (passed : List Name) (n : Name) : Ty → (key : Bool) → Type 0 where
-  given : {ty₁ : Ty} {u₁ : Under} {k : Bool} → Gives ty passed n ty₁ u₁ → Decides (UnallowedKey u₁) (not k)
-      → ((ty₂ : Ty) (u₂ : Under) → Gives ty passed n ty₂ u₂ → (ty₂ ≡ ty₁) × (u₂ ≡ u₁)) → Given ty passed n ty₁ k
-  not-given : ((ty₂ : Ty) (u₂ : Under) → ¬ Gives ty passed n ty₂ u₂) → Given ty passed n any true
+data Given (ty : Ty) (passed : List Name) (n : Name) (d : Doc) : Ty → (key : Bool) → Type 0 where
+  given : {ty₁ : Ty} {u₁ : Under} {k : Bool} → Gives ty passed n d ty₁ u₁ → Decides (UnallowedKey u₁) (not k)
+      → ((ty₂ : Ty) (u₂ : Under) → Gives ty passed n d ty₂ u₂ → (ty₂ ≡ ty₁) × (u₂ ≡ u₁)) → Given ty passed n d ty₁ k
+  not-given : ((ty₂ : Ty) (u₂ : Under) → ¬ Gives ty passed n d ty₂ u₂) → Given ty passed n d any true
 
-gives-line : {o : ObjectType} {passed : List Name} {n : Name} {ty : Ty} {u : Under} → Gives (objectOf o) passed n ty u
-    → (k : Known) × In k (properties o) × (k .spelling ≡ n) × (ty ≡ k .type) × (u ≡ B.unkeyed)
-gives-line (of-object {k = k} i) = (k, i, refl, refl, refl)
+gives-line : {o : ObjectType} {passed : List Name} {n : Name} {d : Doc} {ty : Ty} {u : Under} → Gives (objectOf o) passed n d ty u
+    → (k : Known) × In k (properties o) × (k .spelling ≡ n) × Chooses (k .type) d ty × (u ≡ B.unkeyed)
+gives-line (of-object {k = k} i c) = (k, i, refl, c, refl)
 
-property-given : (o : ObjectType) (passed : List Name) (n : Name) {ty : Ty} → Typed (properties o) n ty → Given (objectOf o) passed n ty true
-property-given o passed n (line k i e) =
+property-given : (o : ObjectType) (passed : List Name) (n : Name) (d : Doc) {ty : Ty} → Typed (properties o) n ty
+    → Given (objectOf o) passed n d (chosen ty d) true
+property-given o passed n d (line k i e) =
     given
-    (subst (λ (x : Name). Gives (objectOf o) passed x (k .type) B.unkeyed) e (of-object i))
+    (subst (λ (x : Name). Gives (objectOf o) passed x d (chosen (k .type) d) B.unkeyed) e (of-object i (chooses (k .type) d)))
     (fails (λ h. elim h [ ]))
-    (λ ty₂ u₂ g. let l = gives-line g in (l .3 ∙ sym (line-of o (line k i e) (l .0) (l .1) (l .2)), l .4))
-property-given o passed n (no-line f) = not-given (λ ty₂ u₂ g. let l = gives-line g in f (l .0) (l .1) (l .2))
+    (λ ty₂ u₂ g.
+    let l = gives-line g in
+    (chose (l .3) ∙ ap (λ (t : Ty). chosen t d) (sym (line-of o (line k i e) (l .0) (l .1) (l .2))), l .4))
+property-given o passed n d (no-line f) = not-given (λ ty₂ u₂ g. let l = gives-line g in f (l .0) (l .1) (l .2))
 
 key-test : (keys : Keys) (passed : List Name) (n : Name) → Decides (UnallowedKey (key keys passed n)) (not (keyIn keys passed n))
 key-test free passed n = fails (λ h. elim h [ ])
 key-test ids passed n = swap no-id (λ h. elim h [ no-id f ↦ f ]) (unless (id-test n))
 
-gives-element : {ty ty₂ : Ty} {passed : List Name} {n : Name} {u : Under} → Gives (listOf ty) passed n ty₂ u → (ty₂ ≡ ty) × (u ≡ B.unkeyed)
-gives-element of-list = (refl, refl)
+gives-element : {ty ty₂ : Ty} {passed : List Name} {n : Name} {d : Doc} {u : Under} → Gives (listOf ty) passed n d ty₂ u
+    → (ty₂ ≡ chosen ty d) × (u ≡ B.unkeyed)
+gives-element (of-list c) = (chose c, refl)
 
-gives-entry : {keys : Keys} {ty ty₂ : Ty} {passed : List Name} {n : Name} {u : Under} → Gives (mapOf keys ty) passed n ty₂ u
-    → (ty₂ ≡ ty) × (u ≡ key keys passed n)
-gives-entry of-map = (refl, refl)
+gives-entry : {keys : Keys} {ty ty₂ : Ty} {passed : List Name} {n : Name} {d : Doc} {u : Under} → Gives (mapOf keys ty) passed n d ty₂ u
+    → (ty₂ ≡ chosen ty d) × (u ≡ key keys passed n)
+gives-entry (of-map c) = (chose c, refl)
 
-given-by : (ty : Ty) (passed : List Name) (n : Name) → Given ty passed n (memberType ty n) (keyFits ty passed n)
-given-by any passed n = not-given (λ ty₂ u₂ g. elim g [ ])
-given-by (simple l) passed n = not-given (λ ty₂ u₂ g. elim g [ ])
-given-by (objectOf o) passed n = property-given o passed n (type-in (properties o) n)
-given-by (listOf ty) passed n = given of-list (fails (λ h. elim h [ ])) (λ ty₂ u₂ g. gives-element g)
-given-by (mapOf keys ty) passed n = given of-map (key-test keys passed n) (λ ty₂ u₂ g. gives-entry g)
+given-by : (ty : Ty) (passed : List Name) (n : Name) (d : Doc) → Given ty passed n d (memberType ty n d) (keyFits ty passed n)
+given-by any passed n d = not-given (λ ty₂ u₂ g. elim g [ ])
+given-by (simple l) passed n d = not-given (λ ty₂ u₂ g. elim g [ ])
+given-by (objectOf o) passed n d = property-given o passed n d (type-in (properties o) n)
+given-by (listOf ty) passed n d = given (of-list (chooses ty d)) (fails (λ h. elim h [ ])) (λ ty₂ u₂ g. gives-element g)
+given-by (mapOf keys ty) passed n d = given (of-map (chooses ty d)) (key-test keys passed n) (λ ty₂ u₂ g. gives-entry g)
+given-by (byType usual special) passed n d = not-given (λ ty₂ u₂ g. elim g [ ])
 
 -- ---- the search
 
@@ -196,7 +235,7 @@ nothing-asked b = go (b .within) (b .breaks)
     go (down s a g i) h = elim g [ ]
 
 -- a member's breach is that of the type that is asked of it
-head-least : {ty ty₁ : Ty} {passed : List Name} {n : Name} {k : Bool} {row : ℕ} {d : Doc} {b : Breach} → Given ty passed n ty₁ k
+head-least : {ty ty₁ : Ty} {passed : List Name} {n : Name} {k : Bool} {row : ℕ} {d : Doc} {b : Breach} → Given ty passed n d ty₁ k
     → ((u : Under) → Decides (UnallowedKey u) (not k) → Least (Broken ty₁ u row d) b) → Least (HeadBroken ty passed n row d) b
 head-least {ty₁ = ty₁} {row = row} {d = d} (given {u₁ = u₁} g bk same) least =
     least-as
@@ -271,7 +310,7 @@ mutual
   members-least ty passed row (member n label d ms) =
       least-as (λ r m. head-or) (λ r m. or-head)
       (least-or (λ r m q l. rows-rise)
-      (head-least (given-by ty passed n) (λ u bk. value-least (memberType ty n) u (keyFits ty passed n) row d bk))
+      (head-least (given-by ty passed n d) (λ u bk. value-least (memberType ty n d) u (keyFits ty passed n) row d bk))
       (members-least ty (n ∷ passed) (row + countOf d) ms))
 
 -- ---- whole cards

@@ -11,7 +11,7 @@ use lib.Dec.{lit≤}
 use Rattle.laws.proofs.Decides.{Decides, holds, fails, told, denied, itself, swap, equal, bytes-same, both, unless, grants}
 use Rattle.text.specs.Strings.{contentOf}
 use Rattle.text.specs.Doc.{Doc, Members, kindOf, tokenOf, below}
-use Rattle.contact.specs.Schema.{anyString, exactly, flag, yes, count, time, Ty, any, simple, objectOf, listOf, mapOf, Known, properties}
+use Rattle.contact.specs.Schema.{anyString, exactly, flag, yes, count, time, Ty, any, simple, objectOf, listOf, mapOf, byType, Known, properties}
 use Rattle.contact.specs.Judge.{lacking, lacks, allowed, breaksRule, rowNumber}
 use Rattle.contact.specs.AskedKinds.{Suits}
 use Rattle.contact.specs.BetweenMembers.{HasMember}
@@ -62,10 +62,11 @@ lacks-test (objectOf o) ms =
     (lacking-test (properties o) ms)
 lacks-test (listOf ty) ms = fails (λ h. elim h [ ])
 lacks-test (mapOf keys ty) ms = fails (λ h. elim h [ ])
+lacks-test (byType usual special) ms = fails (λ h. elim h [ ])
 
 -- ---- 13
 
-unallowed-test : (ty : Ty) (v : Doc) → Decides (Unallowed ty v) (not (allowed ty (kindOf v) (tokenOf v)))
+unallowed-test : (ty : Ty) (v : Doc) → Decides (Unallowed ty v) (not (allowed ty v))
 unallowed-test any v = fails (λ h. elim h [ ])
 unallowed-test (simple anyString) v = fails (λ h. elim h [ ])
 unallowed-test (simple (exactly n)) v =
@@ -78,6 +79,7 @@ unallowed-test (simple time) v = swap no-time (λ h. elim h [ no-time f ↦ f ])
 unallowed-test (objectOf o) v = fails (λ h. elim h [ ])
 unallowed-test (listOf ty) v = fails (λ h. elim h [ ])
 unallowed-test (mapOf keys ty) v = fails (λ h. elim h [ ])
+unallowed-test (byType usual special) v = fails (λ h. elim h [ ])
 
 -- ---- 14
 
@@ -87,6 +89,7 @@ unruly-test (simple l) ms = fails (λ h. elim h [ ])
 unruly-test (objectOf o) ms = swap between (λ h. elim h [ between b ↦ b ]) (between-test o ms)
 unruly-test (listOf ty) ms = fails (λ h. elim h [ ])
 unruly-test (mapOf keys ty) ms = fails (λ h. elim h [ ])
+unruly-test (byType usual special) ms = fails (λ h. elim h [ ])
 
 -- ---- the row's number
 
@@ -138,4 +141,4 @@ module _ {ty : Ty} {u : Under} {v : Doc} where
 pub row-says : (ty : Ty) (u : Under) (key : Bool) (v : Doc) → Decides (UnallowedKey u) (not key) → RowSays ty u v (rowNumber ty key v)
 unfolding rowNumber
 row-says ty u key v k =
-    says key (allowed ty (kindOf v) (tokenOf v)) (fits-test ty (kindOf v)) (lacks-test ty (below v)) k (unallowed-test ty v) (unruly-test ty (below v))
+    says key (allowed ty v) (fits-test ty (kindOf v)) (lacks-test ty (below v)) k (unallowed-test ty v) (unruly-test ty (below v))

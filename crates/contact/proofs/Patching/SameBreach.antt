@@ -3,18 +3,24 @@
 -- Assumes nothing.
 use Prim.Native.Nat.{ℕ, _+_}
 use mathlib.Core.Path.{_≡_, refl, sym, ap, ap₂, _∙_}
-use mathlib.Core.Bool.{Bool, true, not, cond, _&&_, true≢false}
+use mathlib.Core.Bool.{Bool, true, not, cond, _&&_, _||_}
 use mathlib.Core.Logic.{_≢_}
 use mathlib.Core.List.{List, [], _∷_}
+use mathlib.Core.Option.{Option}
+use Prim.Native.String.{String}
 use Rattle.laws.specs.Order.{same, orderOf}
+use Rattle.laws.specs.Tests.{every, allMarks}
+use Rattle.laws.specs.Each.{Each, more}
+use Rattle.laws.proofs.Decides.{Decides, told, unless, bytes-same}
+use Rattle.laws.proofs.Tests.{each-test}
 use Rattle.laws.proofs.Bools.{byTest}
 use Rattle.text.specs.Text.{bytes}
 use Rattle.text.specs.Doc.{Name, Doc, scalar, array, object, Members, empty, member, countOf, seek, isThere}
-use Rattle.contact.specs.Schema.{Ty, any, objectOf, mapOf, free, anyObject, card, Known, properties, typeIn}
-use Rattle.contact.specs.Rules.{present, breaksCard}
+use Rattle.contact.specs.Schema.{ObjectType, Ty, any, objectOf, mapOf, free, anyObject, card, Known, Rule, oneOf, needs, needsString, needsTrue, separators, notOnly, namesIn, types, recordOf, properties, rulesOf, typeIn}
+use Rattle.contact.specs.Rules.{present, isTrue, isThisString, marks, anyCounts, badlySeparated, breaksOne, breaksAny}
 use Rattle.contact.specs.Judge.{lacking, rowNumber, memberType, keyFits, Breach, nothing, onRow, orElse, breachOf, breachAmong, cardBreach}
 use Rattle.contact.specs.Patching.{Rearranged, rearranged, AtMember, thisOne, laterOne, InMember, inMember, OrderOnly}
-use Rattle.contact.proofs.Patching.Names.{same-yes, same-no}
+use Rattle.contact.proofs.Patching.Names.{same-no}
 use Rattle.contact.proofs.Patching.Rearranged.{rearranged-count, in-count}
 
 -- ---- below a PatchObject nothing is asked
@@ -44,13 +50,13 @@ patch-clean row ms = entries-clean [] (row + 1) ms
 
 module _ {n : Name} {R : Doc → Doc → Type 0} (counts : (d e : Doc) → R d e → countOf d ≡ countOf e) where
   at-among : (ty : Ty) → ((earlier : List Name) (row : ℕ) (d e : Doc) → R d e
-      → breachOf (memberType ty n) (keyFits ty earlier n) row d ≡ breachOf (memberType ty n) (keyFits ty earlier n) row e)
+      → breachOf (memberType ty n d) (keyFits ty earlier n) row d ≡ breachOf (memberType ty n e) (keyFits ty earlier n) row e)
       → (earlier : List Name) (row : ℕ) {ms ns : Members} → AtMember n R ms ns → breachAmong ty earlier row ms ≡ breachAmong ty earlier row ns
   unfolding breachAmong
   at-among ty alike earlier row (thisOne {d = d} {e = e} {ms = ms} r) =
       ap₂ orElse (alike earlier row d e r) (ap (λ (k : ℕ). breachAmong ty (n ∷ earlier) (row + k) ms) (counts d e r))
   at-among ty alike earlier row (laterOne {m = m} {d = d} h x) =
-      ap (orElse (breachOf (memberType ty m) (keyFits ty earlier m) row d)) (at-among ty alike (m ∷ earlier) (row + countOf d) x)
+      ap (orElse (breachOf (memberType ty m d) (keyFits ty earlier m) row d)) (at-among ty alike (m ∷ earlier) (row + countOf d) x)
 
 -- ---- what is asked of the members
 
@@ -79,25 +85,53 @@ lang-breach row d e (inMember x) = at-among rearranged-count (mapOf free anyObje
     clean row d e (rearranged {ms = ms} {ns = ns} σ) = patch-clean row ms ∙ sym (patch-clean row ns)
 
 localizations-type : typeIn (properties card) (bytes "localizations") ≡ mapOf free anyObject
-unfolding typeIn properties orderOf
+unfolding typeIn recordOf types orderOf
 localizations-type = refl
 
-not-members : bytes "localizations" ≢ bytes "members"
-unfolding orderOf
-not-members e = true≢false (sym (same-yes e))
+-- the member counts for no rule of a card
+unruled : every (λ r. every (λ n. not (same (bytes "localizations") (bytes n))) (namesIn r)) (rulesOf card) ≡ true
+unfolding every recordOf types orderOf
+unruled = refl
 
-not-kind : bytes "localizations" ≢ bytes "kind"
-unfolding orderOf
-not-kind e = true≢false (sym (same-yes e))
+-- another name
+abbrev Other : String → Type 0
+Other n = bytes "localizations" ≢ bytes n
+
+other-test : (n : String) → Decides (Other n) (not (same (bytes "localizations") (bytes n)))
+other-test n = unless (bytes-same (bytes "localizations") (bytes n))
+
+others : Each (λ r. Each Other (namesIn r)) (rulesOf card)
+others = told (each-test _ (λ r. each-test _ other-test (namesIn r)) (rulesOf card)) unruled
+
+module _ {R : Doc → Doc → Type 0} {ms ns : Members} (x : AtMember (bytes "localizations") R ms ns) (o : ObjectType) where
+  same-present : (m : String) → Other m → present o (bytes m) ms ≡ present o (bytes m) ns
+  unfolding present
+  same-present m h = rw (at-else x (bytes m) h)
+
+  same-any : (names : List String) → Each Other names → anyCounts o ms names ≡ anyCounts o ns names
+  unfolding anyCounts
+  same-any [] hs = refl
+  same-any (m ∷ names) (more h hs) = ap₂ (λ (p : Option Doc) (b : Bool). isThere p || b) (same-present m h) (same-any names hs)
+
+  same-one : (r : Rule) → Each Other (namesIn r) → breaksOne o ms r ≡ breaksOne o ns r
+  same-one (oneOf names) hs = ap not (same-any names hs)
+  same-one (needs m names) (more h hs) = ap₂ (λ (p : Option Doc) (b : Bool). isThere p && not b) (same-present m h) (same-any names hs)
+  same-one (needsString m k content) (more h (more g hs)) =
+      ap₂ (λ (p q : Option Doc). isThere p && not (isThisString (bytes content) q)) (same-present m h) (same-present k g)
+  same-one (needsTrue m k) (more h (more g hs)) = ap₂ (λ (p q : Option Doc). isThere p && not (isTrue q)) (same-present m h) (same-present k g)
+  same-one (separators m order entry) (more h (more g hs)) =
+      ap₂ (λ (p q : Option Doc). badlySeparated (marks p) (isTrue q)) (same-present m h) (same-present order g)
+  same-one (notOnly m entry) (more h hs) = ap (λ (p : Option Doc). isThere p && allMarks (marks p)) (same-present m h)
+
+  same-rules : (rs : List Rule) → Each (λ r. Each Other (namesIn r)) rs → breaksAny o ms rs ≡ breaksAny o ns rs
+  unfolding breaksAny
+  same-rules [] hs = refl
+  same-rules (r ∷ rs) (more h hs) = ap₂ (λ (a b : Bool). cond a true b) (same-one r h) (same-rules rs hs)
 
 module _ {R : Doc → Doc → Type 0} {ms ns : Members} (x : AtMember (bytes "localizations") R ms ns) where
-  card-breaks : breaksCard ms ≡ breaksCard ns
-  unfolding breaksCard present
-  card-breaks = rw (at-else x (bytes "members") not-members, at-else x (bytes "kind") not-kind)
-
   card-number : rowNumber (objectOf card) true (object ms) ≡ rowNumber (objectOf card) true (object ns)
   unfolding rowNumber
-  card-number = rw (at-lacking (properties card) x, card-breaks)
+  card-number = rw (at-lacking (properties card) x, same-rules x card (rulesOf card) others)
 
 pub order-breach : (lang : Name) (one other : Doc) → OrderOnly lang one other → cardBreach one ≡ cardBreach other
 unfolding breachOf

@@ -1,84 +1,63 @@
--- `card::rules::breaks` meets its contract: each arm by what its pattern says of the type. Assumes nothing.
-use mathlib.Core.Path.{sym, _∙_}
+-- `card::rules::breaks` meets its contract: a search through the rules. The measure is the rules left. Assumes nothing.
 use borrow.Author.Needs.{needs}
+use mathlib.Core.Path.{_≡_, sym, _∙_}
 use denote.Ref.{now}
+use native.Mathlib.Omega.{arith}
+use Prim.Native.Nat.{_≤_, _-_}
+use mathlib.Core.Bool.{true, false}
+use lib.ListN.{drop}
+use Rattle.text.specs.Tree.{Forest}
+use Rattle.text.specs.Standing.{StandsTo}
 use Rattle.text.specs.Doc.{membersOf}
-use Rattle.card.proofs.Separators.{address-rule}
+use Rattle.contact.specs.Rules.{breaksOne, breaks as breaksOf}
+use Rattle.card.specs.RuleTable.{ruleLines, noRule, ruleCount}
+use Rattle.card.proofs.Search.{breaksAmong, breaks-all, rules-length, first-hit, first-on, first-end}
 use Rattle.card.proofs.rules.breaks.Statement.{statement}
 use Rattle.card.proofs.rules.breaks.Tie as tie
 
-enum-told : tie.Need-enum-told
-enum-told c = search needs
+abbrev Inv-loop : tie.InvT-loop
+Inv-loop text table from end o i₀ i =
+    ((f : Forest) → StandsTo table from end f → breaksAmong o (membersOf text f) (drop i ruleLines) ≡ breaksOf o (membersOf text f)) × (i ≤ ruleCount)
 
-breaks-card-requires : tie.Need-breaks-card-requires
-breaks-card-requires c κs = c .before .before .before .before .pre
+abbrev μ-loop : tie.MeasureT-loop
+μ-loop text table from end o i₀ i = ruleCount - i
 
-enum-told-2 : tie.Need-enum-told-2
-enum-told-2 c = search needs
+loop-holds : tie.Need-loop-holds Inv-loop μ-loop
+loop-holds c = ((λ f s. breaks-all _ _), omega arith)
 
-breaks-name-requires : tie.Need-breaks-name-requires
-breaks-name-requires c κs = c .before .before .before .before .pre
+breaks-rule-requires : tie.Need-breaks-rule-requires Inv-loop μ-loop
+breaks-rule-requires c κs = (c .loop-test .taken, c .before .before .before .before .pre)
 
-enum-told-3 : tie.Need-enum-told-3
-enum-told-3 c = search needs
-
-enum-told-4 : tie.Need-enum-told-4
-enum-told-4 c = search needs
-
-breaks-separators-requires : tie.Need-breaks-separators-requires
-breaks-separators-requires c κs = c .before .before .before .before .pre
-
-enum-told-5 : tie.Need-enum-told-5
-enum-told-5 c = search needs
-
-enum-told-6 : tie.Need-enum-told-6
-enum-told-6 c = search needs
-
-enum-told-7 : tie.Need-enum-told-7
-enum-told-7 c = search needs
-
-returns : tie.Need-returns
-returns c = λ f s. c .breaks-card .ensures f s ∙ rw (c .before .enum-told .given .1)
-
-returns-2 : tie.Need-returns-2
-returns-2 c = λ f s. c .breaks-name .ensures f s ∙ rw (c .before .enum-told2 .given .1)
-
-returns-3 : tie.Need-returns-3
-returns-3 c = λ f s. rw (c .enum-told3 .given .1)
-
-returns-4 : tie.Need-returns-4
-returns-4 c =
+returns : tie.Need-returns Inv-loop μ-loop
+returns c =
     λ f s.
-    let a = c .before .before .before .before .before .args in
-    c .breaks-separators .ensures f s ∙ rw (c .before .enum-told4 .given .1) (sym (address-rule (membersOf (now (a .text)) f)))
+    let a = c .before .before .before .before .before .before .args in
+    let loop = c .before .before .before .loop in
+    sym (sym (loop .inv .0 f s) ∙ first-hit (breaksOne (a .o) (membersOf (now (a .text)) f)) (λ r. true) false (a .o) ruleLines noRule ruleCount rules-length
+    (loop .i) (c .before .before .loop-test .taken) (sym (c .before .breaks-rule .ensures f s) ∙ c .if1 .taken))
 
-returns-5 : tie.Need-returns-5
-returns-5 c = λ f s. rw (c .enum-told5 .given .1)
+add-i : tie.Need-add-i Inv-loop μ-loop
+add-i c = search needs
 
-returns-6 : tie.Need-returns-6
-returns-6 c = λ f s. rw (c .enum-told6 .given .1)
+loop-less : tie.Need-loop-less Inv-loop μ-loop
+loop-less c = search needs
 
-returns-7 : tie.Need-returns-7
-returns-7 c = λ f s. rw (c .enum-told7 .given .1)
+loop-again : tie.Need-loop-again Inv-loop μ-loop
+loop-again c =
+    let a = c .before .before .before .before .before .before .args in
+    let loop = c .before .before .before .loop in (
+      (λ f s. sym (first-on (breaksOne (a .o) (membersOf (now (a .text)) f)) (λ r. true) false (a .o) ruleLines noRule ruleCount rules-length
+          (loop .i) (c .before .before .loop-test .taken) (sym (c .before .breaks-rule .ensures f s) ∙ c .if1 .left)) ∙ loop .inv .0 f s),
+      omega arith,
+    )
+
+returns-2 : tie.Need-returns-2 Inv-loop μ-loop
+returns-2 c =
+    λ f s.
+    let a = c .before .before .before .before .args in
+    let loop = c .before .loop in
+    sym (sym (loop .inv .0 f s) ∙ first-end (breaksOne (a .o) (membersOf (now (a .text)) f)) (λ r. true) false (a .o) ruleLines noRule ruleCount rules-length
+    (loop .i) (c .loop-test .left))
 
 pub breaks-spec : {M : Type 1} → statement M
-breaks-spec =
-    tie.close
-    (tie.spec
-    enum-told
-    breaks-card-requires
-    enum-told-2
-    breaks-name-requires
-    enum-told-3
-    enum-told-4
-    breaks-separators-requires
-    enum-told-5
-    enum-told-6
-    enum-told-7
-    returns
-    returns-2
-    returns-3
-    returns-4
-    returns-5
-    returns-6
-    returns-7)
+breaks-spec = tie.close (tie.spec Inv-loop μ-loop loop-holds breaks-rule-requires returns add-i loop-less loop-again returns-2)

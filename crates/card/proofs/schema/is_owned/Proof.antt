@@ -6,11 +6,8 @@ use Rattle.card.proofs.schema.is_owned.Tie as tie
 code-at-requires : tie.Need-code-at-requires
 code-at-requires c κs = search needs
 
-number-of-requires : tie.Need-number-of-requires
-number-of-requires c κs = search needs
-
 returns : tie.Need-returns
-returns c = rw (← c .before .code-at .ensures .has, ← c .number-of .ensures)
+returns c = rw (← c .code-at .ensures .has)
 
 pub is-owned-spec : {M : Type 1} → statement M
-is-owned-spec = tie.close (tie.spec code-at-requires number-of-requires returns)
+is-owned-spec = tie.close (tie.spec code-at-requires returns)

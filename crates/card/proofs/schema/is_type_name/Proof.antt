@@ -5,40 +5,50 @@ use borrow.Author.Needs.{needs}
 use denote.Ref.{now}
 use Rattle.text.specs.Strings.{decode}
 use Rattle.laws.specs.Order.{same}
-use Rattle.card.specs.Types.{objectType}
-use Rattle.card.proofs.Columns.{type-name-at, few-types}
+use Rattle.contact.specs.Schema.{types}
+use Rattle.card.proofs.Columns.{type-name-at, no-type-name}
 use Rattle.card.proofs.schema.is_type_name.Statement.{statement}
 use Rattle.card.proofs.schema.is_type_name.Tie as tie
-
-number-of-requires : tie.Need-number-of-requires
-number-of-requires c κs = search needs
-
-cast-i : tie.Need-cast-i
-cast-i c = search needs
 
 slice-aggregate-word-at : tie.Need-slice-aggregate-word-at
 slice-aggregate-word-at c = search needs
 
 word-at-requires : tie.Need-word-at-requires
-word-at-requires c κs = omega (arith, few-types (objectType (c .before .before .before .args .o)), c .before .number-of .ensures)
+word-at-requires c κs = search needs
 
 part-is-requires : tie.Need-part-is-requires
 part-is-requires c κs = search needs
 
 returns : tie.Need-returns
+unfolding types
 returns c =
     let a = c .before .before .before .before .before .args in
-    let number-of = c .before .before .before .number-of in
-    c .part-is .ensures
-    ∙ ap (same (decode (now (a .content)))) (c .before .word-at .ensures ∙ rw (number-of .ensures) (type-name-at (objectType (a .o))))
+    c .part-is .ensures ∙ ap (same (decode (now (a .content)))) (c .before .word-at .ensures ∙ no-type-name (a .o) (c .before .before .before .if1 .taken))
+
+slice-aggregate-word-at-2 : tie.Need-slice-aggregate-word-at-2
+slice-aggregate-word-at-2 c = search needs
+
+word-at-requires-2 : tie.Need-word-at-requires-2
+word-at-requires-2 c κs = omega arith
+
+part-is-requires-2 : tie.Need-part-is-requires-2
+part-is-requires-2 c κs = search needs
+
+returns-2 : tie.Need-returns-2
+unfolding types
+returns-2 c =
+    let a = c .before .before .before .before .before .args in
+    c .part-is2 .ensures ∙ ap (same (decode (now (a .content)))) (c .before .word-at2 .ensures ∙ type-name-at (a .o) (c .before .before .before .if1 .left))
 
 pub is-type-name-spec : {M : Type 1} → statement M
 is-type-name-spec =
     tie.close
     (tie.spec
-    number-of-requires
-    cast-i
     slice-aggregate-word-at
     word-at-requires
     part-is-requires
-    returns)
+    returns
+    slice-aggregate-word-at-2
+    word-at-requires-2
+    part-is-requires-2
+    returns-2)

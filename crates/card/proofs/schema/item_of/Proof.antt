@@ -1,23 +1,16 @@
 -- `card::schema::item_of` meets its contract. Assumes nothing.
 use Rattle.laws.proofs.Picks.{picks}
-use borrow.Author.Needs.{needs}
 use Rattle.card.specs.Types.{itemAt}
 use Rattle.card.proofs.schema.item_of.Statement.{statement}
 use Rattle.card.proofs.schema.item_of.Tie as tie
 
-object-of-requires : tie.Need-object-of-requires
-object-of-requires c κs = search needs
-
 returns : tie.Need-returns
 unfolding itemAt
-returns c = rw (← c .object-of .ensures) (search picks)
-
-object-of-requires-2 : tie.Need-object-of-requires-2
-object-of-requires-2 c κs = search needs
+returns c = search picks
 
 returns-2 : tie.Need-returns-2
 unfolding itemAt
-returns-2 c = rw (← c .object-of2 .ensures) (search picks)
+returns-2 c = search picks
 
 returns-3 : tie.Need-returns-3
 unfolding itemAt
@@ -55,9 +48,7 @@ pub item-of-spec : {M : Type 1} → statement M
 item-of-spec =
     tie.close
     (tie.spec
-    object-of-requires
     returns
-    object-of-requires-2
     returns-2
     returns-3
     returns-4

@@ -2,10 +2,10 @@
 use mathlib.Core.Path.{ap, _∙_}
 use borrow.Author.Needs.{needs}
 use denote.Ref.{now}
-use Rattle.contact.specs.Schema.{properties}
+use Rattle.contact.specs.Schema.{types}
 use Rattle.text.specs.Strings.{nameOf}
 use Rattle.laws.specs.Order.{same}
-use Rattle.card.specs.Table.{lines}
+use Rattle.card.specs.Table.{ownedFrom, lines}
 use Rattle.card.proofs.Columns.{name-at}
 use Rattle.card.proofs.schema.named.Statement.{statement}
 use Rattle.card.proofs.schema.named.Tie as tie
@@ -20,7 +20,7 @@ name-is-requires : tie.Need-name-is-requires
 name-is-requires c κs = search needs
 
 returns : tie.Need-returns
-unfolding lines properties
+unfolding lines ownedFrom types
 returns c =
     let a = c .before .before .before .before .args in
     let p = c .before .before .before .before .pre in

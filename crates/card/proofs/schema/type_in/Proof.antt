@@ -6,15 +6,14 @@ use borrow.Author.Needs.{needs}
 use denote.Ref.{now}
 use lib.ListN.{drop}
 use Rattle.text.specs.Strings.{nameOf}
-use Rattle.contact.specs.Schema.{properties, typeIn}
-use Rattle.card.specs.Types.{objectType}
-use Rattle.card.specs.Table.{lines, count}
-use Rattle.card.proofs.Search.{typeAmong, type-all, type-hit, type-on, type-end}
+use Rattle.contact.specs.Schema.{any, properties, typeIn}
+use Rattle.card.specs.Table.{lines, noLine, count}
+use Rattle.card.proofs.Search.{named, typeAmong, type-all, lines-length, first-hit, first-on, first-end}
 use Rattle.card.proofs.schema.type_in.Statement.{statement}
 use Rattle.card.proofs.schema.type_in.Tie as tie
 
 abbrev Inv-loop : tie.InvT-loop
-Inv-loop text o s e i₀ i = (typeAmong (objectType o) (nameOf text s e) (drop i lines) ≡ typeIn (properties (objectType o)) (nameOf text s e)) × (i ≤ count)
+Inv-loop text o s e i₀ i = (typeAmong o (nameOf text s e) (drop i lines) ≡ typeIn (properties o) (nameOf text s e)) × (i ≤ count)
 
 abbrev μ-loop : tie.MeasureT-loop
 μ-loop text o s e i₀ i = count - i
@@ -37,7 +36,7 @@ returns c =
     let loop = c .before .before .before .before .before .loop in
     let loop-test = c .before .before .before .before .loop-test in
     let is-property = c .before .before .before .is-property in
-    c .type-of .ensures ∙ c .before .code-at .ensures .type ∙ sym (type-hit (objectType (a .o)) (nameOf (now (a .text)) (a .s) (a .e)) (loop .i)
+    c .type-of .ensures ∙ c .before .code-at .ensures .type ∙ sym (first-hit (named (nameOf (now (a .text)) (a .s) (a .e))) (λ k. k .type) any (a .o) lines noLine count lines-length (loop .i)
     (loop-test .taken) (sym (is-property .ensures) ∙ c .before .before .if1 .taken)) ∙ loop .inv .0
 
 add-i : tie.Need-add-i Inv-loop μ-loop
@@ -50,7 +49,7 @@ loop-again : tie.Need-loop-again Inv-loop μ-loop
 loop-again c =
     let a = c .before .before .before .before .before .args in
     let loop = c .before .before .before .loop in (
-      sym (type-on (objectType (a .o)) (nameOf (now (a .text)) (a .s) (a .e)) (loop .i) (c .before .before .loop-test .taken)
+      sym (first-on (named (nameOf (now (a .text)) (a .s) (a .e))) (λ k. k .type) any (a .o) lines noLine count lines-length (loop .i) (c .before .before .loop-test .taken)
           (sym (c .before .is-property .ensures) ∙ c .if1 .left)) ∙ loop .inv .0,
       omega arith,
     )
@@ -58,7 +57,7 @@ loop-again c =
 returns-2 : tie.Need-returns-2 Inv-loop μ-loop
 returns-2 c =
     let a = c .before .before .before .args in
-    sym (type-end (objectType (a .o)) (nameOf (now (a .text)) (a .s) (a .e)) (c .before .loop .i) (c .loop-test .left)) ∙ c .before .loop .inv .0
+    sym (first-end (named (nameOf (now (a .text)) (a .s) (a .e))) (λ k. k .type) any (a .o) lines noLine count lines-length (c .before .loop .i) (c .loop-test .left)) ∙ c .before .loop .inv .0
 
 pub type-in-spec : {M : Type 1} → statement M
 type-in-spec =

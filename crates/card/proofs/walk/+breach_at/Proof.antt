@@ -7,7 +7,10 @@ use denote.Ref.{now}
 use borrow.Author.Needs.{needs}
 use Rattle.text.specs.Doc.{docOf}
 use Rattle.text.proofs.Promise.{first-row}
+use Rattle.contact.specs.Schema as S
+use Rattle.contact.specs.Judge.{chosen}
 use Rattle.card.specs.Types.{typeOf}
+use Rattle.card.proofs.Roles.{type-chosen}
 use Rattle.card.specs.Walk.{foundOf}
 use Rattle.card.proofs.WalkLaws.{breach-row, Judging, judging-starts, here, value-here, kinds-here, judging-hit, judging-on, judging-ends}
 use Prim.Native.Nat.{ℕ, _<_}
@@ -141,7 +144,8 @@ breach-at-returns-2 t c =
     let breach-at = c .before .before .breach-at in
     rw (c .enum-told .given .1) (judging-hit text table (typeOf (a .ty)) (a .key) (a .row) (next-row .result) (loop .at) (loop .inv .0) f v k
     (loop-test .taken) (typeOf (member-type .result)) (key-fits .result) (foundOf (breach-at .result))
-    (rw (name-start .ensures, name-end .ensures) at (member-type .ensures))
+    (sym (type-chosen (member-type .result) (docOf text (here text table (typeOf (a .ty)) (a .key) (a .row) (next-row .result) (loop .at) (loop .inv .0) f v k (loop-test .taken))))
+    ∙ ap (λ (t : S.Ty). chosen t (docOf text (here text table (typeOf (a .ty)) (a .key) (a .row) (next-row .result) (loop .at) (loop .inv .0) f v k (loop-test .taken)))) (rw (name-start .ensures, name-end .ensures) at (member-type .ensures)))
     (λ earlier. rw (name-start .ensures, name-end .ensures) at (key-fits .ensures earlier)) (breach-at .ensures
     (here text table (typeOf (a .ty)) (a .key) (a .row) (next-row .result) (loop .at) (loop .inv .0) f v k (loop-test .taken))
     (value-here text table (typeOf (a .ty)) (a .key) (a .row) (next-row .result) (loop .at) (loop .inv .0) f v k (loop-test .taken))
@@ -184,7 +188,8 @@ breach-at-loop-again t c =
     let breach-at = c .before .before .before .breach-at in (
       λ f v k. rw (c .next-row2 .ensures) (judging-on text table (typeOf (a .ty)) (a .key) (a .row) (next-row .result) (loop .at) (loop .inv .0) f v k
           (loop-test .taken) (typeOf (member-type .result)) (key-fits .result) (foundOf (breach-at .result))
-          (rw (name-start .ensures, name-end .ensures) at (member-type .ensures))
+          (sym (type-chosen (member-type .result) (docOf text (here text table (typeOf (a .ty)) (a .key) (a .row) (next-row .result) (loop .at) (loop .inv .0) f v k (loop-test .taken))))
+          ∙ ap (λ (t : S.Ty). chosen t (docOf text (here text table (typeOf (a .ty)) (a .key) (a .row) (next-row .result) (loop .at) (loop .inv .0) f v k (loop-test .taken)))) (rw (name-start .ensures, name-end .ensures) at (member-type .ensures)))
           (λ earlier. rw (name-start .ensures, name-end .ensures) at (key-fits .ensures earlier)) (breach-at .ensures
           (here text table (typeOf (a .ty)) (a .key) (a .row) (next-row .result) (loop .at) (loop .inv .0) f v k (loop-test .taken))
           (value-here text table (typeOf (a .ty)) (a .key) (a .row) (next-row .result) (loop .at) (loop .inv .0) f v k (loop-test .taken))

@@ -6,7 +6,7 @@ use denote.Ref.{now}
 use Rattle.text.specs.Firsts.{insideAt}
 use Rattle.text.proofs.Promise.{first-row, inside}
 use Rattle.contact.specs.Schema.{objectOf, fits}
-use Rattle.card.specs.Types.{typeOf, objectType}
+use Rattle.card.specs.Types.{typeOf}
 use Rattle.laws.proofs.Picks.{granted, denied}
 use Rattle.card.proofs.WalkLaws.{row-unfit, row-object, row-value}
 use borrow.Author.Needs.{needs}
@@ -65,11 +65,11 @@ returns-2 c =
     let role-of = c .before .before .before .before .before .role-of in
     let o = c .before .before .before .o in
     let ty : typeOf (c .before .before .before .before .before .before .before .before .before .before .before .args .ty) ≡ objectOf
-    (objectType (c .before .before .before .o .given .0 .0)) = rw (o .given .1) at (role-of .ensures) in
+    (c .before .before .before .o .given .0 .0) = rw (o .given .1) at (role-of .ensures) in
     rw ty
     (c .object-number .ensures (insideAt f)
     (rw (c .before .next-row .ensures ∙ ap (λ m. a .row + 1 + m) (first-row f (v .some) (v .stands) .below)) (inside f (v .some) (v .stands)))
-    ∙ row-object (now (a .text)) f (v .some) (objectType (o .given .0 .0)) (a .key)
+    ∙ row-object (now (a .text)) f (v .some) (o .given .0 .0) (a .key)
     (rw ty at (sym (ap (fits (typeOf (a .ty))) (kind .ensures ∙ first-row f (v .some) (v .stands) .kind)) ∙ sym (kind-fits .ensures)
     ∙ granted (kind-fits .result) (if1 .left))))
 
