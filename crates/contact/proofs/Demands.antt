@@ -96,7 +96,7 @@ module _ (L : Limits) (unique : L .unique ≡ true) where
       go (done text g) e =
           let (f, pass) = passed-text L words room unique t lang (done text g) e (λ r z. let n : _≡_ {A = ℕ} 0 1 = cc in omega arith) in
           let a = accepted-iff L words room (docOf t f) lang text g .0 (of-doc L unique words room t lang f pass (done text g) e) in
-          let c = passed-card L words text g (a .reads) in
+          let c = passed-card L words text g (a .accepted .reads) in
           accepted-ends (localize t lang words room) (rowsOf g) text (size g) (rows-length g) (rows-fit words g (c .readable .enough))
           (output-fits L words room (docOf t f) lang text g (of-doc L unique words room t lang f pass (done text g) e))
 

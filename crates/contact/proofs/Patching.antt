@@ -22,6 +22,7 @@ pub mod Least
 pub mod Faults
 pub mod Start
 pub mod Steps
+pub mod Entering
 pub mod Refused
 pub mod Public
 pub mod Fine

@@ -1,8 +1,8 @@
--- The conditions 21 to 28 of the refusal sheet, each by itself and in words. 22 to 26 are about a document and the members of a PatchObject that is to
--- patch it, and name the key that breaks them (`BreaksWith`); a key counts by the pointer that it writes, so one with a loose `~` breaks 22 alone. The
--- rest is about a card and a language: there the document is the card without its localizations (`LeftOutOf`), the PatchObject is the one that is found,
--- and that is the one that the card has (`PatchUnder`); 27 and 28 speak of the text that would be written. The answer is the broken condition of
--- smallest number, of 22 to 26 for the smallest key (`FirstBroken`; proofs/Patching/Refused.antt).
+-- The conditions 21 to 28 of the refusal sheet, each by itself and in words. 22 to 28 are about a document and the members of a PatchObject that is to
+-- patch it (`BrokenPatch`). 22 to 26 name the key that breaks them (`BreaksWith`); a key counts by the pointer that it writes, so one with a loose `~`
+-- breaks 22 alone. 27 and 28 speak of the text that would be written. Of a card and a language (`BrokenCondition`) the document is the card without its
+-- localizations (`LeftOutOf`), and the PatchObject is the one that is found, which is the one that the card has (`PatchUnder`); if there is none, that
+-- is 21. The answer is the broken condition of smallest number, of 22 to 26 for the smallest key (proofs/Patching/Refused.antt).
 -- Assumes nothing: these are definitions.
 use Prim.Native.Nat.{ℕ, _≤_, _<_}
 use mathlib.Core.Path.{_≡_}
@@ -20,7 +20,8 @@ use Rattle.contact.specs.Verdict.{refusedCard}
 use Rattle.contact.specs.Judging.{Says}
 use Rattle.contact.specs.Pointer.{Pointer, last, parts, find}
 use Rattle.contact.specs.PointerText.{PointerText}
-use Rattle.contact.specs.Localize.{keyRefusal, patchAt, patchedDoc}
+use Rattle.contact.specs.Patch.{entriesOf, applied}
+use Rattle.contact.specs.Localize.{keyRefusal, patchAt}
 use Rattle.contact.specs.Entries.{Prefix}
 use Rattle.contact.specs.declared.CardRefusal.{CardRefusal}
 use Rattle.contact.specs.declared.LocalRefusal.{LocalRefusal}
@@ -114,7 +115,7 @@ pub data LeftOut (n : Name) : Members → Members → Type 0 where
 pub data LeftOutOf (n : Name) : Doc → Doc → Type 0 where
   leftOut : {ms rest : Members} → LeftOut n ms rest → LeftOutOf n (object ms) (object rest)
 
--- ---- 21 to 28: a card and a language
+-- ---- the refusals
 
 -- the second number that the sheet has for a refusal: 0 for 21 to 26, for 27 the bytes needed, for 28 the number of the refusal inside
 pub data SecondNumber : LocalRefusal → ℕ → Type 0 where
@@ -127,19 +128,21 @@ pub data SecondNumber : LocalRefusal → ℕ → Type 0 where
   needed : {n : ℕ} → SecondNumber (Short n) n
   inside : {r : CardRefusal} → SecondNumber (Inner r) (refusedCard r .number)
 
-module _ (L : Limits) (words room : ℕ) (card : Doc) (lang : Name) where
-  -- the condition of this number is broken, and calls for this refusal
-  pub data BrokenCondition : ℕ → LocalRefusal → Type 0 where
-    noLanguage : ((ms : Members) → ¬ PatchOf card lang ms) → BrokenCondition 21 NoLanguage
-    withKey : {ms : Members} {d : Doc} {number : ℕ} {key : Name} → PatchOf card lang ms → LeftOutOf (bytes "localizations") card d
-        → BreaksWith d ms number key → BrokenCondition number (keyRefusal number key)
-    short : {ms : Members} → PatchOf card lang ms → room < length (written (patchedDoc card ms))
-        → BrokenCondition 27 (Short (length (written (patchedDoc card ms))))
-    -- it is no card: by reading's refusal, or by the first rule that it breaks (`Says`, specs/Judging.antt)
-    unfit : {ms : Members} {r : CardRefusal} {table : List ℕ} → PatchOf card lang ms
-        → Says L words (written (patchedDoc card ms)) (refusedCard r) table → BrokenCondition 28 (Inner r)
+module _ (L : Limits) (words room : ℕ) where
+  -- 22 to 28, of a document and the members of a PatchObject: the condition of this number is broken, and calls for this refusal
+  pub data BrokenPatch (d : Doc) (ms : Members) : ℕ → LocalRefusal → Type 0 where
+    withKey : {number : ℕ} {key : Name} → BreaksWith d ms number key → BrokenPatch d ms number (keyRefusal number key)
+    short : room < length (written (applied d (entriesOf ms))) → BrokenPatch d ms 27 (Short (length (written (applied d (entriesOf ms)))))
+    -- what would be written is no card: by reading's refusal, or by the first rule that it breaks (`Says`, specs/Judging.antt)
+    unfit : {r : CardRefusal} {table : List ℕ} → Says L words (written (applied d (entriesOf ms))) (refusedCard r) table → BrokenPatch d ms 28 (Inner r)
 
-  -- the refusal of the smallest number whose condition is broken
-  pub record Smallest (number : ℕ) (r : LocalRefusal) : Type 0 where
-    pub broken : BrokenCondition number r
-    pub least : (m : ℕ) (q : LocalRefusal) → BrokenCondition m q → number ≤ m
+  -- 21 to 28, of a card and a language
+  pub data BrokenCondition (card : Doc) (lang : Name) : ℕ → LocalRefusal → Type 0 where
+    noLanguage : ((ms : Members) → ¬ PatchOf card lang ms) → BrokenCondition card lang 21 NoLanguage
+    ofPatch : {ms : Members} {d : Doc} {number : ℕ} {r : LocalRefusal} → PatchOf card lang ms → LeftOutOf (bytes "localizations") card d
+        → BrokenPatch d ms number r → BrokenCondition card lang number r
+
+-- the refusal of the smallest number whose condition is broken
+pub record Smallest (Broken : ℕ → LocalRefusal → Type 0) (number : ℕ) (r : LocalRefusal) : Type 0 where
+  pub broken : Broken number r
+  pub least : (m : ℕ) (q : LocalRefusal) → Broken m q → number ≤ m

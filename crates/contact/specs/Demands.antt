@@ -236,10 +236,10 @@ pub record Localizing (L : Limits) (serve : Call → Left) : Type 0 where
   -- and else refused by the broken condition of smallest number, with the sheet's second number
   pub refused : (t : List ℕ) (lang : Name) (words room : ℕ) (f : Forest) → CardText L words t f → (n second : ℕ) → 0 < n
       → (serve (localize t lang words room) .answer ≡ numbers n second 0)
-      ↔ ((r : LocalRefusal) × SecondNumber r second × Smallest L words room (docOf t f) lang n r)
+      ↔ ((r : LocalRefusal) × SecondNumber r second × Smallest (BrokenCondition L words room (docOf t f) lang) n r)
   -- the same of the answer that the contract allows: it is that refusal itself, with 28's inner place
   pub refused-answer : (t : List ℕ) (lang : Name) (words room : ℕ) (f : Forest) → CardText L words t f → (a : Localized) (x o : List ℕ)
-      → Localizes L words room t lang a x o → (r : LocalRefusal) → (a ≡ Denied r) ↔ ((n : ℕ) × Smallest L words room (docOf t f) lang n r)
+      → Localizes L words room t lang a x o → (r : LocalRefusal) → (a ≡ Denied r) ↔ ((n : ℕ) × Smallest (BrokenCondition L words room (docOf t f) lang) n r)
   -- a refusal by 22 to 26 is about one key: of those that break the condition on the card without its localizations the smallest in byte order
   pub key-at-fault : (t : List ℕ) (lang : Name) (words room : ℕ) (f : Forest) → CardText L words t f → (n : ℕ) → Within 22 26 n
       → (serve (localize t lang words room) .answer ≡ numbers n 0 0)

@@ -16,7 +16,7 @@ use Rattle.text.proofs.Readback.Documents.{text-shorter}
 use Rattle.text.proofs.Grammar.Accepted.{accepts}
 use Rattle.contact.specs.Verdict.{refusedCard, Judged, passed, failed, judgedOf, sheetOfJudged, paperOfVerdict}
 use Rattle.contact.specs.Localize.{refusedLocal, keyRefusal, Outcome, done, denied, start, patchedDoc, localizedDoc, localizedOf, sheetOfOutcome, tableOfOutcome, outputOfOutcome, answerOfOutcome, paperOfLocalized}
-use Rattle.contact.specs.Conditions.{PatchOf, SecondNumber, inside, BrokenCondition, Applicable, FirstBroken, Smallest}
+use Rattle.contact.specs.Conditions.{PatchOf, SecondNumber, inside, BrokenCondition, withKey, Applicable, FirstBroken, Smallest}
 use Rattle.contact.specs.Services.{judge, localize, served}
 use Rattle.contact.specs.Demands.{Passes, Within, CardText, WouldBe, Localization}
 use Rattle.contact.specs.Contract.{Localizes}
@@ -26,7 +26,8 @@ use Rattle.contact.specs.declared.LocalRefusal.the-variants.{Inner}
 use Rattle.contact.specs.declared.Localized.{Localized}
 use Rattle.contact.specs.declared.Localized.the-variants.{Denied}
 use Rattle.contact.proofs.Patching.Public.{passed-so, failed-so}
-use Rattle.contact.proofs.Patching.Refused.{one-patch, Accepted, accepted-applicable, accepted-iff, refused-iff, broken-number, broken-second, unfit-of, key-second, key-smallest, smallest-key}
+use Rattle.contact.proofs.Patching.Entering.{Accepted, unfit-of, key-second, key-smallest, smallest-key}
+use Rattle.contact.proofs.Patching.Refused.{AcceptedCard, accepted-iff, accepted-unbroken, refused-iff, patch-of, smallest-of, smallest-on, broken-number, broken-second}
 use Rattle.contact.proofs.Patching.Fine.{fine}
 use Rattle.contact.proofs.Patching.Together.{patched-card}
 use Rattle.contact.proofs.Patching.Readback.{passed-tree, card-writable, card-written, card-shorter, card-fewer, never-longer, inner-number}
@@ -68,20 +69,21 @@ module _ (L : Limits) (unique : L .unique ≡ true) (words room : ℕ) (t : List
     localization : (text : List ℕ) (g : Forest) → outcome ≡ done text g → Localization L (served L) words room t f lang
     unfolding served sheetOfOutcome paperOfLocalized answerOfOutcome tableOfOutcome outputOfOutcome
     localization text g e =
-        let a : Accepted L words room (docOf t f) lang text g = accepted-iff L words room (docOf t f) lang text g .0 (of-doc (done text g) e) in
-        let ms : Members = a .members in
-        let w : WouldBe L words t f ms = localize-would L unique words t lang f pass ms (a .patch) (accepted-applicable L words room (docOf t f) lang a) in
-        let c : CardText L words text g = passed-card L words text g (a .reads) in
+        let c : AcceptedCard L words room (docOf t f) lang text g = accepted-iff L words room (docOf t f) lang text g .0 (of-doc (done text g) e) in
+        let ms : Members = c .members in
+        let a : Accepted L words room (start (docOf t f)) ms text g = c .accepted in
+        let w : WouldBe L words t f ms = localize-would L unique words t lang f pass ms (c .patch) (λ n key b. a .unbroken n _ (withKey b)) in
+        let k : CardText L words text g = passed-card L words text g (a .reads) in
         let tree : g ≡ rootOf (w .writes .back .derives) = passed-tree (w .writes) g (rw (a .writes) at (a .reads)) in
         record {
           members = ms;
-          patch = a .patch;
+          patch = c .patch;
           would-be = w;
           text = text;
           writes = a .writes;
           tree = g;
-          card = c;
-          says = read-documents L words text g (c .readable) (c .document) .0 (c .says) ∙ ap₂ docOf (a .writes) tree ∙ w .writes .back .says;
+          card = k;
+          says = read-documents L words text g (k .readable) (k .document) .0 (k .says) ∙ ap₂ docOf (a .writes) tree ∙ w .writes .back .says;
           left = rw e;
         }
 
@@ -98,7 +100,7 @@ module _ (L : Limits) (unique : L .unique ≡ true) (words room : ℕ) (t : List
     localize-accepted = (λ z. unbroken outcome refl z, λ u. whole outcome refl u)
       where
         unbroken : (o : Outcome) → outcome ≡ o → sheetOfOutcome o .number ≡ 0 → (n : ℕ) (r : LocalRefusal) → ¬ BrokenCondition L words room (docOf t f) lang n r
-        unbroken (done text g) e z = accepted-iff L words room (docOf t f) lang text g .0 (of-doc (done text g) e) .unbroken
+        unbroken (done text g) e z = accepted-unbroken L words room (docOf t f) lang (accepted-iff L words room (docOf t f) lang text g .0 (of-doc (done text g) e))
         unbroken (denied r) e z = absurd (omega (arith, local-some (refusedLocal r .number) (line-of (local-line r))))
 
         whole : (o : Outcome) → outcome ≡ o → ((n : ℕ) (r : LocalRefusal) → ¬ BrokenCondition L words room (docOf t f) lang n r) → sheetOfOutcome outcome .number ≡ 0
@@ -107,19 +109,19 @@ module _ (L : Limits) (unique : L .unique ≡ true) (words room : ℕ) (t : List
 
     pub localize-refused : (n second : ℕ) → 0 < n
         → (served L (localize t lang words room) .answer ≡ numbers n second 0)
-        ↔ ((r : LocalRefusal) × SecondNumber r second × Smallest L words room (docOf t f) lang n r)
+        ↔ ((r : LocalRefusal) × SecondNumber r second × Smallest (BrokenCondition L words room (docOf t f) lang) n r)
     unfolding served sheetOfOutcome paperOfLocalized answerOfOutcome
     localize-refused n second positive = (λ e. go outcome refl e, back)
       where
         go : (o : Outcome) → outcome ≡ o → sheetOfOutcome o ≡ numbers n second 0
-            → (r : LocalRefusal) × SecondNumber r second × Smallest L words room (docOf t f) lang n r
+            → (r : LocalRefusal) × SecondNumber r second × Smallest (BrokenCondition L words room (docOf t f) lang) n r
         go (done text g) e q = absurd (omega (arith, same-number q))
         go (denied r) e q =
-            let s : Smallest L words room (docOf t f) lang n r =
+            let s : Smallest (BrokenCondition L words room (docOf t f) lang) n r =
             rw (same-number q) at (refused-iff L words room (docOf t f) lang r .0 (of-doc (denied r) e)) in
             (r, subst (SecondNumber r) (same-second q) (broken-second L words room (docOf t f) lang (s .broken)), s)
 
-        back : (r : LocalRefusal) × SecondNumber r second × Smallest L words room (docOf t f) lang n r → sheetOfOutcome outcome ≡ numbers n second 0
+        back : (r : LocalRefusal) × SecondNumber r second × Smallest (BrokenCondition L words room (docOf t f) lang) n r → sheetOfOutcome outcome ≡ numbers n second 0
         back (r, x, s) =
             let number : refusedLocal r .number ≡ n = broken-number L words room (docOf t f) lang (s .broken) in
             let e = refused-iff L words room (docOf t f) lang r .1 (rw (sym number) at s) in
@@ -130,14 +132,17 @@ module _ (L : Limits) (unique : L .unique ≡ true) (words room : ℕ) (t : List
         → (served L (localize t lang words room) .answer ≡ numbers n 0 0)
         ↔ ((ms : Members) × (key : Name) × PatchOf (docOf t f) lang ms × FirstBroken (start (docOf t f)) ms n key)
     localize-key n (low, high) = (
-      λ e. let (r, x, s) = localize-refused n 0 (omega arith) .0 e in smallest-key L words room (docOf t f) lang n r low high s,
+      λ e. let (r, x, s) = localize-refused n 0 (omega arith) .0 e in
+          let (ms, patch) = patch-of L words room (docOf t f) lang (s .broken) (omega arith) in
+          let (key, b) = smallest-key L words room (start (docOf t f)) ms n r high (smallest-on L words room (docOf t f) lang ms patch s) in
+          (ms, key, patch, b),
       λ (ms, key, patch, b). localize-refused n 0 (omega arith) .1
-          (keyRefusal n key, key-second (b .breaks), key-smallest L words room (docOf t f) lang ms patch b),
+          (keyRefusal n key, key-second (b .breaks), smallest-of L words room (docOf t f) lang ms patch (key-smallest L words room (start (docOf t f)) ms b)),
     )
 
     -- the refusal itself
     pub refused-answer : (a : Localized) (x o : List ℕ) → Localizes L words room t lang a x o → (r : LocalRefusal)
-        → (a ≡ Denied r) ↔ ((n : ℕ) × Smallest L words room (docOf t f) lang n r)
+        → (a ≡ Denied r) ↔ ((n : ℕ) × Smallest (BrokenCondition L words room (docOf t f) lang) n r)
     unfolding answerOfOutcome
     refused-answer a x o l r =
         let is : answerOfOutcome (localizedDoc L words room (docOf t f) lang) ≡ a = ap answerOfOutcome (sym (passed-so L words room t lang f pass)) ∙ sym (l .answer) in
@@ -147,7 +152,7 @@ module _ (L : Limits) (unique : L .unique ≡ true) (words room : ℕ) (t : List
         denied-so (done text g) e = let z : _≡_ {A = ℕ} 0 1 = cc in absurd (omega arith)
         denied-so (denied q) e = let k : q ≡ r = cc in ap (λ (y : LocalRefusal). denied y) k
 
-        back : (n : ℕ) → Smallest L words room (docOf t f) lang n r → answerOfOutcome (localizedDoc L words room (docOf t f) lang) ≡ Denied r
+        back : (n : ℕ) → Smallest (BrokenCondition L words room (docOf t f) lang) n r → answerOfOutcome (localizedDoc L words room (docOf t f) lang) ≡ Denied r
         back n s =
             let number : refusedLocal r .number ≡ n = broken-number L words room (docOf t f) lang (s .broken) in
             ap answerOfOutcome (refused-iff L words room (docOf t f) lang r .1 (rw (sym number) at s))
@@ -158,9 +163,9 @@ module _ (L : Limits) (unique : L .unique ≡ true) (words room : ℕ) (t : List
     unfolding served sheetOfJudged paperOfVerdict
     localize-again ms patch number e =
         let (r, x, s) = localize-refused 28 number (omega arith) .0 e in
-        let (ns, q, p, judged, is) = unfit-of L words room (docOf t f) lang (s .broken) in
+        let (q, judged, is) = unfit-of L words room (start (docOf t f)) ms (smallest-on L words room (docOf t f) lang ms patch s .broken) in
         let inner : SecondNumber (Inner q) number = rw is at x in
-        rw (one-patch (docOf t f) lang ms ns patch p, judged) (inner-second inner)
+        rw judged (inner-second inner)
       where
         inner-second : {q : CardRefusal} {m : ℕ} → SecondNumber (Inner q) m → refusedCard q .number ≡ m
         inner-second inside = refl

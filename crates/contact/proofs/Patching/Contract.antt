@@ -11,14 +11,15 @@ use Rattle.text.specs.Limits.{Limits}
 use Rattle.text.specs.Tree.{Forest}
 use Rattle.text.specs.Doc.{Name, Doc, docOf}
 use Rattle.text.specs.Writing.{written}
-use Rattle.contact.specs.Localize.{paperOfLocalized, Outcome, done, localizedDoc, localizedOf, answerOfOutcome, sheetOfOutcome, tableOfOutcome, outputOfOutcome, patchedDoc}
+use Rattle.contact.specs.Patch.{entriesOf, applied}
+use Rattle.contact.specs.Localize.{paperOfLocalized, Outcome, done, localizedDoc, localizedOf, answerOfOutcome, sheetOfOutcome, tableOfOutcome, outputOfOutcome, start}
 use Rattle.contact.specs.Verdict.{passed, judgedOf}
 use Rattle.contact.specs.Patching.{OrderOnly}
 use Rattle.contact.specs.Contract.{Localizes}
 use Rattle.contact.specs.Conditions.{short}
 use Rattle.contact.specs.declared.Localized.{Localized}
 use Rattle.contact.specs.declared.LocalRefusal.the-variants.{Short}
-use Rattle.contact.proofs.Patching.Refused.{Accepted, accepted-iff}
+use Rattle.contact.proofs.Patching.Refused.{accepted-iff}
 use Rattle.contact.proofs.Patching.Together.{order-of-texts}
 
 -- it is enough to promise the answer: the numbers follow
@@ -50,8 +51,8 @@ pub output-fits : (L : Limits) (words room : ℕ) (card : Doc) (lang : Name) (te
     → localizedDoc L words room card lang ≡ done text f → length text ≤ room
 output-fits L words room card lang text f e = elim (decLe (length text) room) [
   | yes k ↦ k
-  | no k ↦ let a : Accepted L words room card lang text f = accepted-iff L words room card lang text f .0 e in
-      let y : List ℕ = written (patchedDoc card (a .members)) in
+  | no k ↦ let a = accepted-iff L words room card lang text f .0 e .accepted in
+      let y : List ℕ = written (applied (start card) (entriesOf (accepted-iff L words room card lang text f .0 e .members))) in
       let h : room < length y = omega (arith, ap length (a .writes)) in
-      absurd (a .unbroken 27 (Short (length y)) (short (a .patch) h))
+      absurd (a .unbroken 27 (Short (length y)) (short h))
 ]

@@ -32,7 +32,7 @@ use Rattle.contact.specs.Verdict.{refusedFault, refusedCard, Judged, pas
 use Rattle.contact.specs.Patch.{entriesOf}
 use Rattle.contact.specs.Localize.{Outcome, refusedLocal, denied, start, localizedOf, patchedDoc}
 use Rattle.contact.specs.Entries.{NoClash, ParentsThere}
-use Rattle.contact.specs.Conditions.{PatchOf, Applicable, Smallest}
+use Rattle.contact.specs.Conditions.{PatchOf, Applicable, BrokenPatch, Smallest}
 use Rattle.contact.specs.Patching.{WrittenCard}
 use Rattle.contact.specs.declared.CardFault.{CardFault}
 use Rattle.contact.specs.declared.CardFault.the-variants.{Kind, Missing, Value, Rule}
@@ -41,7 +41,8 @@ use Rattle.contact.specs.declared.CardRefusal.the-variants.{Text, Card}
 use Rattle.contact.specs.declared.LocalRefusal.{LocalRefusal}
 use Rattle.contact.specs.declared.LocalRefusal.the-variants.{Given, Short, Inner}
 use Rattle.contact.proofs.Judging.{judging}
-use Rattle.contact.proofs.Patching.Refused.{refused-iff, late-applicable, short-of, unfit-of}
+use Rattle.contact.proofs.Patching.Entering.{late-applicable, short-of, unfit-of}
+use Rattle.contact.proofs.Patching.Refused.{refused-iff, patch-of, smallest-on}
 use Rattle.contact.proofs.Patching.Public.{passed-so, failed-so}
 use Rattle.contact.proofs.Patching.Every.{labels-long}
 use Rattle.contact.proofs.Patching.Room.{room-enough, values-enough}
@@ -174,21 +175,27 @@ module _ (L : Limits) (words room : ℕ) (unique : L .unique ≡ true) where
       go (failed r) k = absurd (not r (sym e ∙ failed-so L words room t lang r k))
 
   module _ (t : List ℕ) (lang : Name) (f : Forest) (pass : judgedOf L words t ≡ passed f) where
-    -- its document has the outcome
-    of-card : (r : LocalRefusal) → localizedOf L words room t lang ≡ denied r → Smallest L words room (docOf t f) lang (refusedLocal r .number) r
-    of-card r e = refused-iff L words room (docOf t f) lang r .0 (sym (passed-so L words room t lang f pass) ∙ e)
+    -- its document has the outcome, by the PatchObject that it has
+    of-card : (r : LocalRefusal) → localizedOf L words room t lang ≡ denied r → 21 < refusedLocal r .number
+        → (ms : Members) × PatchOf (docOf t f) lang ms × Smallest (BrokenPatch L words room (start (docOf t f)) ms) (refusedLocal r .number) r
+    of-card r e l =
+        let s = refused-iff L words room (docOf t f) lang r .0 (sym (passed-so L words room t lang f pass) ∙ e) in
+        let (ms, patch) = patch-of L words room (docOf t f) lang (s .broken) l in
+        (ms, patch, smallest-on L words room (docOf t f) lang ms patch s)
 
-    card-longest : (n : ℕ) → Smallest L words room (docOf t f) lang 27 (Short n) → (room < n) × (n ≤ length t)
-    card-longest n s =
-        let (ms, patch, short, q) = short-of L words room (docOf t f) lang (s .broken) in
-        let h = fine (start (docOf t f)) ms (late-applicable L words room (docOf t f) lang ms patch s (omega arith)) in
+    card-longest : (n : ℕ) (ms : Members) → PatchOf (docOf t f) lang ms → Smallest (BrokenPatch L words room (start (docOf t f)) ms) 27 (Short n)
+        → (room < n) × (n ≤ length t)
+    card-longest n ms patch s =
+        let (short, q) = short-of L words room (start (docOf t f)) ms (s .broken) in
+        let h = fine (start (docOf t f)) ms (late-applicable L words room (start (docOf t f)) ms s (omega arith)) in
         let same : n ≡ length (written (patchedDoc (docOf t f) ms)) = cc in
         (omega arith, omega (arith, card-shorter L unique words t f pass lang ms patch (h .noClash) (h .parents)))
 
-    card-inner : (r : CardRefusal) → Smallest L words room (docOf t f) lang 28 (Inner r) → OnlyInner r
-    card-inner r s =
-        let (ms, x, patch, judged, q) = unfit-of L words room (docOf t f) lang (s .broken) in
-        let u = late-applicable L words room (docOf t f) lang ms patch s (omega arith) in
+    card-inner : (r : CardRefusal) (ms : Members) → PatchOf (docOf t f) lang ms → Smallest (BrokenPatch L words room (start (docOf t f)) ms) 28 (Inner r)
+        → OnlyInner r
+    card-inner r ms patch s =
+        let (x, judged, q) = unfit-of L words room (start (docOf t f)) ms (s .broken) in
+        let u = late-applicable L words room (start (docOf t f)) ms s (omega arith) in
         let same : x ≡ r = cc in
         failed-inner {x = patchedDoc (docOf t f) ms} (card-written L unique words t f pass lang ms patch u) r (rw same at judged)
 
@@ -196,13 +203,15 @@ module _ (L : Limits) (words room : ℕ) (unique : L .unique ≡ true) where
   unfolding refusedLocal
   never-longer t lang n e =
       let (f, pass) = passed-text t lang (denied (Short n)) e (λ r z. let k : _≡_ {A = ℕ} 0 1 = cc in omega arith) in
-      card-longest t lang f pass n (of-card t lang f pass (Short n) e)
+      let (ms, patch, s) = of-card t lang f pass (Short n) e (omega arith) in
+      card-longest t lang f pass n ms patch s
 
   only-inner : (t : List ℕ) (lang : Name) (r : CardRefusal) → localizedOf L words room t lang ≡ denied (Inner r) → OnlyInner r
   unfolding refusedLocal
   only-inner t lang r e =
       let (f, pass) = passed-text t lang (denied (Inner r)) e (λ q z. let n : _≡_ {A = ℕ} 0 1 = cc in omega arith) in
-      card-inner t lang f pass r (of-card t lang f pass (Inner r) e)
+      let (ms, patch, s) = of-card t lang f pass (Inner r) e (omega arith) in
+      card-inner t lang f pass r ms patch s
 
   pub inner-number : (t : List ℕ) (lang : Name) (r : CardRefusal) → localizedOf L words room t lang ≡ denied (Inner r)
       → (refusedCard r .number ≡ 5) ⊎ ((11 ≤ refusedCard r .number) × (refusedCard r .number ≤ 14))
