@@ -7,6 +7,7 @@ use denote.Ref.{now}
 use Rattle.text.specs.Strings.{decode}
 use Rattle.laws.specs.Order.{same}
 use Rattle.contact.specs.Schema.{types}
+use Rattle.card.specs.Table.{typeCount}
 use Rattle.card.proofs.Columns.{name-place, type-name}
 use Rattle.card.proofs.schema.is_type_name.Statement.{statement}
 use Rattle.card.proofs.schema.is_type_name.Tie as tie
@@ -19,7 +20,7 @@ slice-aggregate-word-at c = search needs
 
 word-at-requires : tie.Need-word-at-requires
 word-at-requires c κs =
-    let le : c .before .name-place .result ≤ 7 = rw (c .before .name-place .ensures) (name-place (c .before .before .before .args .o)) in omega (arith, le)
+    let le : c .before .name-place .result ≤ typeCount = rw (c .before .name-place .ensures) (name-place (c .before .before .before .args .o)) in omega (arith, le)
 
 part-is-requires : tie.Need-part-is-requires
 part-is-requires c κs = search needs

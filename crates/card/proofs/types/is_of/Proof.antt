@@ -12,6 +12,7 @@ use Rattle.text.specs.Doc.{Name, membersOf, seek}
 use Rattle.contact.specs.Schema.{types}
 use Rattle.contact.specs.Rules.{hasKind}
 use Rattle.contact.specs.Judge.{isOf}
+use Rattle.card.specs.Table.{typeCount}
 use Rattle.card.proofs.Columns.{name-place, type-name}
 use Rattle.card.proofs.ValueLaws.{value-kind, value-members, value-below, value-room}
 use Rattle.card.proofs.types.is_of.Statement.{statement}
@@ -44,7 +45,7 @@ slice-aggregate-word-at c = search needs
 
 word-at-requires : tie.Need-word-at-requires
 word-at-requires c κs =
-    let le : c .before .before .name-place .result ≤ 7 = rw (c .before .before .name-place .ensures) (name-place (c .before .before .before .before .before .before .before .before .args .o)) in omega (arith, le)
+    let le : c .before .before .name-place .result ≤ typeCount = rw (c .before .before .name-place .ensures) (name-place (c .before .before .before .before .before .before .before .before .args .o)) in omega (arith, le)
 
 has-string-requires : tie.Need-has-string-requires
 has-string-requires c κs =
