@@ -5,13 +5,16 @@ use mathlib.Core.Bool.{Bool, true}
 use Prim.Native.Nat.{ℕ, _+_, _-_, _*_, _<_, _≤_}
 use native.Mathlib.Omega.{arith}
 use lib.ListN.{length, getD, take, drop, replicate, List·getD-map, List·getD-eq-default}
+use lib.Dec.{ltb}
+use borrow.Author.Tests.{ltb-true, ltb-false}
 use Rattle.laws.specs.Order.{orderOf, same}
+use Rattle.laws.proofs.Bools.{byTest}
 use Rattle.laws.proofs.Orders.{same-eq}
 use Rattle.laws.proofs.Tables.{below, below-at}
 use Rattle.text.specs.Text.{bytes}
 use Rattle.text.specs.Doc.{Name}
 use Rattle.contact.specs.Schema.{ObjectType, Rule, TypeRecord, types, noType, recordOf, ownName}
-use Rattle.card.specs.Table.{nameWidth, wordOf, Owned, ownedFrom, typeCount, Line, lines, noLine, count}
+use Rattle.card.specs.Table.{nameWidth, wordOf, Owned, ownedFrom, typeCount, namePlace, Line, lines, noLine, count}
 use Rattle.card.specs.RuleTable.{ruleLines, ruleWords}
 
 -- words with spaces after them, each of the width
@@ -52,7 +55,7 @@ all-called : below called (typeCount + 1) ≡ true
 unfolding called orderOf recordOf types
 all-called = refl
 
-pub type-name-at : (o : ObjectType) → o ≤ typeCount → wordOf (drop (o * nameWidth) typeNames) ≡ bytes (ownName o)
+type-name-at : (o : ObjectType) → o ≤ typeCount → wordOf (drop (o * nameWidth) typeNames) ≡ bytes (ownName o)
 unfolding called
 type-name-at o h = same-eq (wordOf (drop (o * nameWidth) typeNames)) (bytes (ownName o)) (below-at called (typeCount + 1) all-called o (omega arith))
 
@@ -61,12 +64,19 @@ unfolding types
 types-length = refl
 
 -- behind the last type there is no name
-pub no-type-name : (o : ObjectType) → typeCount < o → wordOf (drop (typeCount * nameWidth) typeNames) ≡ bytes (ownName o)
+no-type-name : (o : ObjectType) → typeCount < o → wordOf (drop (typeCount * nameWidth) typeNames) ≡ bytes (ownName o)
 unfolding recordOf
 no-type-name o h =
     type-name-at typeCount (omega arith)
     ∙ ap (λ (r : TypeRecord). bytes (r .own))
     (List·getD-eq-default types noType {n = typeCount} (omega (arith, types-length)) ∙ sym (List·getD-eq-default types noType {n = o} (omega (arith, types-length))))
+
+pub name-place : (o : ObjectType) → namePlace o ≤ typeCount
+name-place o = byTest (ltb typeCount o) (λ e. rw e (omega arith)) (λ e. rw e (ltb-false typeCount o e))
+
+pub type-name : (o : ObjectType) → wordOf (drop (namePlace o * nameWidth) typeNames) ≡ bytes (ownName o)
+type-name o =
+    byTest (ltb typeCount o) (λ e. rw e (no-type-name o (ltb-true typeCount o e))) (λ e. rw e (type-name-at o (ltb-false typeCount o e)))
 
 -- ---- words of rules
 

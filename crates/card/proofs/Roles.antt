@@ -7,11 +7,9 @@ use Rattle.text.specs.Doc as D
 use Rattle.contact.specs.Schema.{any, simple, objectOf, listOf, mapOf, byType}
 use Rattle.contact.specs.Schema as S
 use Rattle.contact.specs.Judge.{typeBelow, chosen, keyFits}
-use Rattle.card.specs.Types.{itemType, typeOf, NotObject, innerType}
-use Rattle.card.specs.declared.types.Ty.{Ty}
-use Rattle.card.specs.declared.types.Ty.the-variants.{One, ListOf, MapOf}
+use Rattle.card.specs.Types.{itemType, NotObject, innerType}
 use Rattle.card.specs.declared.types.Item.{Item}
-use Rattle.card.specs.declared.types.Item.the-variants.{Any, AnyString, TypeName, Version, Flag, Yes, Count, Time, ObjectOf, AnyObject}
+use Rattle.card.specs.declared.types.Item.the-variants.{Any, AnyString, TypeName, Version, Flag, Yes, Count, Time, ObjectOf, AnyObject, ByType}
 
 pub member-other : (ty : S.Ty) (n : D.Name) → NotObject ty → innerType ty ≡ typeBelow ty n
 member-other any n h = refl
@@ -19,7 +17,7 @@ member-other (simple l) n h = refl
 member-other (objectOf o) n h = absurd h
 member-other (listOf ty) n h = refl
 member-other (mapOf keys ty) n h = refl
-member-other (byType usual special) n h = refl
+member-other (byType usual special) n h = absurd h
 
 pub item-inner : (i : Item) → any ≡ innerType (itemType i)
 item-inner Any = refl
@@ -32,6 +30,7 @@ item-inner (Count low high) = refl
 item-inner Time = refl
 item-inner (ObjectOf o) = refl
 item-inner AnyObject = refl
+item-inner (ByType usual special) = refl
 
 pub item-keys : (i : Item) (earlier : List D.Name) (n : D.Name) → true ≡ keyFits (itemType i) earlier n
 item-keys Any earlier n = refl
@@ -44,21 +43,13 @@ item-keys (Count low high) earlier n = refl
 item-keys Time earlier n = refl
 item-keys (ObjectOf o) earlier n = refl
 item-keys AnyObject earlier n = refl
+item-keys (ByType usual special) earlier n = refl
 
--- no type of the code hangs on a value
-item-chosen : (i : Item) (d : D.Doc) → chosen (itemType i) d ≡ itemType i
-item-chosen Any d = refl
-item-chosen AnyString d = refl
-item-chosen (TypeName o) d = refl
-item-chosen Version d = refl
-item-chosen Flag d = refl
-item-chosen Yes d = refl
-item-chosen (Count low high) d = refl
-item-chosen Time d = refl
-item-chosen (ObjectOf o) d = refl
-item-chosen AnyObject d = refl
-
-pub type-chosen : (ty : Ty) (d : D.Doc) → chosen (typeOf ty) d ≡ typeOf ty
-type-chosen (One i) d = item-chosen i d
-type-chosen (ListOf i) d = refl
-type-chosen (MapOf keys i) d = refl
+-- only a choice of two hangs on the value
+pub itself-chosen : (ty : S.Ty) (d : D.Doc) → NotObject ty → ty ≡ chosen ty d
+itself-chosen any d h = refl
+itself-chosen (simple l) d h = refl
+itself-chosen (objectOf o) d h = absurd h
+itself-chosen (listOf ty) d h = refl
+itself-chosen (mapOf keys ty) d h = refl
+itself-chosen (byType usual special) d h = absurd h

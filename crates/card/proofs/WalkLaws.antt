@@ -64,8 +64,14 @@ module _ (t : List ℕ) (f : Forest) (s : HasFirst f) where
   row-value (listOf ty) false n e = rw (doc-kind t f s, e)
   row-value (mapOf keys ty) true n e = rw (doc-kind t f s, e)
   row-value (mapOf keys ty) false n e = rw (doc-kind t f s, e)
-  row-value (byType usual special) true n e = rw (doc-kind t f s, e)
-  row-value (byType usual special) false n e = rw (doc-kind t f s, e)
+  row-value (byType usual special) key n e = absurd n
+
+  -- a choice of two types is none that stands at a value, and would ask nothing of it but its kind
+  pub row-choice : (usual special : ObjectType) (key : Bool) → fits (byType usual special) (kindAt f) ≡ true
+      → valueNumber (byType usual special) key t f ≡ rowNumber (byType usual special) key (docOf t f)
+  unfolding rowNumber valueNumber
+  row-choice usual special true e = rw (doc-kind t f s, e)
+  row-choice usual special false e = rw (doc-kind t f s, e)
 
 -- ---- what is below ----
 

@@ -4,7 +4,7 @@ use mathlib.Core.Path.{_≡_}
 use mathlib.Core.List.{List, [], _∷_, _++_, map}
 use mathlib.Core.Bool.{Bool, false, not, cond, _&&_}
 use lib.ListN.{length, take, drop}
-use lib.Dec.{eqb}
+use lib.Dec.{ltb, eqb}
 use Rattle.laws.specs.Order.{same}
 use Rattle.text.specs.Doc.{Name, Members, seek, isThere}
 use Rattle.contact.specs.Schema.{ObjectType, card, any, Known, TypeRecord, types}
@@ -47,6 +47,10 @@ isOwned o e = eqb (e .owner) o
 abbrev pub typeCount : ℕ
 typeCount = 7
 
+-- the place of a type's name among those of the types; behind the last one is the empty name
+abbrev pub namePlace : ObjectType → ℕ
+namePlace o = cond (ltb typeCount o) typeCount o
+
 -- ---- the table
 
 -- a line: a property, and the object type that has it
@@ -75,6 +79,6 @@ count = 53
 
 -- the number that says all of a line but its name
 pub record CodeOf (code : ℕ) (e : Line) : Type 0 where
-  pub has : code / 1024 ≡ e .owner
-  pub must : eqb (code / 512 % 2) 1 ≡ e .what .mandatory
+  pub has : code / 65536 ≡ e .owner
+  pub must : eqb (code / 32768 % 2) 1 ≡ e .what .mandatory
   pub type : typeAt code ≡ e .what .type

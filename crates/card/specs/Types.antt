@@ -11,9 +11,9 @@ use Rattle.contact.specs.Judge.{allowedSimple}
 use Rattle.card.specs.declared.types.Keys.{Keys}
 use Rattle.card.specs.declared.types.Keys.the-variants.{Free, Ids}
 use Rattle.card.specs.declared.types.Item.{Item}
-use Rattle.card.specs.declared.types.Item.the-variants.{Any, AnyString, TypeName, Version, Flag, Yes, Count, Time, ObjectOf, AnyObject}
+use Rattle.card.specs.declared.types.Item.the-variants.{Any, AnyString, TypeName, Version, Flag, Yes, Count, Time, ObjectOf, AnyObject, ByType}
 use Rattle.card.specs.declared.types.Role.{Role}
-use Rattle.card.specs.declared.types.Role.the-variants.{As, Other}
+use Rattle.card.specs.declared.types.Role.the-variants.{As, Between, Other}
 use Rattle.card.specs.declared.types.Ty.{Ty}
 use Rattle.card.specs.declared.types.Ty.the-variants.{One, ListOf, MapOf}
 
@@ -34,6 +34,7 @@ itemType (Count low high) = simple (count low high)
 itemType Time = simple time
 itemType (ObjectOf o) = objectOf o
 itemType AnyObject = mapOf free any
+itemType (ByType usual special) = byType usual special
 
 -- a type of the code: an item, a list or a map of such
 abbrev pub typeOf : Ty → S.Ty
@@ -43,18 +44,19 @@ typeOf (MapOf k i) = mapOf (keysOf k) (itemType i)
 
 -- ---- roles
 
--- it is no object type
+-- it is no object type, and no choice of two
 abbrev pub NotObject : S.Ty → Type 0
 NotObject any = Prim.Unit {0}
 NotObject (simple l) = Prim.Unit {0}
 NotObject (objectOf o) = ⊥
 NotObject (listOf ty) = Prim.Unit {0}
 NotObject (mapOf keys ty) = Prim.Unit {0}
-NotObject (byType usual special) = Prim.Unit {0}
+NotObject (byType usual special) = ⊥
 
 -- the answer says whether a type is an object type, and which
 abbrev pub AsObject : Role → S.Ty → Type 0
 AsObject (As o) ty = ty ≡ objectOf o
+AsObject (Between usual special) ty = ty ≡ byType usual special
 AsObject Other ty = NotObject ty
 
 -- the type of the members of a type that is no object type
@@ -77,24 +79,25 @@ allowedAs (byType usual special) kind token = true
 
 -- ---- what the numbers of the code's table stand for
 
--- an item: a type's own name from 64 on, an object of a type from 32 on, below that the rest
+-- an item: a choice of two types from 4096 on, a type's own name from 128 on, an object of a type from 64 on, below that the rest
 unfoldable pub itemAt : ℕ → S.Ty
 itemAt n =
-    cond (leb 64 n) (simple (exactly (bytes (ownName (n - 64)))))
-    (cond (leb 32 n) (objectOf (n - 32))
+    cond (leb 4096 n) (byType ((n - 4096) / 64) ((n - 4096) % 64))
+    (cond (leb 128 n) (simple (exactly (bytes (ownName (n - 128)))))
+    (cond (leb 64 n) (objectOf (n - 64))
     (cond (eqb n 1) (simple anyString)
     (cond (eqb n 2) (simple (exactly (bytes "1.0")))
     (cond (eqb n 3) (simple flag)
     (cond (eqb n 4) (simple yes)
     (cond (eqb n 5) (simple (count 1 100))
     (cond (eqb n 6) (simple time)
-    (cond (eqb n 7) (mapOf free any) any))))))))
+    (cond (eqb n 7) (mapOf free any) any)))))))))
 
 -- a property's type: its item, and above that whether it is a list or a map of such
 unfoldable pub typeAt : ℕ → S.Ty
 typeAt code =
-    let item = itemAt (code % 128) in
-    let shape = code / 128 % 4 in
+    let item = itemAt (code % 8192) in
+    let shape = code / 8192 % 4 in
     cond (eqb shape 1) (listOf item)
     (cond (eqb shape 2) (mapOf free item)
     (cond (eqb shape 3) (mapOf ids item) item))

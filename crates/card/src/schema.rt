@@ -20,21 +20,21 @@ ghost use Rattle.text.specs.Doc.{membersOf, seek, isThere};
 ghost use Rattle.contact.specs.Schema.{properties, ownName, typeIn};
 ghost use Rattle.contact.specs.Judge.{lacking};
 ghost use Rattle.card.specs.Types.{typeOf, itemType, itemAt, typeAt};
-ghost use Rattle.card.specs.Table.{count, nameWidth, wordOf, WordEnd, lines, noLine, isOwned, isProperty, isMissing, CodeOf};
+ghost use Rattle.card.specs.Table.{count, namePlace, nameWidth, wordOf, WordEnd, lines, noLine, isOwned, isProperty, isMissing, CodeOf};
 
 // ---- the table
 
 // The table says each property in two lines: its name, and a number that says all else. The number is a sum: the object type that has it, as
 // `NAME * HAS`; MUST if it is mandatory; LIST, FREE or IDS for a list or a map of such items; and the item.
-const HAS: u32 = 1024;
+const HAS: u32 = 65536;
 
-const MUST: u32 = 512;
+const MUST: u32 = 32768;
 
-const LIST: u32 = 128;
+const LIST: u32 = 8192;
 
-const FREE: u32 = 256;
+const FREE: u32 = 16384;
 
-const IDS: u32 = 384;
+const IDS: u32 = 24576;
 
 // The items: the value of a property, or each value of a list or a map.
 const STRING: u32 = 1;
@@ -52,9 +52,12 @@ const TIME: u32 = 6;
 const ANY_OBJECT: u32 = 7;
 
 // An object of a type, as `OBJECT + NAME`, and a type's own name, as `NAME_OF + NAME`.
-const OBJECT: u32 = 32;
+const OBJECT: u32 = 64;
 
-const NAME_OF: u32 = 64;
+const NAME_OF: u32 = 128;
+
+// An object of one of two types, as `BY_TYPE + NAME * 64 + PHONE`: the second, if its `@type` says so, else the first.
+const BY_TYPE: u32 = 4096;
 
 // The object types.
 pub(crate) const CARD: u32 = 0;
@@ -72,12 +75,12 @@ const EMAIL_ADDRESS: u32 = 5;
 const PHONE: u32 = 6;
 
 // How many object types there are, and the bytes for each name.
-const TYPES: usize = 7;
+pub(crate) const TYPES: usize = 7;
 
 pub(crate) const WIDTH: usize = 20;
 
 // The names of the object types, by their numbers.
-const TYPE_NAMES: [u8; TYPES * WIDTH] = *b"\
+pub(crate) const TYPE_NAMES: [u8; TYPES * WIDTH] = *b"\
     Card                \
     Name                \
     NameComponent       \
@@ -235,14 +238,22 @@ fn named(text: &[u8], s: usize, e: usize, i: usize) -> bool
     name_is(text, s, e, word_at(&NAMES, i))
 }
 
-// Do a string's inner bytes decode to the name of the object type? One without a record has the empty name.
-pub(crate) fn is_type_name(content: &[u8], o: u32) -> bool
-    ensures { λ r. ⌜ r ≡ same (decode (now (content .entry))) (bytes (ownName o)) ⌝ }
+// The place of an object type's name. One without a record has the empty name, behind the last.
+pub(crate) fn name_place(o: u32) -> usize
+    ensures { λ r. ⌜ r ≡ namePlace o ⌝ }
 {
     let i = o as usize;
     if TYPES < i {
-        return part_is(content, word_at(&TYPE_NAMES, TYPES));
+        return TYPES;
     }
+    i
+}
+
+// Do a string's inner bytes decode to the name of the object type?
+pub(crate) fn is_type_name(content: &[u8], o: u32) -> bool
+    ensures { λ r. ⌜ r ≡ same (decode (now (content .entry))) (bytes (ownName o)) ⌝ }
+{
+    let i = name_place(o);
     part_is(content, word_at(&TYPE_NAMES, i))
 }
 
@@ -250,6 +261,10 @@ pub(crate) fn is_type_name(content: &[u8], o: u32) -> bool
 fn item_of(n: u32) -> Item
     ensures { λ r. ⌜ itemType r ≡ itemAt n ⌝ }
 {
+    if BY_TYPE <= n {
+        let pair = n - BY_TYPE;
+        return Item::ByType(pair / 64, pair % 64);
+    }
     if NAME_OF <= n {
         return Item::TypeName(n - NAME_OF);
     }

@@ -1,7 +1,12 @@
 // The types of a card's values, and what each asks of a value by itself.
 use crate::dates::is_time;
+use crate::rows::has_string;
+use crate::rows::next_row;
+use crate::schema::TYPE_NAMES;
 use crate::schema::is_type_name;
+use crate::schema::name_place;
 use crate::schema::type_in;
+use crate::schema::word_at;
 use crate::values::is_count;
 use crate::values::is_id;
 use json::names::part;
@@ -12,6 +17,7 @@ use json::rows::NUMBER;
 use json::rows::OBJECT;
 use json::rows::STRING;
 use json::rows::TRUE;
+use json::rows::kind;
 ghost use mathlib.Core.Path.{_≡_};
 ghost use mathlib.Core.Bool.{true, cond};
 ghost use mathlib.Core.List.{List};
@@ -21,9 +27,11 @@ ghost use lib.ListN.{length};
 ghost use Rattle.laws.specs.Lists.{partOf};
 ghost use Rattle.laws.specs.Order.{same};
 ghost use Rattle.text.specs.Strings.{nameOf, contentOf};
-ghost use Rattle.text.specs.Doc.{Name};
+ghost use Rattle.text.specs.Tree.{Forest};
+ghost use Rattle.text.specs.Doc.{Name, docOf};
 ghost use Rattle.contact.specs.Schema.{fits};
-ghost use Rattle.contact.specs.Judge.{typeBelow, keyFits};
+ghost use Rattle.contact.specs.Judge.{isOf, chosen, typeBelow, memberType, keyFits};
+ghost use Rattle.card.specs.Rows.{ValueAt};
 ghost use Rattle.card.specs.Types.{typeOf, itemType, AsObject, innerType, allowedAs};
 
 // The keys of a map: any, or Ids.
@@ -50,6 +58,8 @@ pub(crate) enum Item {
     ObjectOf(u32),
     // an object whose members aren't judged
     AnyObject,
+    // an object of the second type, if its `@type` says so, else of the first
+    ByType(u32, u32),
 }
 
 // What a value has to be: one item, a list of such items, or a map of them.
@@ -84,6 +94,7 @@ fn item_fits(item: Item, kind: usize) -> bool
         Item::Time => kind == STRING,
         Item::ObjectOf(_) => kind == OBJECT,
         Item::AnyObject => kind == OBJECT,
+        Item::ByType(_, _) => kind == OBJECT,
     }
 }
 
@@ -101,6 +112,7 @@ pub(crate) fn kind_fits(ty: Ty, kind: usize) -> bool
 // What a type is for the rules on objects.
 pub(crate) enum Role {
     As(u32),
+    Between(u32, u32),
     Other,
 }
 
@@ -119,6 +131,7 @@ fn item_role(item: Item) -> Role
         Item::Time => Role::Other,
         Item::ObjectOf(o) => Role::As(o),
         Item::AnyObject => Role::Other,
+        Item::ByType(usual, special) => Role::Between(usual, special),
     }
 }
 
@@ -147,13 +160,53 @@ fn inner(ty: Ty) -> Ty
 }
 
 // The type that stands for a member of that name.
-pub(crate) fn member_type(text: &[u8], ty: Ty, s: usize, e: usize) -> Ty
+fn type_below(text: &[u8], ty: Ty, s: usize, e: usize) -> Ty
     ensures { λ r. ⌜ typeOf r ≡ typeBelow (typeOf ty) (nameOf (now (text .entry)) s e) ⌝ }
 {
     match role_of(ty) {
         Role::As(o) => type_in(text, o, s, e),
+        Role::Between(_, _) => Ty::One(Item::Any),
         Role::Other => inner(ty),
     }
+}
+
+// Is the value at a row an object whose `@type` is the name of the object type?
+fn is_of(text: &[u8], table: &[u32], k: usize, o: u32) -> bool
+    requires { ⌜ ((f : Forest) × ValueAt (now table) k f) ⌝ }
+    ensures { λ r. ⌜ ((f : Forest) → ValueAt (now (table .entry)) k f → r ≡ isOf o (docOf (now (text .entry)) f)) ⌝ }
+{
+    if kind(table, k) != OBJECT {
+        return false;
+    }
+    let end = next_row(table, k);
+    let i = name_place(o);
+    has_string(text, table, k + 1, end, b"@type", word_at(&TYPE_NAMES, i))
+}
+
+// The type that is asked of the value at a row, where a type stands: its `@type` may choose it.
+fn choose(text: &[u8], table: &[u32], k: usize, ty: Ty) -> Ty
+    requires { ⌜ ((f : Forest) × ValueAt (now table) k f) ⌝ }
+    ensures { λ r. ⌜ ((f : Forest) → ValueAt (now (table .entry)) k f → typeOf r ≡ chosen (typeOf ty) (docOf (now (text .entry)) f)) ⌝ }
+{
+    match role_of(ty) {
+        Role::As(_) => ty,
+        Role::Between(usual, special) => {
+            if is_of(text, table, k, special) {
+                return Ty::One(Item::ObjectOf(special));
+            }
+            Ty::One(Item::ObjectOf(usual))
+        }
+        Role::Other => ty,
+    }
+}
+
+// The type that is asked of a member of that name, whose value is at a row.
+pub(crate) fn member_type(text: &[u8], table: &[u32], k: usize, ty: Ty, s: usize, e: usize) -> Ty
+    requires { ⌜ ((f : Forest) × ValueAt (now table) k f) ⌝ }
+    ensures { λ r. ⌜ ((f : Forest) → ValueAt (now (table .entry)) k f → typeOf r ≡ memberType (typeOf ty) (nameOf (now (text .entry)) s e) (docOf (now (text .entry)) f)) ⌝ }
+{
+    let stands = type_below(text, ty, s, e);
+    choose(text, table, k, stands)
 }
 
 // Is the key of an entry allowed? A test that looks at the keys before it too would be handed their rows.
@@ -206,6 +259,7 @@ fn item_allows(text: &[u8], item: Item, kind: usize, from: usize, to: usize) -> 
         Item::Time => is_time(content(text, from, to)),
         Item::ObjectOf(_) => true,
         Item::AnyObject => true,
+        Item::ByType(_, _) => true,
     }
 }
 

@@ -75,6 +75,7 @@ fn row_number(text: &[u8], table: &[u32], row: usize, ty: Ty, key: bool) -> usiz
             let end = next_row(table, row);
             object_number(text, table, row + 1, end, o, key)
         }
+        Role::Between(_, _) => value_number(text, table, row, ty, key),
         Role::Other => value_number(text, table, row, ty, key),
     }
 }
@@ -93,7 +94,7 @@ pub(crate) fn breach_at(text: &[u8], table: &[u32], row: usize, ty: Ty, key: boo
     while at < end {
         let s = name_start(table, at);
         let e = name_end(table, at);
-        let inner = member_type(text, ty, s, e);
+        let inner = member_type(text, table, at, ty, s, e);
         let b = breach_at(text, table, at, inner, key_fits(text, ty, s, e));
         if let Breach::At(_, _) = b {
             return b;

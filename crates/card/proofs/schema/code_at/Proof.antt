@@ -19,8 +19,8 @@ returns : tie.Need-returns
 unfolding lines ownedFrom types recordOf typeAt itemAt
 returns c =
     record {
-      has = rw (← List·getD-map (λ (n : ℕ). n / 1024)) (List·getD-map (λ (e : Line). e .owner) lines (c .args .i) noLine);
-      must = rw (← List·getD-map (λ (n : ℕ). eqb (n / 512 % 2) 1)) (List·getD-map (λ (e : Line). e .what .mandatory) lines (c .args .i) noLine);
+      has = rw (← List·getD-map (λ (n : ℕ). n / 65536)) (List·getD-map (λ (e : Line). e .owner) lines (c .args .i) noLine);
+      must = rw (← List·getD-map (λ (n : ℕ). eqb (n / 32768 % 2) 1)) (List·getD-map (λ (e : Line). e .what .mandatory) lines (c .args .i) noLine);
       type = rw (← List·getD-map typeAt) (List·getD-map (λ (e : Line). e .what .type) lines (c .args .i) noLine);
     }
 

@@ -40,6 +40,9 @@ enum-told-9 c = search needs
 enum-told-10 : tie.Need-enum-told-10
 enum-told-10 c = search needs
 
+enum-told-11 : tie.Need-enum-told-11
+enum-told-11 c = search needs
+
 returns : tie.Need-returns
 returns c = search needs
 
@@ -70,6 +73,9 @@ returns-9 c = rw (c .enum-told9 .given .1)
 returns-10 : tie.Need-returns-10
 returns-10 c = rw (c .enum-told10 .given .1)
 
+returns-11 : tie.Need-returns-11
+returns-11 c = rw (c .enum-told11 .given .1)
+
 pub item-fits-spec : {M : Type 1} → statement M
 item-fits-spec =
     tie.close
@@ -86,6 +92,7 @@ item-fits-spec =
     enum-told-8
     enum-told-9
     enum-told-10
+    enum-told-11
     returns
     returns-2
     returns-3
@@ -95,4 +102,5 @@ item-fits-spec =
     returns-7
     returns-8
     returns-9
-    returns-10)
+    returns-10
+    returns-11)

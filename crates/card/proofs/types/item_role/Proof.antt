@@ -33,6 +33,9 @@ enum-known-item c = search needs
 enum-told-9 : tie.Need-enum-told-9
 enum-told-9 c = search needs
 
+enum-known-item-2 : tie.Need-enum-known-item-2
+enum-known-item-2 c = search needs
+
 returns : tie.Need-returns
 returns c = rw (c .enum-told .given .1) tt
 
@@ -63,6 +66,9 @@ returns-9 c = rw (c .before .item .given .1)
 returns-10 : tie.Need-returns-10
 returns-10 c = rw (c .enum-told9 .given .1) tt
 
+returns-11 : tie.Need-returns-11
+returns-11 c = rw (c .before .item2 .given .1)
+
 pub item-role-spec : {M : Type 1} → statement M
 item-role-spec =
     tie.close
@@ -77,6 +83,7 @@ item-role-spec =
     enum-told-8
     enum-known-item
     enum-told-9
+    enum-known-item-2
     returns
     returns-2
     returns-3
@@ -86,4 +93,5 @@ item-role-spec =
     returns-7
     returns-8
     returns-9
-    returns-10)
+    returns-10
+    returns-11)

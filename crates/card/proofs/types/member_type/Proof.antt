@@ -1,47 +1,24 @@
--- `card::types::member_type` meets its contract: an object type has it in the table, any other in itself. Assumes nothing.
-use mathlib.Core.Path.{_∙_}
+-- `card::types::member_type` meets its contract. Assumes nothing.
+use mathlib.Core.Path.{ap, _∙_}
 use borrow.Author.Needs.{needs}
 use denote.Ref.{now}
-use Rattle.text.specs.Strings.{nameOf}
-use Rattle.card.specs.Types.{typeOf}
-use Rattle.card.proofs.Roles.{member-other}
+use Rattle.text.specs.Doc.{docOf}
+use Rattle.contact.specs.Schema as S
+use Rattle.contact.specs.Judge.{chosen}
 use Rattle.card.proofs.types.member_type.Statement.{statement}
 use Rattle.card.proofs.types.member_type.Tie as tie
 
-role-of-requires : tie.Need-role-of-requires
-role-of-requires c κs = search needs
+type-below-requires : tie.Need-type-below-requires
+type-below-requires c κs = search needs
 
-enum-known-o : tie.Need-enum-known-o
-enum-known-o c = search needs
-
-type-in-requires : tie.Need-type-in-requires
-type-in-requires c κs = search needs
-
-enum-told : tie.Need-enum-told
-enum-told c = search needs
-
-inner-requires : tie.Need-inner-requires
-inner-requires c κs = search needs
+choose-requires : tie.Need-choose-requires
+choose-requires c κs = c .before .before .before .pre
 
 returns : tie.Need-returns
 returns c =
-    let is = rw (c .before .before .o .given .1) at (c .before .before .before .before .role-of .ensures) in
-    c .type-in .ensures ∙ rw is
-
-returns-2 : tie.Need-returns-2
-returns-2 c =
-    let x = c .before .before .before .before .before .args in
-    let is = rw (c .before .enum-told .given .1) at (c .before .before .before .role-of .ensures) in
-    c .inner .ensures ∙ member-other (typeOf (x .ty)) (nameOf (now (x .text)) (x .s) (x .e)) is
+    λ f v.
+    let a = c .before .before .before .before .args in
+    c .choose .ensures f v ∙ ap (λ (t : S.Ty). chosen t (docOf (now (a .text)) f)) (c .before .type-below .ensures)
 
 pub member-type-spec : {M : Type 1} → statement M
-member-type-spec =
-    tie.close
-    (tie.spec
-    role-of-requires
-    enum-known-o
-    type-in-requires
-    enum-told
-    inner-requires
-    returns
-    returns-2)
+member-type-spec = tie.close (tie.spec type-below-requires choose-requires returns)

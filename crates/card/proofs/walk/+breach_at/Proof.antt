@@ -7,10 +7,7 @@ use denote.Ref.{now}
 use borrow.Author.Needs.{needs}
 use Rattle.text.specs.Doc.{docOf}
 use Rattle.text.proofs.Promise.{first-row}
-use Rattle.contact.specs.Schema as S
-use Rattle.contact.specs.Judge.{chosen}
 use Rattle.card.specs.Types.{typeOf}
-use Rattle.card.proofs.Roles.{type-chosen}
 use Rattle.card.specs.Walk.{foundOf}
 use Rattle.card.proofs.WalkLaws.{breach-row, Judging, judging-starts, here, value-here, kinds-here, judging-hit, judging-on, judging-ends}
 use Prim.Native.Nat.{ℕ, _<_}
@@ -99,7 +96,18 @@ breach-at-name-end-requires t c κs = search needs
 
 breach-at-member-type-requires : (t : ℕ)
     → breach-at-lts.Need-member-type-requires (given t) (breach-at-at t) breach-at.Post breach-at-Inv-loop breach-at-μ-loop
-breach-at-member-type-requires t c κs = search needs
+breach-at-member-type-requires t c κs =
+    let a = c .before .before .before .before .before .before .before .before .before .args in
+    let p = c .before .before .before .before .before .before .before .before .before .pre in
+    let text = now (a .text) in
+    let table = now (a .table) in
+    let next-row = c .before .before .before .before .next-row in
+    let loop = c .before .before .before .loop in
+    let loop-test = c .before .before .loop-test in (
+      here text table (typeOf (a .ty)) (a .key) (a .row) (next-row .result) (loop .at) (loop .inv .0) (p .1 .0) (p .1 .1) (p .1 .2) (loop-test .taken),
+      value-here text table (typeOf (a .ty)) (a .key) (a .row) (next-row .result) (loop .at) (loop .inv .0) (p .1 .0) (p .1 .1) (p .1 .2)
+          (loop-test .taken),
+    )
 
 breach-at-key-fits-requires : (t : ℕ)
     → breach-at-lts.Need-key-fits-requires (given t) (breach-at-at t) breach-at.Post breach-at-Inv-loop breach-at-μ-loop
@@ -144,8 +152,8 @@ breach-at-returns-2 t c =
     let breach-at = c .before .before .breach-at in
     rw (c .enum-told .given .1) (judging-hit text table (typeOf (a .ty)) (a .key) (a .row) (next-row .result) (loop .at) (loop .inv .0) f v k
     (loop-test .taken) (typeOf (member-type .result)) (key-fits .result) (foundOf (breach-at .result))
-    (sym (type-chosen (member-type .result) (docOf text (here text table (typeOf (a .ty)) (a .key) (a .row) (next-row .result) (loop .at) (loop .inv .0) f v k (loop-test .taken))))
-    ∙ ap (λ (t : S.Ty). chosen t (docOf text (here text table (typeOf (a .ty)) (a .key) (a .row) (next-row .result) (loop .at) (loop .inv .0) f v k (loop-test .taken)))) (rw (name-start .ensures, name-end .ensures) at (member-type .ensures)))
+    (rw (name-start .ensures, name-end .ensures) at (member-type .ensures (here text table (typeOf (a .ty)) (a .key) (a .row) (next-row .result) (loop .at) (loop .inv .0) f v k (loop-test .taken))
+    (value-here text table (typeOf (a .ty)) (a .key) (a .row) (next-row .result) (loop .at) (loop .inv .0) f v k (loop-test .taken))))
     (λ earlier. rw (name-start .ensures, name-end .ensures) at (key-fits .ensures earlier)) (breach-at .ensures
     (here text table (typeOf (a .ty)) (a .key) (a .row) (next-row .result) (loop .at) (loop .inv .0) f v k (loop-test .taken))
     (value-here text table (typeOf (a .ty)) (a .key) (a .row) (next-row .result) (loop .at) (loop .inv .0) f v k (loop-test .taken))
@@ -188,8 +196,8 @@ breach-at-loop-again t c =
     let breach-at = c .before .before .before .breach-at in (
       λ f v k. rw (c .next-row2 .ensures) (judging-on text table (typeOf (a .ty)) (a .key) (a .row) (next-row .result) (loop .at) (loop .inv .0) f v k
           (loop-test .taken) (typeOf (member-type .result)) (key-fits .result) (foundOf (breach-at .result))
-          (sym (type-chosen (member-type .result) (docOf text (here text table (typeOf (a .ty)) (a .key) (a .row) (next-row .result) (loop .at) (loop .inv .0) f v k (loop-test .taken))))
-          ∙ ap (λ (t : S.Ty). chosen t (docOf text (here text table (typeOf (a .ty)) (a .key) (a .row) (next-row .result) (loop .at) (loop .inv .0) f v k (loop-test .taken)))) (rw (name-start .ensures, name-end .ensures) at (member-type .ensures)))
+          (rw (name-start .ensures, name-end .ensures) at (member-type .ensures (here text table (typeOf (a .ty)) (a .key) (a .row) (next-row .result) (loop .at) (loop .inv .0) f v k (loop-test .taken))
+          (value-here text table (typeOf (a .ty)) (a .key) (a .row) (next-row .result) (loop .at) (loop .inv .0) f v k (loop-test .taken))))
           (λ earlier. rw (name-start .ensures, name-end .ensures) at (key-fits .ensures earlier)) (breach-at .ensures
           (here text table (typeOf (a .ty)) (a .key) (a .row) (next-row .result) (loop .at) (loop .inv .0) f v k (loop-test .taken))
           (value-here text table (typeOf (a .ty)) (a .key) (a .row) (next-row .result) (loop .at) (loop .inv .0) f v k (loop-test .taken))

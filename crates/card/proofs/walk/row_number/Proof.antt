@@ -5,10 +5,10 @@ use native.Mathlib.Omega.{arith}
 use denote.Ref.{now}
 use Rattle.text.specs.Firsts.{insideAt}
 use Rattle.text.proofs.Promise.{first-row, inside}
-use Rattle.contact.specs.Schema.{objectOf, fits}
+use Rattle.contact.specs.Schema.{objectOf, byType, fits}
 use Rattle.card.specs.Types.{typeOf}
 use Rattle.laws.proofs.Picks.{granted, denied}
-use Rattle.card.proofs.WalkLaws.{row-unfit, row-object, row-value}
+use Rattle.card.proofs.WalkLaws.{row-unfit, row-object, row-value, row-choice}
 use borrow.Author.Needs.{needs}
 use Rattle.card.proofs.walk.row_number.Statement.{statement}
 use Rattle.card.proofs.walk.row_number.Tie as tie
@@ -55,6 +55,12 @@ enum-told c = search needs
 value-number-requires : tie.Need-value-number-requires
 value-number-requires c κs = search needs
 
+enum-told-2 : tie.Need-enum-told-2
+enum-told-2 c = search needs
+
+value-number-requires-2 : tie.Need-value-number-requires-2
+value-number-requires-2 c κs = search needs
+
 returns-2 : tie.Need-returns-2
 returns-2 c =
     λ f v k.
@@ -80,9 +86,23 @@ returns-3 c =
     let kind = c .before .before .before .before .before .before .kind in
     let kind-fits = c .before .before .before .before .before .kind-fits in
     let if1 = c .before .before .before .before .if1 in
+    let given = c .before .enum-told .given in
+    let ty : typeOf (c .before .before .before .before .before .before .before .before .before .args .ty) ≡ byType
+    (c .before .enum-told .given .0 .0) (c .before .enum-told .given .0 .1 .0) = rw (given .1) at (c .before .before .before .role-of .ensures) in
+    c .value-number .ensures f v k ∙ rw ty (row-choice (now (a .text)) f (v .some) (given .0 .0) (given .0 .1 .0) (a .key)
+    (rw ty at (sym (ap (fits (typeOf (a .ty))) (kind .ensures ∙ first-row f (v .some) (v .stands) .kind)) ∙ sym (kind-fits .ensures)
+    ∙ granted (kind-fits .result) (if1 .left))))
+
+returns-4 : tie.Need-returns-4
+returns-4 c =
+    λ f v k.
+    let a = c .before .before .before .before .before .before .before .before .before .args in
+    let kind = c .before .before .before .before .before .before .kind in
+    let kind-fits = c .before .before .before .before .before .kind-fits in
+    let if1 = c .before .before .before .before .if1 in
     let role-of = c .before .before .before .role-of in
-    c .value-number .ensures f v k ∙ row-value (now (a .text)) f (v .some) (typeOf (a .ty)) (a .key)
-    (rw (c .before .enum-told .given .1) at (role-of .ensures))
+    c .value-number2 .ensures f v k ∙ row-value (now (a .text)) f (v .some) (typeOf (a .ty)) (a .key)
+    (rw (c .before .enum-told2 .given .1) at (role-of .ensures))
     (sym (ap (fits (typeOf (a .ty))) (kind .ensures ∙ first-row f (v .some) (v .stands) .kind)) ∙ sym (kind-fits .ensures)
     ∙ granted (kind-fits .result) (if1 .left))
 
@@ -100,5 +120,8 @@ row-number-spec =
     object-number-requires
     enum-told
     value-number-requires
+    enum-told-2
+    value-number-requires-2
     returns-2
-    returns-3)
+    returns-3
+    returns-4)
