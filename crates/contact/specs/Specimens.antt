@@ -162,6 +162,14 @@ cases =
     ∷ refusedAt (judging (with (name "\"full\":\"A\"" ++ bytes ",\"kind\":5"))) 11 70
     -- `defaultSeparator` without true `isOrdered`
     ∷ refusedAt (judging (with (name "\"full\":\"A\",\"defaultSeparator\":\" \""))) 14 50
+    -- each other rule between members broken alone, of a Name and of an Address
+    ∷ refusedAt (judge (with (name "\"isOrdered\":true,\"components\":[{\"kind\":\"separator\",\"value\":\" \"}]")) 60) 14 50
+    ∷ refusedAt (judge (with (name "\"isOrdered\":true,\"components\":[{\"kind\":\"given\",\"value\":\"A\"},{\"kind\":\"separator\",\"value\":\" \"},{\"kind\":\"separator\",\"value\":\"-\"}]")) 96) 14 50
+    ∷ refusedAt (judge (with (name "\"components\":[{\"kind\":\"given\",\"value\":\"A\"}],\"defaultSeparator\":\" \"")) 60) 14 50
+    ∷ refusedAt (judging (with (name "\"full\":\"A\",\"isOrdered\":true,\"defaultSeparator\":\" \""))) 14 50
+    ∷ refusedAt (judge (with (bytes ",\"addresses\":{\"a\":{\"components\":[{\"kind\":\"separator\",\"value\":\" \"}]}}")) 60) 14 60
+    ∷ refusedAt (judging (with (bytes ",\"addresses\":{\"a\":{\"components\":[],\"defaultSeparator\":\" \"}}"))) 14 60
+    ∷ refusedAt (judging (with (bytes ",\"addresses\":{\"a\":{\"isOrdered\":true,\"defaultSeparator\":\" \"}}"))) 14 60
     -- more of the wrong kind, in an object of each type of the table; null fits none that is listed
     ∷ refusedAt (judging (with (bytes ",\"language\":null"))) 11 54
     ∷ refusedAt (judging (with (bytes ",\"localizations\":{\"de\":1}"))) 11 65
