@@ -69,7 +69,7 @@ unfoldable pub anyCounts : ObjectType → Members → List String → Bool
 anyCounts o ms [] = false
 anyCounts o ms (n ∷ ns) = counts o ms n || anyCounts o ms ns
 
--- `order` says how: no two separators stand in a row, and where it isn't true there is none
+-- by the marks of a list: two separators stand in a row, or there is one and the list isn't ordered
 unfoldable pub badlySeparated : (marks : List Bool) → (ordered : Bool) → Bool
 badlySeparated ms ordered = adjacent ms || (anyMark ms && not ordered)
 
