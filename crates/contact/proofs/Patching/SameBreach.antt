@@ -3,7 +3,7 @@
 -- Assumes nothing.
 use Prim.Native.Nat.{ℕ, _+_}
 use mathlib.Core.Path.{_≡_, refl, sym, ap, ap₂, _∙_}
-use mathlib.Core.Bool.{Bool, true, not, cond, _&&_, _||_}
+use mathlib.Core.Bool.{Bool, true, false, not, cond, _&&_, _||_}
 use mathlib.Core.Logic.{_≢_}
 use mathlib.Core.List.{List, [], _∷_}
 use mathlib.Core.Option.{Option}
@@ -16,7 +16,7 @@ use Rattle.laws.proofs.Tests.{each-test}
 use Rattle.laws.proofs.Bools.{byTest}
 use Rattle.text.specs.Text.{bytes}
 use Rattle.text.specs.Doc.{Name, Doc, scalar, array, object, Members, empty, member, countOf, seek, isThere}
-use Rattle.contact.specs.Schema.{ObjectType, Ty, any, objectOf, mapOf, free, anyObject, card, Known, Rule, oneOf, needs, needsString, needsTrue, separators, notOnly, namesIn, types, recordOf, properties, rulesOf, typeIn}
+use Rattle.contact.specs.Schema.{ObjectType, Keys, Ty, any, objectOf, mapOf, anyObject, card, Known, Rule, oneOf, needs, needsString, needsTrue, separators, notOnly, namesIn, types, recordOf, properties, rulesOf, typeIn}
 use Rattle.contact.specs.Rules.{present, isTrue, isThisString, marks, anyCounts, badlySeparated, breaksOne, breaksAny}
 use Rattle.contact.specs.Judge.{lacking, rowNumber, memberType, keyFits, Breach, nothing, onRow, orElse, breachOf, breachAmong, cardBreach}
 use Rattle.contact.specs.Patching.{Rearranged, rearranged, AtMember, thisOne, laterOne, InMember, inMember, OrderOnly}
@@ -42,9 +42,11 @@ unfolding breachAmong
 entries-clean earlier row empty = refl
 entries-clean earlier row (member n label d ms) = ap₂ orElse (any-clean row d) (entries-clean (n ∷ earlier) (row + countOf d) ms)
 
-patch-clean : (row : ℕ) (ms : Members) → breachOf anyObject true row (object ms) ≡ nothing
+-- a PatchObject breaks what its key does, if anything
+patch-alike : (key : Bool) (row : ℕ) (ms ns : Members) → breachOf anyObject key row (object ms) ≡ breachOf anyObject key row (object ns)
 unfolding breachOf rowNumber
-patch-clean row ms = entries-clean [] (row + 1) ms
+patch-alike false row ms ns = refl
+patch-alike true row ms ns = entries-clean [] (row + 1) ms ∙ sym (entries-clean [] (row + 1) ns)
 
 -- ---- a difference in one member, of as many rows and of the same breach
 
@@ -76,17 +78,19 @@ module _ {n : Name} {R : Doc → Doc → Type 0} where
 
 -- ---- cards
 
-lang-breach : {lang : Name} (row : ℕ) (d e : Doc) → InMember lang Rearranged d e
-    → breachOf (mapOf free anyObject) true row d ≡ breachOf (mapOf free anyObject) true row e
+-- whatever keys the languages are
+lang-breach : {lang : Name} (keys : Keys) (row : ℕ) (d e : Doc) → InMember lang Rearranged d e
+    → breachOf (mapOf keys anyObject) true row d ≡ breachOf (mapOf keys anyObject) true row e
 unfolding breachOf rowNumber
-lang-breach row d e (inMember x) = at-among rearranged-count (mapOf free anyObject) (λ earlier r y z. clean r y z) [] (row + 1) x
+lang-breach {lang = lang} keys row d e (inMember x) =
+    at-among rearranged-count (mapOf keys anyObject) (λ earlier r y z. alike (keyFits (mapOf keys anyObject) earlier lang) r y z) [] (row + 1) x
   where
-    clean : (row : ℕ) (d e : Doc) → Rearranged d e → breachOf anyObject true row d ≡ breachOf anyObject true row e
-    clean row d e (rearranged {ms = ms} {ns = ns} σ) = patch-clean row ms ∙ sym (patch-clean row ns)
+    alike : (key : Bool) (row : ℕ) (d e : Doc) → Rearranged d e → breachOf anyObject key row d ≡ breachOf anyObject key row e
+    alike key row d e (rearranged {ms = ms} {ns = ns} σ) = patch-alike key row ms ns
 
-localizations-type : typeIn (properties card) (bytes "localizations") ≡ mapOf free anyObject
+localizations-type : (keys : Keys) × (typeIn (properties card) (bytes "localizations") ≡ mapOf keys anyObject)
 unfolding typeIn recordOf types orderOf
-localizations-type = refl
+localizations-type = (_, refl)
 
 -- the member counts for no rule of a card
 unruled : every (λ r. every (λ n. not (same (bytes "localizations") (bytes n))) (namesIn r)) (rulesOf card) ≡ true
@@ -137,4 +141,4 @@ pub order-breach : (lang : Name) (one other : Doc) → OrderOnly lang one other 
 unfolding breachOf
 order-breach lang one other (inMember x) =
     ap₂ (λ (k : ℕ) (b : Breach). onRow k 0 b) (card-number x)
-    (at-among (in-count rearranged-count) (objectOf card) (λ earlier row d e r. rw localizations-type (lang-breach row d e r)) [] 1 x)
+    (at-among (in-count rearranged-count) (objectOf card) (λ earlier row d e r. rw (localizations-type .1) (lang-breach (localizations-type .0) row d e r)) [] 1 x)
