@@ -10,6 +10,7 @@ use mathlib.Core.List.{List}
 use native.Mathlib.Decide.{decLe}
 use native.Mathlib.Omega.{arith}
 use lib.ListN.{length, List·getD-eq-default}
+use Rattle.text.specs.Limits.{rowWords}
 use Rattle.text.specs.Tree.{Forest, none, leaf, node}
 use Rattle.text.specs.Firsts.{insideAt, restAt, Kinds}
 use Rattle.text.specs.Standing.{StandsTo}
@@ -30,9 +31,9 @@ kinds-rest (leaf kind ns ne from to rest) k = k .1
 kinds-rest (node b ns ne from to within rest) k = k .1
 
 -- a row that has a kind is one of the table
-pub row-inside : (table : List ℕ) (row : ℕ) → 0 < kindIn table row → row * 6 < length table
+pub row-inside : (table : List ℕ) (row : ℕ) → 0 < kindIn table row → row * rowWords < length table
 row-inside table row h =
-    elim (decLe (length table) (row * 6)) [
+    elim (decLe (length table) (row * rowWords)) [
       | yes le ↦
           let z : kindIn table row ≡ 0 = List·getD-eq-default table 0 (omega arith) in
           absurd (omega arith)

@@ -3,6 +3,7 @@ use Prim.Native.Nat.{_+_, _*_}
 use mathlib.Core.Path.{sym, _∙_}
 use native.Mathlib.Omega.{arith}
 use denote.Ref.{now}
+use Rattle.text.specs.Limits.{rowWords}
 use Rattle.text.specs.Firsts.{insideAt}
 use Rattle.text.specs.Doc.{membersOf}
 use Rattle.json.specs.Cursors.{rest}
@@ -38,7 +39,7 @@ below-requires c κs = search needs
 near : (c : tie.After-below) → let a = c .before .before .before .before .before .before .before .args in Near (a .row + 1 + c .below .result)
 near c =
     let start = c .before .before .before .before .before .before .before in
-    let word = c .before .before .before .before .before .shared-slice-known2 .given (start .args .row * 6 + 5) in
+    let word = c .before .before .before .before .before .shared-slice-known2 .given (start .args .row * rowWords + 5) in
     omega (arith, word, c .below .ensures, c .before .before .before .if1 .left, start .good .1 .0 .0)
 
 add-end : tie.Need-add-end
