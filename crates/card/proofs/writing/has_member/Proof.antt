@@ -9,7 +9,7 @@ use Rattle.text.specs.Doc.{membersOf}
 use Rattle.json.specs.Cursors.{rest}
 use Rattle.card.specs.Parts.{partLeft}
 use Rattle.card.specs.Members.{Near}
-use Rattle.card.proofs.Walks.{value-row, value-inside}
+use Rattle.card.proofs.Walks.{rows-room, value-inside}
 use Rattle.card.proofs.MemberLaws.{standing}
 use Rattle.card.proofs.PatchLaws.{there-out, there-found, there-none}
 use borrow.Author.Needs.{needs}
@@ -17,7 +17,7 @@ use Rattle.card.proofs.writing.has_member.Statement.{statement}
 use Rattle.card.proofs.writing.has_member.Tie as tie
 
 returns : tie.Need-returns
-returns c = λ g v. absurd (omega (arith, value-row v .room))
+returns c = λ g v. absurd (omega (arith, rows-room v))
 
 is-part-out-requires : tie.Need-is-part-out-requires
 is-part-out-requires c κs = search needs
