@@ -27,7 +27,7 @@ use Rattle.card.specs.Language.{Held, PropertyAt, PropertyFound}
 use Rattle.card.specs.Localizing.{mostEntries}
 use Rattle.card.specs.declared.members.Found.{Found}
 use Rattle.card.specs.declared.members.Found.the-variants.{Row, Nothing}
-use Rattle.card.proofs.Walks.{kinds-inside, value-row}
+use Rattle.card.proofs.Walks.{kinds-inside, value-row, rows-room}
 
 child-none : (n : Name) (d : Doc) → (kindOf d ≡ 7 → ⊥) → child n d ≡ none
 child-none n (scalar kind token) h = refl
@@ -39,10 +39,10 @@ module _ {table : List ℕ} {row : ℕ} {g : Forest} (v : KnownAt table row g) w
   inside-to = rw (value-row v .below) (inside g (v .some) (v .stands))
 
   pub near : row < length table
-  near = omega (arith, value-row v .room)
+  near = omega (arith, rows-room v)
 
   pub far : row + 1 + belowIn table row ≤ length table
-  far = omega (arith, value-row v .room-all, value-row v .below)
+  far = omega (arith, rows-room v, value-row v .below)
 
   pub value-kind : (t : List ℕ) → kindOf (docOf t g) ≡ kindIn table row
   value-kind t = doc-kind t g (v .some) ∙ sym (value-row v .kind)

@@ -11,7 +11,7 @@ use Rattle.text.specs.Tree.{Forest}
 use Rattle.text.specs.Standing.{StandsTo}
 use Rattle.text.specs.Firsts.{insideAt}
 use Rattle.text.specs.Doc.{Name, Property, docOf, membersOf, kindOf, tokenOf, below, seek}
-use Rattle.text.proofs.Promise.{first-row, inside, doc-kind, doc-token, doc-below}
+use Rattle.text.proofs.Promise.{first-row, first-room, inside, doc-kind, doc-token, doc-below}
 use Rattle.json.specs.Rows.{kindIn, startIn, endIn, belowIn}
 use Rattle.card.specs.Members.{Finds}
 use Rattle.card.specs.Rows.{ValueAt, RowOf}
@@ -34,7 +34,7 @@ module _ (text : List ℕ) {t : List ℕ} {k : ℕ} (f : Forest) (v : ValueAt t 
   value-members = rw (first-row f (v .some) (v .stands) .below) (inside f (v .some) (v .stands))
 
   pub value-room : (k + 1 + belowIn t k) * rowWords ≤ length t
-  value-room = let r = first-row f (v .some) (v .stands) in omega (arith, r .below, r .room-all)
+  value-room = omega (arith, first-row f (v .some) (v .stands) .below, first-room f (v .some) (v .stands))
 
 -- what holds of the members of any value at the row holds of what is below it
 pub value-below : (text : List ℕ) (f : Forest) → below (docOf text f) ≡ membersOf text (insideAt f)

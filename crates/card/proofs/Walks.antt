@@ -1,5 +1,5 @@
 -- Values that stand at rows, and a walk along the values inside a container, each written in its turn:
---     kinds-inside, kinds-rest, row-inside, value-row     a value at a row: the kinds of what is in it, that the table has it, and its words
+--     kinds-inside, kinds-rest, row-inside, value-row, rows-room     a value at a row: the kinds of what is in it, that the table has it, its words, and that the table has those below
 --     Passing                                            what a loop along rows keeps, whatever stands there
 --     Walk, walk-start, walk-here, walk-on, walk-end     `rest vs first` are the bytes from the values vs on
 -- Assumes nothing.
@@ -10,10 +10,11 @@ use mathlib.Core.List.{List}
 use native.Mathlib.Decide.{decLe}
 use native.Mathlib.Omega.{arith}
 use lib.ListN.{length, List·getD-eq-default}
+use Rattle.text.specs.Limits.{rowWords}
 use Rattle.text.specs.Tree.{Forest, none, leaf, node}
-use Rattle.text.specs.Firsts.{insideAt, restAt, Kinds}
-use Rattle.text.specs.Standing.{StandsTo}
-use Rattle.text.proofs.Promise.{FirstRow, first-row, inside, after, some-at, none-at}
+use Rattle.text.specs.Firsts.{insideAt, belowAt, headAt, restAt, Kinds}
+use Rattle.text.specs.Standing.{StandsTo, RowAt}
+use Rattle.text.proofs.Promise.{first-row, first-room, inside, after, some-at, none-at}
 use Rattle.json.specs.Rows.{kindIn, belowIn}
 use Rattle.card.specs.Rows.{KnownAt}
 use Rattle.card.specs.Members.{Near}
@@ -30,9 +31,9 @@ kinds-rest (leaf kind ns ne from to rest) k = k .1
 kinds-rest (node b ns ne from to within rest) k = k .1
 
 -- a row that has a kind is one of the table
-pub row-inside : (table : List ℕ) (row : ℕ) → 0 < kindIn table row → row * 6 < length table
+pub row-inside : (table : List ℕ) (row : ℕ) → 0 < kindIn table row → row * rowWords < length table
 row-inside table row h =
-    elim (decLe (length table) (row * 6)) [
+    elim (decLe (length table) (row * rowWords)) [
       | yes le ↦
           let z : kindIn table row ≡ 0 = List·getD-eq-default table 0 (omega arith) in
           absurd (omega arith)
@@ -40,8 +41,12 @@ row-inside table row h =
     ]
 
 -- the words of its row
-pub value-row : {table : List ℕ} {row : ℕ} {g : Forest} → KnownAt table row g → FirstRow table row g
+pub value-row : {table : List ℕ} {row : ℕ} {g : Forest} → KnownAt table row g → RowAt table row (headAt g)
 value-row {g = g} v = first-row g (v .some) (v .stands)
+
+-- it and those inside it are rows of the table
+pub rows-room : {table : List ℕ} {row : ℕ} {g : Forest} → KnownAt table row g → (row + 1 + belowAt g) * rowWords ≤ length table
+rows-room {g = g} v = first-room g (v .some) (v .stands)
 
 -- what is inside it, by the number of rows
 pub value-inside : {table : List ℕ} {row k : ℕ} {g : Forest} → KnownAt table row g → k ≡ belowIn table row

@@ -1,7 +1,7 @@
 -- 01's specimens, those marked (P) and some more, on whole texts and whole cards, as one statement over a list of cases: for each call of a service
 -- the three numbers of the answer, the whole table and the whole output. Each line of the refusal sheet stands here at least once.
 -- Assumes nothing.
-use Prim.Native.Nat.{ℕ, _+_}
+use Prim.Native.Nat.{ℕ, _+_, _-_, _*_}
 use Prim.Native.String.{String}
 use mathlib.Core.Path.{_≡_, refl}
 use mathlib.Core.List.{List, [], _∷_, _++_, map}
@@ -87,12 +87,12 @@ name inside = bytes ",\"name\":{" ++ bytes inside ++ bytes "}"
 abbrev patched : List ℕ → String → List ℕ
 patched more patch = with (more ++ bytes ",\"localizations\":{\"de\":{" ++ bytes patch ++ bytes "}}")
 
--- judged with a table of 50 words; localized for `de` with a table of 100 words and an output of 99 bytes
+-- judged with a table of 8 rows and 2 words; localized for `de` with a table of 16 rows and 4 words and an output of 99 bytes
 abbrev judging : List ℕ → Call
-judging text = judge text 50
+judging text = judge text (8 * rowWords + 2)
 
 abbrev localizing : List ℕ → Call
-localizing text = localize text (bytes "de") 100 99
+localizing text = localize text (bytes "de") (16 * rowWords + 4) 99
 
 -- ---- rows
 
@@ -114,24 +114,24 @@ prefRows end = cardRows (end + 3) 7 (row 7 44 50 52 (end + 2) 3 ++ row 7 54 56 5
 unfoldable pub cases : List Case
 cases =
     -- (P) the empty text: 2 at 0
-    refusedAt (read [] 12) 2 0
+    refusedAt (read [] (2 * rowWords)) 2 0
     -- (P) a name again, written with an escape: 4 at 7; also where the table has no row
-    ∷ refusedAt (read (bytes "{\"a\":1,\"\\u0061\":2}") 18) 4 7
+    ∷ refusedAt (read (bytes "{\"a\":1,\"\\u0061\":2}") (3 * rowWords)) 4 7
     ∷ refusedAt (read (bytes "{\"a\":1,\"\\u0061\":2}") 0) 4 7
     -- (P) a lone surrogate: 3 at 1
-    ∷ refusedAt (read (bytes "\"\\uD800\"") 6) 3 1
+    ∷ refusedAt (read (bytes "\"\\uD800\"") rowWords) 3 1
     -- (P) three rows
-    ∷ accepted (read (bytes "{\"a\":[1]}") 20) 3 0 (row 7 0 0 0 9 2 ++ row 6 2 3 5 8 1 ++ row 4 0 0 6 7 0) []
+    ∷ accepted (read (bytes "{\"a\":[1]}") (3 * rowWords + 2)) 3 0 (row 7 0 0 0 9 2 ++ row 6 2 3 5 8 1 ++ row 4 0 0 6 7 0) []
     -- a table without a third whole row: 7, three needed
-    ∷ refusedAt (read (bytes "{\"a\":[1]}") 17) 7 3
+    ∷ refusedAt (read (bytes "{\"a\":[1]}") (3 * rowWords - 1)) 7 3
     ∷ refusedAt (read (bytes "{\"a\":[1]}") 0) 7 3
     -- the 33rd open array: 5
-    ∷ refusedAt (read (replicate 33 91) 6) 5 32
+    ∷ refusedAt (read (replicate 33 91) rowWords) 5 32
     -- small limits: 1, 5 and 6 one past each, and 5 before 6 at one place
-    ∷ refusedUnder tight (read (bytes "[1, 22, 3]") 60) 1 0
-    ∷ refusedUnder tight (read (bytes "[[[]]]") 60) 5 2
-    ∷ refusedUnder tight (read (bytes "[1,2,3]") 60) 6 5
-    ∷ refusedUnder tight (read (bytes "[[1,[]]]") 60) 5 4
+    ∷ refusedUnder tight (read (bytes "[1, 22, 3]") (10 * rowWords)) 1 0
+    ∷ refusedUnder tight (read (bytes "[[[]]]") (10 * rowWords)) 5 2
+    ∷ refusedUnder tight (read (bytes "[1,2,3]") (10 * rowWords)) 6 5
+    ∷ refusedUnder tight (read (bytes "[[1,[]]]") (10 * rowWords)) 5 4
     -- (P) pref 1 and 100 pass; 0, 101 and 1.0 are 13
     ∷ accepted (judging (withPref "1")) 8 0 (prefRows 81) []
     ∷ accepted (judging (withPref "100")) 8 0 (prefRows 83) []
@@ -157,7 +157,7 @@ cases =
     -- `members` needs the kind "group"; a separator needs true `isOrdered`
     ∷ accepted (judging (with (bytes ",\"kind\":\"group\",\"members\":{}"))) 6 0 (cardRows 71 5 (row 5 44 48 50 57 0 ++ row 7 59 66 68 70 0)) []
     ∷ refusedAt (judging (with (bytes ",\"members\":{}"))) 14 0
-    ∷ refusedAt (judge (with (name "\"components\":[{\"kind\":\"given\",\"value\":\"A\"},{\"kind\":\"separator\",\"value\":\" \"}]")) 72) 14 50
+    ∷ refusedAt (judge (with (name "\"components\":[{\"kind\":\"given\",\"value\":\"A\"},{\"kind\":\"separator\",\"value\":\" \"}]")) (12 * rowWords)) 14 50
     -- the place is that of the offending value, behind an object with values of its own
     ∷ refusedAt (judging (with (name "\"full\":\"A\"" ++ bytes ",\"kind\":5"))) 11 70
     -- `defaultSeparator` without true `isOrdered`
@@ -177,9 +177,9 @@ cases =
     ∷ refusedAt (judging (with (name "\"full\":\"A\",\"isOrdered\":\"true\""))) 11 74
     ∷ refusedAt (judging (with (name "\"full\":\"A\",\"sortAs\":{\"given\":1}"))) 11 80
     ∷ refusedAt (judging (with (name "\"full\":\"A\",\"components\":{}"))) 11 75
-    ∷ refusedAt (judge (with (name "\"components\":[{\"kind\":\"given\",\"value\":\"A\",\"phonetic\":1}]")) 60) 11 104
+    ∷ refusedAt (judge (with (name "\"components\":[{\"kind\":\"given\",\"value\":\"A\",\"phonetic\":1}]")) (10 * rowWords)) 11 104
     ∷ refusedAt (judging (with (bytes ",\"addresses\":{\"a\":{\"countryCode\":1}}"))) 11 75
-    ∷ refusedAt (judge (with (bytes ",\"addresses\":{\"a\":{\"components\":[{\"value\":\"A\",\"kind\":true}]}}")) 60) 11 95
+    ∷ refusedAt (judge (with (bytes ",\"addresses\":{\"a\":{\"components\":[{\"value\":\"A\",\"kind\":true}]}}")) (10 * rowWords)) 11 95
     ∷ refusedAt (judging (with (bytes ",\"emails\":{\"e\":{\"address\":\"a\",\"contexts\":[]}}"))) 11 83
     ∷ refusedAt (judging (with (bytes ",\"phones\":{\"p\":{\"number\":\"1\",\"features\":\"voice\"}}"))) 11 82
     -- no such language; a loose `~`; a pointer into `localizations`
@@ -200,12 +200,12 @@ cases =
     -- (P) null on `uid` is 28 with 12
     ∷ refusedAt (localizing (patched [] "\"uid\":null")) 28 12
     -- an output that is one byte short is 27, also where more room would give 28
-    ∷ refusedAt (localize (patched (name "\"full\":\"Ann\"") "") (bytes "de") 100 64) 27 65
-    ∷ refusedAt (localize (patched [] "\"uid\":null") (bytes "de") 100 31) 27 32
+    ∷ refusedAt (localize (patched (name "\"full\":\"Ann\"") "") (bytes "de") (16 * rowWords + 4) 64) 27 65
+    ∷ refusedAt (localize (patched [] "\"uid\":null") (bytes "de") (16 * rowWords + 4) 31) 27 32
     -- an empty PatchObject gives the card without localizations
     ∷ accepted (localizing (patched (name "\"full\":\"Ann\"") "")) 6 65 (cardRows 65 5 (row 7 44 48 50 64 1 ++ row 5 52 56 58 63 0)) (with (name "\"full\":\"Ann\""))
     -- an output just long enough is long enough
-    ∷ accepted (localize (patched (name "\"full\":\"Ann\"") "") (bytes "de") 100 65) 6 65 (cardRows 65 5 (row 7 44 48 50 64 1 ++ row 5 52 56 58 63 0))
+    ∷ accepted (localize (patched (name "\"full\":\"Ann\"") "") (bytes "de") (16 * rowWords + 4) 65) 6 65 (cardRows 65 5 (row 7 44 48 50 64 1 ++ row 5 52 56 58 63 0))
     (with (name "\"full\":\"Ann\""))
     -- a replaced member keeps its name as it is written
     ∷ accepted (localizing (patched (bytes ",\"\\u0061\":1") "\"a\":2")) 5 54 (cardRows 54 4 (row 4 44 50 52 53 0)) (with (bytes ",\"\\u0061\":2"))
@@ -220,7 +220,7 @@ cases =
     ∷ accepted
     (localize
     (bytes "{\"@type\":\"Card\",\"version\":\"1.0\",\"uid\":\"u1\",\"name\":{\"full\":\"Ann\"},\"localizations\":{\"de\":{\"ex.com:b\":2,\"name/full\":\"Anne\",\"ex.com:a\": 1}}}")
-    (bytes "de") 72 136)
+    (bytes "de") (12 * rowWords) 136)
     8 92 (cardRows 92 7 (row 7 44 48 50 65 1 ++ row 5 52 56 58 64 0 ++ row 4 67 75 77 78 0 ++ row 4 80 88 90 91 0))
     (bytes "{\"@type\":\"Card\",\"version\":\"1.0\",\"uid\":\"u1\",\"name\":{\"full\":\"Anne\"},\"ex.com:a\":1,\"ex.com:b\":2}")
     ∷ []

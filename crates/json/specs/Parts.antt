@@ -1,12 +1,12 @@
 -- What the readers of a text's parts ask, and what they answer. Assumes nothing: these are definitions.
 use Prim.Native.Nat.{ℕ, _+_, _-_, _*_, _≤_, _<_}
 use mathlib.Core.Path.{_≡_}
-use mathlib.Core.List.{List, [], _∷_}
+use mathlib.Core.List.{List}
 use lib.ListN.{length}
 use lib.Seq.{sets}
 use Rattle.text.specs.Limits.{Limits, rowWords, base}
 use Rattle.text.specs.Fewer.{withValues}
-use Rattle.text.specs.Tree.{Bracket, square, curly, Forest, size, rowsOf}
+use Rattle.text.specs.Tree.{Bracket, square, curly, Forest, size, rowOf, rowsOf}
 use Rattle.text.specs.Grammar.{closing}
 use Rattle.text.specs.Standing.{StandsTo}
 use Rattle.text.specs.Reader.{Read, good, bad, Reader, ItemReader, colonAt, memberOf, insideOf, valueAt, arrayAt, objectAt}
@@ -61,7 +61,7 @@ Closable n (Stop r) = Prim.Unit {0}
 -- and what it does: it stores the container's row
 abbrev pub Closes : (kind ns ne at n : ℕ) → Part → (old new : List ℕ) → Part → Type 0
 Closes kind ns ne at n (Next to after) old new r =
-    (r ≡ Next to after) × (new ≡ sets old (n * rowWords) (kind ∷ ns ∷ ne ∷ at ∷ to ∷ (after - n - 1) ∷ []))
+    (r ≡ Next to after) × (new ≡ sets old (n * rowWords) (rowOf kind ns ne at to (after - n - 1)))
 Closes kind ns ne at n (Stop x) old new r = r ≡ Stop x
 
 -- ---- the two containers

@@ -1,11 +1,11 @@
 // Rows of a lent table. No other module knows which word of a row says what.
 use crate::limits::ROW_WORDS;
 ghost use mathlib.Core.Path.{_≡_};
-ghost use mathlib.Core.List.{[], _∷_};
 ghost use Prim.Native.Nat.{_*_, _<_};
 ghost use lib.ListN.{length};
 ghost use lib.Seq.{sets};
 ghost use Rattle.text.specs.Limits.{rowWords};
+ghost use Rattle.text.specs.Tree.{rowOf};
 ghost use Rattle.json.specs.Rows.{Row, wordOf, kindIn, nameStartIn, nameEndIn, startIn, endIn, belowIn};
 
 // The kinds of a row, NULL to OBJECT.
@@ -35,7 +35,7 @@ pub(crate) fn put_row(
     below: usize,
 )
     requires { ⌜ Row (length (now table)) row kind ns ne from to below ⌝ }
-    ensures { λ _. ⌜ now (table .exit) ≡ sets (now (table .entry)) (row * rowWords) (kind ∷ ns ∷ ne ∷ from ∷ to ∷ below ∷ []) ⌝ }
+    ensures { λ _. ⌜ now (table .exit) ≡ sets (now (table .entry)) (row * rowWords) (rowOf kind ns ne from to below) ⌝ }
 {
     let at = row * ROW_WORDS;
     table[at] = kind as u32;

@@ -8,7 +8,8 @@
 --     paper-unique, answer-is, same-outcome      the answer and the table are determined
 --
 -- The values that stand in a table from a row on, first value first (specs/Standing.antt, specs/Firsts.antt):
---     first-row                its six words: kind, name start and end, start and end, number of values below; and the row is inside the table
+--     first-row             its words: kind, name start and end, start and end, number of values below
+--     first-room            its row and those of the values below it are inside the table
 --     inside                what is inside it stands from the next row on, `below` rows
 --     next, after, within   what follows it stands `below + 1` rows further, and ends before the same row
 --     alone                 it stands there by itself, whatever follows
@@ -54,8 +55,8 @@ pub use Rattle.text.proofs.Fewer.{whole-bad}
 pub use Rattle.text.proofs.Outcomes.{paper-unique, answerOf, answer-is, same-outcome}
 pub use Rattle.text.proofs.Standing.{
   rows-length,
-  FirstRow,
   first-row,
+  first-room,
   inside,
   next,
   alone,

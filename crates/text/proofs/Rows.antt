@@ -7,37 +7,23 @@ use mathlib.Core.Path.{_≡_, refl, sym, ap, subst, _∙_}
 use mathlib.Core.List.{List, [], append-nil}
 use lib.ListN.{getD}
 use Prim.Native.Nat.{ℕ, _+_, _*_, _≤_, _<_}
-use native.Mathlib.Nat.{add-zero, zero-add}
+use native.Mathlib.Nat.{zero-add}
 use native.Mathlib.Omega.{arith}
 use Rattle.text.specs.Limits.{rowWords}
 use Rattle.text.specs.Tree.{Forest, none, leaf, node, size, rowsOf, startsOf}
 use Rattle.text.specs.Seats.{Head, Seat, top, under, behind, Sits}
 use Rattle.text.specs.Standing.{Stands, RowAt}
-use Rattle.text.specs.Firsts.{HasFirst, kindAt, nameStart, nameEnd, startAt, endAt, belowAt}
+use Rattle.text.specs.Firsts.{belowAt}
 use Rattle.text.proofs.Standing.{first-row, inside, next, start-at}
 use Rattle.text.proofs.Grammar.Stands.{by-order}
 use Rattle.text.proofs.Grammar.Trees.{in-few, in-from}
 
 -- ---- the words of a row ----
 
-module _ {table : List ℕ} {k : ℕ} where
-  first-words : (f : Forest) (h : Head) → HasFirst f → Stands table k f → kindAt f ≡ h .kind → nameStart f ≡ h .ns → nameEnd f ≡ h .ne → startAt f ≡ h .from
-      → endAt f ≡ h .to → belowAt f ≡ h .below → RowAt table k h
-  first-words f h s e a b c d g i =
-      let r = first-row f s e in
-      record {
-        kind = rw (← a) (rw (add-zero (k * rowWords)) at (r .kind));
-        name-start = rw (← b) (r .name-start);
-        name-end = rw (← c) (r .name-end);
-        start = rw (← d) (r .start);
-        finish = rw (← g) (r .finish);
-        below = rw (← i) (r .below);
-      }
-
 row-in : {table : List ℕ} {c d : Seat} {h : Head} {f : Forest} → Stands table (c .after) f → Sits c f d h → RowAt table (d .after) h
 unfolding size
-row-in {h = h} {f} s Sits.leaf-here = first-words f h tt s refl refl refl refl refl refl
-row-in {h = h} {f} s Sits.node-here = first-words f h tt s refl refl refl refl refl refl
+row-in {f = f} s Sits.leaf-here = first-row f tt s
+row-in {f = f} s Sits.node-here = first-row f tt s
 row-in {f = f} s (Sits.into i) = row-in (inside f tt s .stands) i
 row-in {table} {c} {f = f} s (Sits.leaf-on {rest = rest} i) =
     let place : c .after + 1 + belowAt f ≡ c .after + (1 + belowAt f) = omega arith in

@@ -1,6 +1,6 @@
 -- Values that stand in a table from a row on:
 --     rows-length                    a value takes one row, and those inside it one each
---     first-row                         the six words of a row are those of the first value
+--     first-row, first-room          the words of a row are those of the first value, and its rows are inside the table
 --     inside, after, alone           what is inside the first value stands from the next row on; what follows it, `below + 1` rows further
 --     stands-unique                  a table says which values stand in it: no two trees stand at one row and end before the same row
 --     filled-stands, table-stands    the table that reading leaves: the tree stands in it from row 0 on
@@ -16,9 +16,10 @@ use lib.ListN.{length, getD, drop, replicate, length-append, length-drop, List·
 use lib.Seq.{drop-drop, drop-at, getD-drop, getD-append-add}
 use Rattle.laws.specs.Lists.{filled}
 use Rattle.text.specs.Limits.{rowWords}
-use Rattle.text.specs.Tree.{Bracket, square, curly, bracketKind, Forest, none, leaf, node, size, rowsOf, startsOf}
-use Rattle.text.specs.Standing.{Stands, StandsTo}
-use Rattle.text.specs.Firsts.{HasFirst, kindAt, nameStart, nameEnd, startAt, endAt, insideAt, belowAt, restAt, Kinds}
+use Rattle.text.specs.Tree.{Bracket, square, curly, bracketKind, Forest, none, leaf, node, size, rowOf, rowsOf, startsOf}
+use Rattle.text.specs.Seats.{Head}
+use Rattle.text.specs.Standing.{Stands, StandsTo, RowAt}
+use Rattle.text.specs.Firsts.{HasFirst, insideAt, belowAt, headAt, restAt, Kinds}
 use Rattle.text.specs.Reader.{good}
 use Rattle.text.specs.Whole.{tableOf}
 
@@ -41,43 +42,31 @@ rows-length (node b ns ne from to inside rest) = simp length-append (omega (arit
 word : (t l : List ℕ) (n : ℕ) → drop n t ≡ l → (i : ℕ) → getD t (n + i) 0 ≡ getD l i 0
 word t l n e i = sym (getD-drop n t i 0) ∙ ap (λ (m : List ℕ). getD m i 0) e
 
--- row k has the words of the first value, and it and those of the values below it are inside the table
-pub record FirstRow (t : List ℕ) (k : ℕ) (f : Forest) : Type 0 where
-  pub kind : getD t (k * rowWords + 0) 0 ≡ kindAt f
-  pub name-start : getD t (k * rowWords + 1) 0 ≡ nameStart f
-  pub name-end : getD t (k * rowWords + 2) 0 ≡ nameEnd f
-  pub start : getD t (k * rowWords + 3) 0 ≡ startAt f
-  pub finish : getD t (k * rowWords + 4) 0 ≡ endAt f
-  pub below : getD t (k * rowWords + 5) 0 ≡ belowAt f
-  pub room : k * rowWords + 5 < length t
-  pub room-all : (k + 1 + belowAt f) * rowWords ≤ length t
+row-words : (t more : List ℕ) (k : ℕ) (h : Head) → drop (k * rowWords) t ≡ rowOf (h .kind) (h .ns) (h .ne) (h .from) (h .to) (h .below) ++ more → RowAt t k h
+row-words t more k h e =
+    record {
+      kind = word t _ (k * rowWords) e 0;
+      name-start = word t _ (k * rowWords) e 1;
+      name-end = word t _ (k * rowWords) e 2;
+      start = word t _ (k * rowWords) e 3;
+      finish = word t _ (k * rowWords) e 4;
+      below = word t _ (k * rowWords) e 5;
+    }
 
-pub first-row : {t : List ℕ} {k : ℕ} (f : Forest) → HasFirst f → Stands t k f → FirstRow t k f
+-- row k has the words of the first value
+pub first-row : {t : List ℕ} {k : ℕ} (f : Forest) → HasFirst f → Stands t k f → RowAt t k (headAt f)
 unfolding rowsOf size
 first-row none s h = absurd s
-first-row {t} {k} (leaf kind ns ne from to rest) s h =
-    record {
-      kind = word t _ (k * rowWords) (h .is) 0;
-      name-start = word t _ (k * rowWords) (h .is) 1;
-      name-end = word t _ (k * rowWords) (h .is) 2;
-      start = word t _ (k * rowWords) (h .is) 3;
-      finish = word t _ (k * rowWords) (h .is) 4;
-      below = word t _ (k * rowWords) (h .is) 5;
-      room = omega (arith, length-drop (k * rowWords) t, ap length (h .is));
-      room-all = omega (arith, length-drop (k * rowWords) t, ap length (h .is));
-    }
-first-row {t} {k} (node b ns ne from to inside rest) s h =
-    record {
-      kind = word t _ (k * rowWords) (h .is) 0;
-      name-start = word t _ (k * rowWords) (h .is) 1;
-      name-end = word t _ (k * rowWords) (h .is) 2;
-      start = word t _ (k * rowWords) (h .is) 3;
-      finish = word t _ (k * rowWords) (h .is) 4;
-      below = word t _ (k * rowWords) (h .is) 5;
-      room = omega (arith, length-drop (k * rowWords) t, ap length (h .is));
-      room-all =
-          omega (arith, length-drop (k * rowWords) t, ap length (h .is), length-append (rowsOf inside ++ rowsOf rest) (h .rest), length-append (rowsOf inside) (rowsOf rest), rows-length inside);
-    }
+first-row {t} {k} (leaf kind ns ne from to rest) s h = row-words t _ k (headAt (leaf kind ns ne from to rest)) (h .is)
+first-row {t} {k} (node b ns ne from to within rest) s h = row-words t _ k (headAt (node b ns ne from to within rest)) (h .is)
+
+-- its row and those of the values below it are inside the table
+pub first-room : {t : List ℕ} {k : ℕ} (f : Forest) → HasFirst f → Stands t k f → (k + 1 + belowAt f) * rowWords ≤ length t
+unfolding rowsOf size
+first-room none s h = absurd s
+first-room {t} {k} (leaf kind ns ne from to rest) s h = omega (arith, length-drop (k * rowWords) t, ap length (h .is))
+first-room {t} {k} (node b ns ne from to within rest) s h =
+    omega (arith, length-drop (k * rowWords) t, ap length (h .is), length-append (rowsOf within ++ rowsOf rest) (h .rest), length-append (rowsOf within) (rowsOf rest), rows-length within)
 
 -- ---- inside the first value, after it, and it alone ----
 

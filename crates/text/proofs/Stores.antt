@@ -5,14 +5,14 @@
 --     stored-stands             values whose rows were stored stand in the table
 -- Assumes nothing.
 use mathlib.Core.Path.{_≡_, refl, sym, ap, _∙_}
-use mathlib.Core.List.{List, [], _∷_, _++_, append-assoc, append-nil}
+use mathlib.Core.List.{List, _++_, append-assoc, append-nil}
 use Prim.Native.Nat.{ℕ, _+_, _*_, _≤_}
 use native.Mathlib.Omega.{arith}
 use lib.ListN.{length, drop}
 use lib.Seq.{sets}
 use Rattle.laws.proofs.Sets.{sets-append, sets-before, drop-sets}
 use Rattle.text.specs.Limits.{rowWords}
-use Rattle.text.specs.Tree.{Bracket, bracketKind, Forest, none, leaf, node, size, rowsOf, join}
+use Rattle.text.specs.Tree.{Bracket, bracketKind, Forest, none, leaf, node, size, rowOf, rowsOf, join}
 use Rattle.text.specs.Standing.{StandsTo}
 use Rattle.text.proofs.Standing.{rows-length}
 
@@ -26,15 +26,15 @@ pub rows-join : (f g : Forest) → rowsOf (join f g) ≡ rowsOf f ++ rowsOf g
 unfolding rowsOf join
 rows-join none g = refl
 rows-join (leaf kind ns ne from to rest) g = rw (rows-join rest g)
-rows-join (node b ns ne from to inside rest) g = rw (rows-join rest g, append-assoc)
+rows-join (node b ns ne from to inside rest) g = rw (rows-join rest g, append-assoc, append-assoc)
 
 pub rows-close : (b : Bracket) (f : Forest) (t : List ℕ) (ns ne from to n : ℕ)
-    → sets (sets t ((n + 1) * rowWords) (rowsOf f)) (n * rowWords) (bracketKind b ∷ ns ∷ ne ∷ from ∷ to ∷ size f ∷ [])
+    → sets (sets t ((n + 1) * rowWords) (rowsOf f)) (n * rowWords) (rowOf (bracketKind b) ns ne from to (size f))
     ≡ sets t (n * rowWords) (rowsOf (node b ns ne from to f none))
 unfolding rowsOf
 rows-close b f t ns ne from to n =
-    let row : List ℕ = bracketKind b ∷ ns ∷ ne ∷ from ∷ to ∷ size f ∷ [] in
-    let e : (n + 1) * rowWords ≡ n * rowWords + 6 = omega arith in
+    let row : List ℕ = rowOf (bracketKind b) ns ne from to (size f) in
+    let e : (n + 1) * rowWords ≡ n * rowWords + rowWords = omega arith in
     sets-before row (rowsOf f) t (n * rowWords) ((n + 1) * rowWords) (omega arith)
     ∙ ap (λ (k : ℕ). sets (sets t (n * rowWords) row) k (rowsOf f)) e
     ∙ sym (sets-append row (rowsOf f) t (n * rowWords))

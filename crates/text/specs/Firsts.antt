@@ -1,6 +1,8 @@
 -- The first of some values that stand one beside the other: its words, what is inside it and what follows it, so that laws need no cases.
 -- Where there are no values, all is 0 or nothing. Assumes nothing: these are definitions.
 use Prim.Native.Nat.{ℕ, _≤_, _<_}
+use mathlib.Core.Bool.{Bool, true, false}
+use Rattle.text.specs.Seats.{Head}
 use Rattle.text.specs.Tree.{bracketKind, Forest, none, leaf, node, size}
 
 -- there is a first value
@@ -45,9 +47,19 @@ insideAt none = none
 insideAt (leaf kind ns ne from to rest) = none
 insideAt (node b ns ne from to inside rest) = inside
 
--- how many values that are, the last word of its row
+-- how many values that are
 abbrev pub belowAt : Forest → ℕ
 belowAt f = size (insideAt f)
+
+-- may it hold others?
+abbrev pub holdsAt : Forest → Bool
+holdsAt none = false
+holdsAt (leaf kind ns ne from to rest) = false
+holdsAt (node b ns ne from to inside rest) = true
+
+-- the first value without what is inside it
+abbrev pub headAt : Forest → Head
+headAt f = record { holds = holdsAt f; kind = kindAt f; ns = nameStart f; ne = nameEnd f; from = startAt f; to = endAt f; below = belowAt f }
 
 -- the values that follow it
 abbrev pub restAt : Forest → Forest

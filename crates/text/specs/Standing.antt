@@ -21,7 +21,7 @@ pub record StandsTo (table : List ℕ) (k end : ℕ) (f : Forest) : Type 0 where
 -- row k of the table is the row of the value h: six words, in this order
 pub record RowAt (table : List ℕ) (k : ℕ) (h : Head) : Type 0 where
   -- kind
-  pub kind : getD table (k * rowWords) 0 ≡ h .kind
+  pub kind : getD table (k * rowWords + 0) 0 ≡ h .kind
   -- name start, after the quote
   pub name-start : getD table (k * rowWords + 1) 0 ≡ h .ns
   -- name end, without the quote

@@ -4,6 +4,7 @@ use Prim.Native.Nat.{_+_, _-_, _*_}
 use native.Mathlib.Omega.{arith}
 use denote.Ref.{now}
 use borrow.Author.Needs.{needs}
+use Rattle.text.specs.Limits.{rowWords}
 use Rattle.text.specs.Utf8.{conts}
 use Rattle.card.specs.Parts.{nameLeft}
 use Rattle.card.proofs.MemberLaws.{Seeking, seeks, seek-hit, seek-next, seek-none}
@@ -58,7 +59,7 @@ add-at c = omega (arith, c .before .before .before .before .before .before .befo
 add-at-2 : tie.Need-add-at-2 Inv-loop μ-loop
 add-at-2 c =
     let loop = c .before .before .before .before .before .before .before .before in
-    let word = loop .before .before .shared-slice-known2 .given (loop .loop .at * 6 + 5) in
+    let word = loop .before .before .shared-slice-known2 .given (loop .loop .at * rowWords + 5) in
     omega (arith, word, c .below .ensures, loop .before .before .before .before .pre)
 
 loop-less : tie.Need-loop-less Inv-loop μ-loop

@@ -7,7 +7,7 @@ use borrow.Author.Needs.{needs}
 use Rattle.json.specs.Cursors.{rest}
 use Rattle.contact.specs.Pointer.{pointerOf, parts}
 use Rattle.text.specs.Firsts.{insideAt}
-use Rattle.text.proofs.Promise.{first-row, inside}
+use Rattle.text.proofs.Promise.{first-row, first-room, inside}
 use Rattle.card.proofs.MemberLaws.{standing}
 use Rattle.card.proofs.PointerLaws.{fewer}
 use Rattle.card.proofs.PathLaws.{inside-kinds, walk-array, walk-scalar, walk-last, walk-lacks, walk-on}
@@ -87,7 +87,7 @@ follow-returns-3 t c =
 follow-add-first : (t : ℕ) → follow-lts.Need-add-first (given t) (follow-at t) follow.Post
 follow-add-first t c =
     let (f, s, h, k) = c .before .before .before .before .before .before .before .before .before .before .pre .1 in
-    omega (arith, first-row f s h .room)
+    omega (arith, first-room f s h)
 
 follow-below-requires : (t : ℕ) → follow-lts.Need-below-requires (given t) (follow-at t) follow.Post
 follow-below-requires t c κs = search needs
@@ -95,13 +95,13 @@ follow-below-requires t c κs = search needs
 follow-add-end : (t : ℕ) → follow-lts.Need-add-end (given t) (follow-at t) follow.Post
 follow-add-end t c =
     let (f, s, h, k) = c .before .before .before .before .before .before .before .before .before .before .before .pre .1 in
-    omega (arith, c .below .ensures, first-row f s h .below, first-row f s h .room-all)
+    omega (arith, c .below .ensures, first-row f s h .below, first-room f s h)
 
 follow-member-row-requires : (t : ℕ) → follow-lts.Need-member-row-requires (given t) (follow-at t) follow.Post
 follow-member-row-requires t c κs =
     let start = c .before .before .before .before .before .before .before .before .before .before .before in
     let (f, s, h, k) = start .pre .1 in
-    omega (arith, c .below .ensures, first-row f s h .below, first-row f s h .room-all, start .good .1 .0 .0)
+    omega (arith, c .below .ensures, first-row f s h .below, first-room f s h, start .good .1 .0 .0)
 
 follow-enum-known-m : (t : ℕ) → follow-lts.Need-enum-known-m (given t) (follow-at t) follow.Post
 follow-enum-known-m t c = search needs

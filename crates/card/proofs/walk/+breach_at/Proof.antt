@@ -6,7 +6,7 @@ use lib.ListN.{length}
 use denote.Ref.{now}
 use borrow.Author.Needs.{needs}
 use Rattle.text.specs.Doc.{docOf}
-use Rattle.text.proofs.Promise.{first-row}
+use Rattle.text.proofs.Promise.{first-room}
 use Rattle.card.specs.Types.{typeOf}
 use Rattle.card.specs.Walk.{foundOf}
 use Rattle.card.proofs.WalkLaws.{breach-row, Judging, judging-starts, here, value-here, kinds-here, judging-hit, judging-on, judging-ends}
@@ -76,7 +76,7 @@ breach-at-next-row-requires : (t : ℕ)
 breach-at-next-row-requires t c κs = (c .before .before .before .before .pre .1 .0, c .before .before .before .before .pre .1 .1)
 
 breach-at-add-at : (t : ℕ) → breach-at-lts.Need-add-at (given t) (breach-at-at t) breach-at.Post breach-at-Inv-loop breach-at-μ-loop
-breach-at-add-at t c = let (f, v, k) = c .before .before .before .before .before .pre .1 in omega (arith, first-row f (v .some) (v .stands) .room)
+breach-at-add-at t c = let (f, v, k) = c .before .before .before .before .before .pre .1 in omega (arith, first-room f (v .some) (v .stands))
 
 breach-at-loop-holds : (t : ℕ) → breach-at-lts.Need-loop-holds (given t) (breach-at-at t) breach-at.Post breach-at-Inv-loop breach-at-μ-loop
 breach-at-loop-holds t c =
@@ -123,7 +123,7 @@ breach-at-breach-at-requires t c κs =
     let next-row = c .before .before .before .before .before .before .next-row in
     let loop = c .before .before .before .before .before .loop in
     let loop-test = c .before .before .before .before .loop-test in (
-      omega (arith, p .0, first-row (p .1 .0) (p .1 .1 .some) (p .1 .1 .stands) .room, loop .inv .1),
+      omega (arith, p .0, first-room (p .1 .0) (p .1 .1 .some) (p .1 .1 .stands), loop .inv .1),
       (
         here text table (typeOf (a .ty)) (a .key) (a .row) (next-row .result) (loop .at) (loop .inv .0) (p .1 .0) (p .1 .1) (p .1 .2) (loop-test .taken),
         value-here text table (typeOf (a .ty)) (a .key) (a .row) (next-row .result) (loop .at) (loop .inv .0) (p .1 .0) (p .1 .1) (p .1 .2)

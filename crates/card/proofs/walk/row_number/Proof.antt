@@ -4,7 +4,7 @@ use Prim.Native.Nat.{_+_}
 use native.Mathlib.Omega.{arith}
 use denote.Ref.{now}
 use Rattle.text.specs.Firsts.{insideAt}
-use Rattle.text.proofs.Promise.{first-row, inside}
+use Rattle.text.proofs.Promise.{first-row, first-room, inside}
 use Rattle.contact.specs.Schema.{objectOf, byType, fits}
 use Rattle.card.specs.Types.{typeOf}
 use Rattle.laws.proofs.Picks.{granted, denied}
@@ -41,7 +41,7 @@ next-row-requires c κs =
 add-object-number : tie.Need-add-object-number
 add-object-number c =
     let (f, v) = c .before .before .before .before .before .before .before .before .before .before .pre in
-    omega (arith, first-row f (v .some) (v .stands) .room)
+    omega (arith, first-room f (v .some) (v .stands))
 
 object-number-requires : tie.Need-object-number-requires
 object-number-requires c κs =

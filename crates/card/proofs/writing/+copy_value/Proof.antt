@@ -7,6 +7,7 @@ use mathlib.Core.List.{[], _∷_}
 use native.Mathlib.Omega.{arith}
 use lib.ListN.{length}
 use denote.Ref.{now}
+use Rattle.text.specs.Limits.{rowWords}
 use Rattle.text.specs.Tree.{Forest}
 use Rattle.text.specs.Firsts.{insideAt}
 use Rattle.card.specs.Rows.{KnownAt}
@@ -105,7 +106,7 @@ module _ (t : ℕ) where
 
   -- the row is one of the table
   inside : (c : lts.Else1 (given t) (copy-value-at t) copy-value.Post Inv-loop μ-loop)
-      → let a = c .before .before .before .before .before .args in a .row * 6 < length (a .table .now)
+      → let a = c .before .before .before .before .before .args in a .row * rowWords < length (a .table .now)
   inside c =
       let a = c .before .before .before .before .before .args in
       row-inside (a .table .now) (a .row) (omega (arith, c .before .kind .ensures, c .if1 .left))
@@ -123,7 +124,7 @@ module _ (t : ℕ) where
       let good = c .before .before .before .before .before .before .good in
       let a = c .before .before .before .before .before .before .args in
       let shared-slice-known2 = c .before .before .before .before .shared-slice-known2 in
-      omega (arith, shared-slice-known2 .given (a .row * 6 + 5), c .below .ensures, inside (c .before), good .1 .0 .0)
+      omega (arith, shared-slice-known2 .given (a .row * rowWords + 5), c .below .ensures, inside (c .before), good .1 .0 .0)
 
   add-end-2 : lts.Need-add-end-2 (given t) (copy-value-at t) copy-value.Post Inv-loop μ-loop
   add-end-2 c = omega (arith, near c)
@@ -179,7 +180,7 @@ module _ (t : ℕ) where
       let shared-slice-known2 = early .before .before .before .before .before .before .before .before .shared-slice-known2 in
       let loop = c .before .before .before .before .before .before .before .before .before .before .loop in
       let loop-test = c .before .before .before .before .before .before .before .before .before .loop-test in
-      omega (arith, shared-slice-known2 .given (loop .m * 6 + 5), c .below2 .ensures, loop-test .taken, loop .inv .0 .near)
+      omega (arith, shared-slice-known2 .given (loop .m * rowWords + 5), c .below2 .ensures, loop-test .taken, loop .inv .0 .near)
 
   loop-less : lts.Need-loop-less (given t) (copy-value-at t) copy-value.Post Inv-loop μ-loop
   loop-less c = omega (arith, c .before .before .before .before .before .before .before .before .before .loop-test .taken)

@@ -3,12 +3,13 @@ use Prim.Native.Nat.{_+_, _*_}
 use mathlib.Core.Path.{sym, _∙_}
 use native.Mathlib.Omega.{arith}
 use denote.Ref.{now}
+use Rattle.text.specs.Limits.{rowWords}
 use Rattle.text.specs.Firsts.{insideAt}
 use Rattle.text.specs.Doc.{membersOf}
 use Rattle.json.specs.Cursors.{rest}
 use Rattle.card.specs.Parts.{partLeft}
 use Rattle.card.specs.Members.{Near}
-use Rattle.card.proofs.Walks.{value-row, value-inside}
+use Rattle.card.proofs.Walks.{rows-room, value-inside}
 use Rattle.card.proofs.MemberLaws.{standing}
 use Rattle.card.proofs.PatchLaws.{there-out, there-found, there-none}
 use borrow.Author.Needs.{needs}
@@ -16,7 +17,7 @@ use Rattle.card.proofs.writing.has_member.Statement.{statement}
 use Rattle.card.proofs.writing.has_member.Tie as tie
 
 returns : tie.Need-returns
-returns c = λ g v. absurd (omega (arith, value-row v .room))
+returns c = λ g v. absurd (omega (arith, rows-room v))
 
 is-part-out-requires : tie.Need-is-part-out-requires
 is-part-out-requires c κs = search needs
@@ -38,7 +39,7 @@ below-requires c κs = search needs
 near : (c : tie.After-below) → let a = c .before .before .before .before .before .before .before .args in Near (a .row + 1 + c .below .result)
 near c =
     let start = c .before .before .before .before .before .before .before in
-    let word = c .before .before .before .before .before .shared-slice-known2 .given (start .args .row * 6 + 5) in
+    let word = c .before .before .before .before .before .shared-slice-known2 .given (start .args .row * rowWords + 5) in
     omega (arith, word, c .below .ensures, c .before .before .before .if1 .left, start .good .1 .0 .0)
 
 add-end : tie.Need-add-end

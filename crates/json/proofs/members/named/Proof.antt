@@ -6,6 +6,7 @@ use mathlib.Core.Bool.{Bool, true, cond}
 use Prim.Native.Nat.{ℕ, _+_, _*_, _-_}
 use native.Mathlib.Omega.{arith}
 use borrow.Author.Needs.{needs}
+use Rattle.text.specs.Limits.{rowWords}
 use Rattle.laws.specs.Order.{same}
 use Rattle.text.specs.Strings.{nameOf}
 use Rattle.text.specs.Tree.{Forest, none, leaf, node}
@@ -70,7 +71,7 @@ below-requires c κs = search needs
 add-row-2 : tie.Need-add-row-2 Inv-loop μ-loop
 add-row-2 c =
     omega
-    (arith, c .before .before .before .before .before .before .before .shared-slice-known2 .given (c .before .before .before .before .before .before .loop .row * 6 + 5))
+    (arith, c .before .before .before .before .before .before .before .shared-slice-known2 .given (c .before .before .before .before .before .before .loop .row * rowWords + 5))
 
 loop-less : tie.Need-loop-less Inv-loop μ-loop
 loop-less c = omega arith

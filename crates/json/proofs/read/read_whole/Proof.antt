@@ -1,6 +1,7 @@
 -- `json::read::read_whole` meets its contract: one law of a text for each return. Assumes nothing.
 use native.Mathlib.Omega.{arith}
 use borrow.Author.Needs.{needs}
+use Rattle.text.specs.Limits.{base}
 use Rattle.text.specs.Tokens.{skip}
 use Rattle.text.specs.Reader.{valueAt}
 use Rattle.text.proofs.TokenEnds.{skip-span}
@@ -12,7 +13,7 @@ use Rattle.json.proofs.read.read_whole.Tie as tie
 -- where a value was read, what its reader ensures says so
 gone : (v : tie.After-v2)
     → let a = v .before .before .before .before .before .before .before .before .before .args in
-    let R = valueAt (upTo (a .limit)) (a .text .now) 32 0 0 (skip (a .text .now) 0) 0 in
+    let R = valueAt (upTo (a .limit)) (a .text .now) (base .depth) 0 0 (skip (a .text .now) 0) 0 in
     Gone R (a .text .now) (a .limit) (skip (a .text .now) 0) 0 (a .table .now) (v .before .before .before .before .read-value .last .1 .0) (v .v2 .given .0 .0) (v .v2 .given .0 .1 .0)
 gone v = rw (v .v2 .given .1, v .before .before .before .before .before .before .skip .ensures) at (v .before .before .before .before .read-value .ensures)
 

@@ -4,6 +4,7 @@ use Prim.Native.Nat.{_+_, _*_}
 use native.Mathlib.Omega.{arith}
 use lib.ListN.{List·getD-eq-default}
 use borrow.Author.Needs.{needs}
+use Rattle.text.specs.Limits.{rowWords}
 use Rattle.json.proofs.rows.word.Statement.{statement}
 use Rattle.json.proofs.rows.word.Tie as tie
 
@@ -25,7 +26,7 @@ shared-slice-read-result : tie.Need-shared-slice-read-result
 shared-slice-read-result c = search needs
 
 cast-result : tie.Need-cast-result
-cast-result c = omega (arith, c .shared-slice-known .given (c .before .before .before .args .row * 6 + c .before .before .before .args .i))
+cast-result c = omega (arith, c .shared-slice-known .given (c .before .before .before .args .row * rowWords + c .before .before .before .args .i))
 
 returns-2 : tie.Need-returns-2
 returns-2 c = search needs

@@ -6,6 +6,7 @@ use mathlib.Core.List.{[], _∷_}
 use native.Mathlib.Omega.{arith}
 use lib.ListN.{length}
 use denote.Ref.{now}
+use Rattle.text.specs.Limits.{rowWords}
 use Rattle.text.specs.Tree.{Forest}
 use Rattle.text.specs.Firsts.{insideAt}
 use Rattle.text.specs.Doc.{Members, membersOf, docOf}
@@ -99,7 +100,7 @@ module _ (t : ℕ) where
 
   -- the row is one of the table
   inside : (c : lts.Else1 (given t) (value-at t) value.Post Inv-loop μ-loop)
-      → let a = c .before .before .before .before .before .before .before .before .args in a .row * 6 < length (a .table .now)
+      → let a = c .before .before .before .before .before .before .before .before .args in a .row * rowWords < length (a .table .now)
   inside c =
       let a = c .before .before .before .before .before .before .before .before .args in
       row-inside (a .table .now) (a .row) (omega (arith, c .before .kind .ensures, c .if1 .left))
@@ -118,7 +119,7 @@ module _ (t : ℕ) where
       let good = c .before .before .before .before .before .before .before .before .before .before .before .good in
       let a = c .before .before .before .before .before .before .before .before .before .before .before .args in
       let shared-slice-known2 = c .before .before .before .before .before .before .before .before .before .shared-slice-known2 in
-      omega (arith, shared-slice-known2 .given (a .row * 6 + 5), c .below .ensures, inside (c .before .before .before), good .1 .0 .1)
+      omega (arith, shared-slice-known2 .given (a .row * rowWords + 5), c .below .ensures, inside (c .before .before .before), good .1 .0 .1)
 
   pub add-end-2 : lts.Need-add-end-2 (given t) (value-at t) value.Post Inv-loop μ-loop
   add-end-2 c = omega (arith, near c)
@@ -157,7 +158,7 @@ module _ (t : ℕ) where
       let shared-slice-known2 = early .before .before .before .before .before .before .before .before .shared-slice-known2 in
       let loop = c .before .before .before .before .before .before .loop in
       let loop-test = c .before .before .before .before .before .loop-test in
-      omega (arith, shared-slice-known2 .given (loop .m * 6 + 5), c .below2 .ensures, loop-test .taken, loop .inv .0 .near)
+      omega (arith, shared-slice-known2 .given (loop .m * rowWords + 5), c .below2 .ensures, loop-test .taken, loop .inv .0 .near)
 
   pub loop-less : lts.Need-loop-less (given t) (value-at t) value.Post Inv-loop μ-loop
   loop-less c = omega (arith, c .before .before .before .before .before .loop-test .taken)
