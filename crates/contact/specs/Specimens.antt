@@ -26,7 +26,7 @@ use Rattle.contact.specs.Schema.{types, recordOf, typeIn}
 use Rattle.contact.specs.Values.{idByte, isId, valueFrom, isCount}
 use Rattle.contact.specs.Dates.{monthLengths, isLeap, daysOf, isDay, shaped, fractionEnds, ends, inRange, isTime}
 use Rattle.contact.specs.Rules.{present, isString, isSeparator, marksOf, anyCounts, badlySeparated, breaksAny}
-use Rattle.contact.specs.Judge.{lacking, rowNumber, breachOf, breachAmong}
+use Rattle.contact.specs.Judge.{isOf, lacking, rowNumber, breachOf, breachAmong}
 use Rattle.contact.specs.Verdict.{refusedFault, refusedCard, faultOf, byBreach, judgedRead, judgedOf, sheetOfJudged, tableOfJudged, paperOfVerdict}
 use Rattle.contact.specs.Faults.{faultIn}
 use Rattle.contact.specs.Localize.{refusedLocal, byJudge, byRoom, byFault, byEntries, inPatch, withPatch, localizedDoc, localizedJudged, localizedOf, sheetOfOutcome, tableOfOutcome, outputOfOutcome, answerOfOutcome, paperOfLocalized}
@@ -226,5 +226,5 @@ cases =
     ∷ []
 
 pub specimens : map worked cases ≡ cases
-unfolding worked cases served partOf scan orderOf digitOf hex4Of digitAt hex4At checkedAt tailOf seq2 seq3 seq4 tailAt rawAt letterOf lowAt pairAt unitAt onHex escapeAt stepBy stringEnd conts utf8 pieceBy decodeFrom runEnd wordAt digitsAt minusEnd intAt fracAt signEnd expAt numberAt kindBy tokenAt size rowsOf startsOf join scalarWith scalarAt closeOf container deep valueWith afterItem itemsFrom insideOf named colonAt memberWith memberOf valueAt elementsAt membersAt arrayAt objectAt refused endOf readOf fitOf wholeOf sheetOf tableOf membersOf docOf countOf countAll types recordOf typeIn every idByte isId valueFrom isCount monthLengths isLeap daysOf isDay shaped fractionEnds ends inRange isTime present isString isSeparator marksOf anyMark allMarks adjacent anyCounts badlySeparated breaksAny lacking rowNumber breachOf breachAmong refusedFault refusedCard faultOf byBreach judgedRead judgedOf sheetOfJudged paperOfVerdict tableOfJudged refusedLocal byJudge byRoom faultIn byFault byEntries inPatch withPatch localizedDoc localizedJudged localizedOf sheetOfOutcome paperOfLocalized answerOfOutcome tableOfOutcome outputOfOutcome
+unfolding worked cases served partOf scan orderOf digitOf hex4Of digitAt hex4At checkedAt tailOf seq2 seq3 seq4 tailAt rawAt letterOf lowAt pairAt unitAt onHex escapeAt stepBy stringEnd conts utf8 pieceBy decodeFrom runEnd wordAt digitsAt minusEnd intAt fracAt signEnd expAt numberAt kindBy tokenAt size rowsOf startsOf join scalarWith scalarAt closeOf container deep valueWith afterItem itemsFrom insideOf named colonAt memberWith memberOf valueAt elementsAt membersAt arrayAt objectAt refused endOf readOf fitOf wholeOf sheetOf tableOf membersOf docOf countOf countAll types recordOf typeIn every idByte isId valueFrom isCount monthLengths isLeap daysOf isDay shaped fractionEnds ends inRange isTime present isString isSeparator marksOf anyMark allMarks adjacent anyCounts badlySeparated breaksAny isOf lacking rowNumber breachOf breachAmong refusedFault refusedCard faultOf byBreach judgedRead judgedOf sheetOfJudged paperOfVerdict tableOfJudged refusedLocal byJudge byRoom faultIn byFault byEntries inPatch withPatch localizedDoc localizedJudged localizedOf sheetOfOutcome paperOfLocalized answerOfOutcome tableOfOutcome outputOfOutcome
 specimens = refl
