@@ -14,7 +14,7 @@ use Rattle.text.specs.Tree.{Forest, none, leaf, node, size, rowsOf, star
 use Rattle.text.specs.Seats.{Head, Seat, top, under, behind, Sits}
 use Rattle.text.specs.Standing.{Stands, RowAt}
 use Rattle.text.specs.Firsts.{belowAt}
-use Rattle.text.proofs.Standing.{first-row, inside, next, start-at}
+use Rattle.text.proofs.Standing.{rows-stand, first-row, inside, next, start-at}
 use Rattle.text.proofs.Grammar.Stands.{by-order}
 use Rattle.text.proofs.Grammar.Trees.{in-few, in-from}
 
@@ -39,7 +39,7 @@ row-at table f s d h i = row-in s i
 -- theorem: where a value starts, by its row
 pub value-start : (f : Forest) {d : Seat} {h : Head} → Sits top f d h → getD (startsOf f) (d .after) 0 ≡ h .from
 value-start f {d} {h} i =
-    let s : Stands (rowsOf f) 0 f = record { rest = []; is = sym (append-nil (rowsOf f)) } in
+    let s : Stands (rowsOf f) 0 f = rows-stand (rowsOf f) 0 f [] (omega arith) (sym (append-nil (rowsOf f))) in
     let e = start-at f (record { stands = s; ends = refl }) (d .after) (omega (arith, in-few i)) in
     e ∙ ap (λ (k : ℕ). getD (rowsOf f) (k * rowWords + 3) 0) (zero-add (d .after)) ∙ row-at (rowsOf f) f s d h i .start
 

@@ -1,5 +1,6 @@
 -- Values that stand in a table from a row on:
 --     rows-length                    a value takes one row, and those inside it one each
+--     rows-stand                     values whose rows are words of a table stand in it
 --     first-row, first-room          the words of a row are those of the first value, and its rows are inside the table
 --     inside, after, alone           what is inside the first value stands from the next row on; what follows it, `below + 1` rows further
 --     stands-unique                  a table says which values stand in it: no two trees stand at one row and end before the same row
@@ -17,8 +18,8 @@ use lib.Seq.{drop-drop, drop-at, getD-drop, getD-append-add}
 use Rattle.laws.specs.Lists.{filled}
 use Rattle.text.specs.Limits.{rowWords}
 use Rattle.text.specs.Tree.{Bracket, square, curly, bracketKind, Forest, none, leaf, node, size, rowOf, rowsOf, startsOf}
-use Rattle.text.specs.Seats.{Head}
-use Rattle.text.specs.Standing.{Stands, StandsTo, RowAt}
+use Rattle.text.specs.Seats.{Head, leafHead, nodeHead}
+use Rattle.text.specs.Standing.{RowAt, RowsAt, Stands, StandsTo}
 use Rattle.text.specs.Firsts.{HasFirst, insideAt, belowAt, headAt, restAt, Kinds}
 use Rattle.text.specs.Reader.{good}
 use Rattle.text.specs.Whole.{tableOf}
@@ -53,64 +54,70 @@ row-words t more k h e =
       below = word t _ (k * rowWords) e 5;
     }
 
--- row k has the words of the first value
-pub first-row : {t : List ℕ} {k : ℕ} (f : Forest) → HasFirst f → Stands t k f → RowAt t k (headAt f)
-unfolding rowsOf size
-first-row none s h = absurd s
-first-row {t} {k} (leaf kind ns ne from to rest) s h = row-words t _ k (headAt (leaf kind ns ne from to rest)) (h .is)
-first-row {t} {k} (node b ns ne from to within rest) s h = row-words t _ k (headAt (node b ns ne from to within rest)) (h .is)
-
--- its row and those of the values below it are inside the table
-pub first-room : {t : List ℕ} {k : ℕ} (f : Forest) → HasFirst f → Stands t k f → (k + 1 + belowAt f) * rowWords ≤ length t
-unfolding rowsOf size
-first-room none s h = absurd s
-first-room {t} {k} (leaf kind ns ne from to rest) s h = omega (arith, length-drop (k * rowWords) t, ap length (h .is))
-first-room {t} {k} (node b ns ne from to within rest) s h =
-    omega (arith, length-drop (k * rowWords) t, ap length (h .is), length-append (rowsOf within ++ rowsOf rest) (h .rest), length-append (rowsOf within) (rowsOf rest), rows-length within)
-
--- ---- inside the first value, after it, and it alone ----
-
 next-row : (t l : List ℕ) (k n : ℕ) → drop (k * rowWords) t ≡ l → drop ((k + n) * rowWords) t ≡ drop (n * rowWords) l
 next-row t l k n e =
     let place : (k + n) * rowWords ≡ k * rowWords + n * rowWords = omega arith in
     rw place (sym (drop-drop (n * rowWords) (k * rowWords) t) ∙ ap (λ (m : List ℕ). drop (n * rowWords) m) e)
 
-pub inside : {t : List ℕ} {k : ℕ} (f : Forest) → HasFirst f → Stands t k f → StandsTo t (k + 1) (k + 1 + belowAt f) (insideAt f)
+rows-at : (t : List ℕ) (k : ℕ) (f : Forest) (more : List ℕ) → drop (k * rowWords) t ≡ rowsOf f ++ more → RowsAt t k f
 unfolding rowsOf size
-inside none s h = absurd s
-inside {t} {k} (leaf kind ns ne from to rest) s h =
-    record { stands = record { rest = rowsOf rest ++ h .rest; is = next-row t _ k 1 (h .is) }; ends = refl }
-inside {t} {k} (node b ns ne from to within rest) s h =
+rows-at t k none more e = tt
+rows-at t k (leaf kind ns ne from to rest) more e = (row-words t _ k (leafHead kind ns ne from to) e, rows-at t (k + 1) rest more (next-row t _ k 1 e))
+rows-at t k (node b ns ne from to within rest) more e =
+    let below : drop ((k + 1) * rowWords) t ≡ rowsOf within ++ (rowsOf rest ++ more) = next-row t _ k 1 e ∙ append-assoc (rowsOf within) (rowsOf rest) more in (
+      row-words t _ k (nodeHead b ns ne from to (size within)) e,
+      rows-at t (k + 1) within (rowsOf rest ++ more) below,
+      rows-at t (k + 1 + size within) rest more
+          (next-row t _ (k + 1) (size within) below
+          ∙ drop-at (rowsOf within) (rowsOf rest ++ more) (size within * rowWords) (omega (arith, rows-length within))),
+    )
+
+-- values whose rows are words of the table stand in it
+pub rows-stand : (t : List ℕ) (k : ℕ) (f : Forest) (more : List ℕ) → k * rowWords ≤ length t → drop (k * rowWords) t ≡ rowsOf f ++ more → Stands t k f
+rows-stand t k f more h e =
     record {
-      stands =
-          record { rest = rowsOf rest ++ h .rest; is = next-row t _ k 1 (h .is) ∙ append-assoc (rowsOf within) (rowsOf rest) (h .rest) };
-      ends = refl;
+      rows = rows-at t k f more e;
+      room = omega (arith, length-drop (k * rowWords) t, ap length e, length-append (rowsOf f) more, rows-length f);
     }
+
+-- ---- the first value ----
+
+-- row k has the words of the first value
+pub first-row : {t : List ℕ} {k : ℕ} (f : Forest) → HasFirst f → Stands t k f → RowAt t k (headAt f)
+unfolding size
+first-row none s h = absurd s
+first-row (leaf kind ns ne from to rest) s h = h .rows .0
+first-row (node b ns ne from to within rest) s h = h .rows .0
+
+-- its row and those of the values below it are inside the table
+pub first-room : {t : List ℕ} {k : ℕ} (f : Forest) → HasFirst f → Stands t k f → (k + 1 + belowAt f) * rowWords ≤ length t
+unfolding size
+first-room none s h = absurd s
+first-room (leaf kind ns ne from to rest) s h = omega (arith, h .room)
+first-room (node b ns ne from to within rest) s h = omega (arith, h .room)
+
+-- what is inside it
+pub inside : {t : List ℕ} {k : ℕ} (f : Forest) → HasFirst f → Stands t k f → StandsTo t (k + 1) (k + 1 + belowAt f) (insideAt f)
+unfolding size
+inside none s h = absurd s
+inside (leaf kind ns ne from to rest) s h = record { stands = record { rows = tt; room = omega (arith, h .room) }; ends = refl }
+inside (node b ns ne from to within rest) s h = record { stands = record { rows = h .rows .1; room = omega (arith, h .room) }; ends = refl }
 
 -- what follows it
 pub next : {t : List ℕ} {k : ℕ} (f : Forest) → HasFirst f → Stands t k f → Stands t (k + 1 + belowAt f) (restAt f)
-unfolding rowsOf size
+unfolding size
 next none s h = absurd s
 next {t} {k} (leaf kind ns ne from to rest) s h =
     let place : k + 1 + 0 ≡ k + 1 = omega arith in
-    record { rest = h .rest; is = rw place (next-row t _ k 1 (h .is)) }
-next {t} {k} (node b ns ne from to within rest) s h =
-    let below : drop ((k + 1) * rowWords) t ≡ rowsOf within ++ (rowsOf rest ++ h .rest) =
-    next-row t _ k 1 (h .is) ∙ append-assoc (rowsOf within) (rowsOf rest) (h .rest) in
-    record {
-      rest = h .rest;
-      is =
-          next-row t _ (k + 1) (size within) below
-          ∙ drop-at (rowsOf within) (rowsOf rest ++ h .rest) (size within * rowWords) (omega (arith, rows-length within));
-    }
+    record { rows = rw place (h .rows .1); room = omega (arith, h .room) }
+next (node b ns ne from to within rest) s h = record { rows = h .rows .2; room = omega (arith, h .room) }
 
 -- the first value alone
 pub alone : {t : List ℕ} {k : ℕ} (f : Forest) → HasFirst f → Stands t k f → Stands t k (firstOf f)
-unfolding rowsOf
+unfolding size
 alone none s h = absurd s
-alone (leaf kind ns ne from to rest) s h = record { rest = rowsOf rest ++ h .rest; is = h .is }
-alone (node b ns ne from to within rest) s h =
-    record { rest = rowsOf rest ++ h .rest; is = simp append-assoc (simp append-assoc at (h .is)) }
+alone (leaf kind ns ne from to rest) s h = record { rows = (h .rows .0, tt); room = omega (arith, h .room) }
+alone (node b ns ne from to within rest) s h = record { rows = (h .rows .0, h .rows .1, tt); room = omega (arith, h .room) }
 
 -- ---- the same for values that end before a row ----
 
@@ -185,7 +192,7 @@ stands-unique {t} {k} {end} (node b ns ne from to inside1 rest) (node b2 ns2 ne2
 -- ---- the table that reading leaves ----
 
 pub filled-stands : (words : ℕ) (f : Forest) → StandsTo (filled words (rowsOf f)) 0 (size f) f
-filled-stands words f = record { stands = record { rest = replicate (words - length (rowsOf f)) 0; is = refl }; ends = omega arith }
+filled-stands words f = record { stands = rows-stand (filled words (rowsOf f)) 0 f (replicate (words - length (rowsOf f)) 0) (omega arith) refl; ends = omega arith }
 
 pub table-stands : {table : List ℕ} (words : ℕ) (f : Forest) (to : ℕ) → table ≡ tableOf words (good f to) → StandsTo table 0 (size f) f
 unfolding tableOf

@@ -9,12 +9,12 @@ use mathlib.Core.List.{List, _++_, append-assoc, append-nil}
 use Prim.Native.Nat.{ℕ, _+_, _*_, _≤_}
 use native.Mathlib.Omega.{arith}
 use lib.ListN.{length, drop}
-use lib.Seq.{sets}
+use lib.Seq.{sets, length-sets}
 use Rattle.laws.proofs.Sets.{sets-append, sets-before, drop-sets}
 use Rattle.text.specs.Limits.{rowWords}
 use Rattle.text.specs.Tree.{Bracket, bracketKind, Forest, none, leaf, node, size, rowOf, rowsOf, join}
 use Rattle.text.specs.Standing.{StandsTo}
-use Rattle.text.proofs.Standing.{rows-length}
+use Rattle.text.proofs.Standing.{rows-length, rows-stand}
 
 pub size-join : (f g : Forest) → size (join f g) ≡ size f + size g
 unfolding size join
@@ -48,11 +48,10 @@ rows-then f g t n m h =
 
 pub stored-stands : (f : Forest) (t : List ℕ) (n m : ℕ) → m ≡ n + size f → m * rowWords ≤ length t → StandsTo (sets t (n * rowWords) (rowsOf f)) n m f
 stored-stands f t n m h room =
+    let l = length-sets t (n * rowWords) (rowsOf f) in
     record {
       stands =
-          record {
-            rest = drop (n * rowWords + length (rowsOf f)) t;
-            is = drop-sets (rowsOf f) t (n * rowWords) (omega (arith, rows-length f));
-          };
+          rows-stand (sets t (n * rowWords) (rowsOf f)) n f (drop (n * rowWords + length (rowsOf f)) t) (omega arith)
+          (drop-sets (rowsOf f) t (n * rowWords) (omega (arith, rows-length f)));
       ends = sym h;
     }

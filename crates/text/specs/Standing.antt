@@ -1,22 +1,12 @@
 -- The rows of values stand in a table: what the reading layer promises of a table that it filled, and what a reader of rows asks.
 -- Assumes nothing: these are definitions.
-use Prim.Native.Nat.{ℕ, _+_, _*_}
+use Prim.Native.Nat.{ℕ, _+_, _*_, _≤_}
 use mathlib.Core.Path.{_≡_}
-use mathlib.Core.List.{List, _++_}
-use lib.ListN.{getD, drop}
+use mathlib.Core.List.{List}
+use lib.ListN.{length, getD}
 use Rattle.text.specs.Limits.{rowWords}
-use Rattle.text.specs.Tree.{Forest, size, rowsOf}
-use Rattle.text.specs.Seats.{Head}
-
--- from row k of the table on stand the values, one beside the other, each with what is inside it
-pub record Stands (table : List ℕ) (k : ℕ) (f : Forest) : Type 0 where
-  pub rest : List ℕ
-  pub is : drop (k * rowWords) table ≡ rowsOf f ++ rest
-
--- the same, and they end before row `end`
-pub record StandsTo (table : List ℕ) (k end : ℕ) (f : Forest) : Type 0 where
-  pub stands : Stands table k f
-  pub ends : k + size f ≡ end
+use Rattle.text.specs.Tree.{Forest, none, leaf, node, size}
+use Rattle.text.specs.Seats.{Head, leafHead, nodeHead}
 
 -- row k of the table is the row of the value h: six words, in this order
 pub record RowAt (table : List ℕ) (k : ℕ) (h : Head) : Type 0 where
@@ -32,3 +22,20 @@ pub record RowAt (table : List ℕ) (k : ℕ) (h : Head) : Type 0 where
   pub finish : getD table (k * rowWords + 4) 0 ≡ h .to
   -- number of values below it
   pub below : getD table (k * rowWords + 5) 0 ≡ h .below
+
+-- from row k of the table on stand the rows of the values, one beside the other, each before those of what is inside it
+abbrev pub RowsAt : (table : List ℕ) (k : ℕ) → Forest → Type 0
+RowsAt table k none = Prim.Unit {0}
+RowsAt table k (leaf kind ns ne from to rest) = RowAt table k (leafHead kind ns ne from to) × RowsAt table (k + 1) rest
+RowsAt table k (node b ns ne from to inside rest) =
+    RowAt table k (nodeHead b ns ne from to (size inside)) × RowsAt table (k + 1) inside × RowsAt table (k + 1 + size inside) rest
+
+-- the same, and the table has room for them
+pub record Stands (table : List ℕ) (k : ℕ) (f : Forest) : Type 0 where
+  pub rows : RowsAt table k f
+  pub room : (k + size f) * rowWords ≤ length table
+
+-- the same, and they end before row `end`
+pub record StandsTo (table : List ℕ) (k end : ℕ) (f : Forest) : Type 0 where
+  pub stands : Stands table k f
+  pub ends : k + size f ≡ end
