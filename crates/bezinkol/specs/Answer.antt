@@ -1,5 +1,5 @@
--- What a C function leaves, by the definition of the services that the demands speak of: specs/Called.antt says that services with these contracts meet
--- the demands. Assumes nothing: these are definitions.
+-- What a C function leaves, by `served` (crate contact, specs/Services.antt), of which the demands are proved: specs/Called.antt says that services with
+-- these contracts meet them. Assumes nothing: these are definitions.
 use Prim.Native.Nat.{ℕ}
 use mathlib.Core.Path.{_≡_}
 use mathlib.Core.List.{List, [], _∷_}

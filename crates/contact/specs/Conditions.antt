@@ -1,4 +1,5 @@
--- The conditions 21 to 28 of the refusal sheet, each by itself and in words. 22 to 28 are about a document and the members of a PatchObject that is to
+-- The conditions 21 to 28 of the refusal sheet, each by itself: 22 to 26 in words; 27 and 28 of the text that the definitions write (`applied`,
+-- `written`), which fields `would-be` and `judged-again` of specs/Demands.antt tie to words. 22 to 28 are about a document and the members of a PatchObject that is to
 -- patch it (`BrokenPatch`). 22 to 26 name the key that breaks them (`BreaksWith`); a key counts by the pointer that it writes, so one with a loose `~`
 -- breaks 22 alone. 27 and 28 speak of the text that would be written. Of a card and a language (`BrokenCondition`) the document is the card without its
 -- localizations (`LeftOutOf`), and the PatchObject is the one that is found, which is the one that the card has (`PatchUnder`); if there is none, that

@@ -144,9 +144,10 @@ pub record ReadingAndJudging (L : Limits) (serve : Call → Left) : Type 0 where
   -- one row a value: each row is the row of a value, and of no other
   pub each-value : (f : Forest) (k : ℕ) → k < size f → (d : Seat) × (h : Head) × Sits top f d h × (d .after ≡ k)
   pub one-value : (f : Forest) (d e : Seat) (g h : Head) → Sits top f d g → Sits top f e h → d .after ≡ e .after → (d ≡ e) × (g ≡ h)
-  -- the document of a text that is read is what it says, white space or not: names and strings by what they spell, the rest as written, in its order
+  -- the document of a text that is read is what it says, white space or not: each token as it is written, each name as it is written and as what it
+  -- spells, in its order; a string's content is what it spells
   pub documents : (t : List ℕ) (words : ℕ) (f : Forest) → Readable L words t f → (d : Doc) → Tells t f d ↔ (d ≡ docOf t f)
-  -- and what it calls UTF-8, raw or of names and strings, is that of RFC 3629
+  -- and what it calls UTF-8, raw or of names and strings, has the shapes of RFC 3629's table; which code points there are says `Good`
   pub utf8-table : (c : ℕ) → c ≤ 0x10FFFF → Utf8 c (utf8 c)
   -- any other text is refused: by 1 if it is too long
   pub too-long : (t : List ℕ) (words second : ℕ) → (serve (read t words) .answer ≡ numbers 1 second 0) ↔ ((L .bytes < length t) × (second ≡ 0))
@@ -167,7 +168,8 @@ pub record ReadingAndJudging (L : Limits) (serve : Call → Left) : Type 0 where
   pub seen : (v : Doc) → Sees v (kindOf v) (tokenOf v) (below v)
   -- a quoted text, as the fixed spellings are, stands for the codes of its characters
   pub letters : (s : String) → Codes s (bytes s)
-  -- what types and properties the rules are about: the table is what the signatures of RFC 9553 say
+  -- what types and properties the rules are about: the table is what the signatures of RFC 9553 say. Which rules between members a type has is data
+  -- (Schema.antt), shown by specimens alone
   pub signed : AsSigned
 
 -- ---- demand 3: localizing
@@ -183,7 +185,8 @@ pub record WouldBe (L : Limits) (words : ℕ) (t : List ℕ) (f : Forest) (ms : 
   -- the text is no longer than t, and has no more values
   pub shorter : length (written (patchedDoc (docOf t f) ms)) ≤ length t
   pub fewer : countOf (patchedDoc (docOf t f) ms) ≤ size f
-  -- no white space outside strings: no text that is read, under any limits, and says it is shorter. So 27 asks for no byte too many
+  -- no white space outside strings: any text that is read, under whatever limits, and says this document is at least as long. So 27 asks for no byte
+  -- too many
   pub compact : (M : Limits) (u : List ℕ) (g : Forest) → Accepts M u g → docOf u g ≡ patchedDoc (docOf t f) ms
       → length (written (patchedDoc (docOf t f) ms)) ≤ length u
 
@@ -203,7 +206,7 @@ pub record Localization (L : Limits) (serve : Call → Left) (words room : ℕ) 
   -- the row count, the length, the rows and the bytes are those of the written card
   pub left : serve (localize t lang words room) ≡ leaves (numbers 0 (size tree) (length text)) (filled words (treeRows tree)) (filled room text)
 
--- u is a JSON text of as many bytes as a text may have, white space as it likes, and says the document d but for the order of the language's entries
+-- u is a JSON text of no more bytes than a text may have, white space as it likes, and says the document d but for the order of the language's entries
 pub record Reordering (L : Limits) (lang : Name) (d : Doc) (u : List ℕ) : Type 0 where
   pub derives : JsonText u
   pub document : Doc

@@ -26,7 +26,8 @@ use Rattle.contact.specs.BetweenMembers.{BreaksBetween}
 use Rattle.contact.specs.Breaches.{Keeps, FirstBreach}
 use Rattle.contact.specs.declared.Verdict.{Verdict}
 
--- What the papers say of a text as a card, for a lent table of so many words: the answer on paper, and the whole table after it.
+-- What is said of a text as a card, for a lent table of so many words: 1 to 7 by the definition of reading (`wholeOf`), 11 to 14 by the rules in words;
+-- the answer on paper, and the whole table after it.
 pub data Says (L : Limits) (words : ℕ) (text : List ℕ) : (answer : Paper) → (table : List ℕ) → Type 0 where
   -- reading's refusals come first
   unread : {r : Refusal} → wholeOf L words text ≡ bad r → Says L words text (refused r) (filled words [])
@@ -58,7 +59,7 @@ pub record Judging : Type 0 where
   -- a text passes, with its tree, just if reading accepts it with that tree and it keeps all rules
   pub accepted : (L : Limits) (words : ℕ) (t : List ℕ) (f : Forest)
       → (judgedOf L words t ≡ passed f) ↔ ((to : ℕ) × (wholeOf L words t ≡ good f to) × Keeps (docOf t f))
-  -- the answer and the table are those that the papers say, and no others
+  -- the answer and the table are those that `Says` gives, and no others
   pub answer : (L : Limits) (words : ℕ) (t : List ℕ) (p : Paper) (table : List ℕ)
       → ((p ≡ sheetOfJudged (judgedOf L words t)) × (table ≡ tableOfJudged words (judgedOf L words t))) ↔ Says L words t p table
   -- the row of a refusal is one of the text's rows, so that its place is where a value starts

@@ -55,35 +55,36 @@ walk (down n p) (scalar kind token) = noObject
 walk (down n p) (array ms) = inArray
 walk (down n p) (object ms) = onward (walk p) (seek n ms)
 
--- ---- the tests of 22 to 26, each over all entries of the untouched card; which key it is that breaks a condition: specs/Faults.antt
+-- ---- the tests of 22 to 26, each over all entries of the PatchObject, walks on the untouched card. The answer goes by specs/Faults.antt, which also
+-- finds the key; these are for the proofs and the card layer
 
--- 22, of the keys
+-- 22: some key has a `~` that neither `0` nor `1` follows
 abbrev pub anyBadKey : Members → Bool
 anyBadKey empty = false
 anyBadKey (member key label d ms) = badTilde key || anyBadKey ms
 
--- 23: the first part is `localizations`
+-- 23: some pointer's first part is `localizations`
 abbrev pub anyOwn : List Entry → Bool
 anyOwn [] = false
 anyOwn (entry p c ∷ es) = same (firstPart p) (bytes "localizations") || anyOwn es
 
--- 24: one of two pointers is a prefix of the other: of this one and of one of these
+-- 24: p and the pointer of one of these entries: one is a prefix of the other
 abbrev pub clashWith : Pointer → List Entry → Bool
 clashWith p [] = false
 clashWith p (entry q c ∷ es) = clash p q || clashWith p es
 
--- of some two of these
+-- 24: the same of some two of these entries
 abbrev pub anyClash : List Entry → Bool
 anyClash [] = false
 anyClash (entry p c ∷ es) = clashWith p es || anyClash es
 
--- 25
+-- 25: the walk ended at an array
 abbrev pub isInArray : Walk → Bool
 isInArray arrives = false
 isInArray inArray = true
 isInArray noObject = false
 
--- 26
+-- 26: the walk ended at no object
 abbrev pub isNoObject : Walk → Bool
 isNoObject arrives = false
 isNoObject inArray = false

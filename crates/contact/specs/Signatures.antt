@@ -1,5 +1,5 @@
 -- The known properties of each object type a second time: as signatures in the notation of RFC 9553 (1.3.2 and 1.3.3), written out type by type as its
--- sections 1.5 and 2 give them, and a reader of that notation. `AsSigned` says that the table (Schema.antt) is what the signatures say;
+-- sections 1.5 and 2 give them, of the properties that 01 lists and without their defaults, and a reader of that notation. `AsSigned` says that the table (Schema.antt) is what the signatures say;
 -- proofs/Judging/Signatures.antt proves it.
 -- Assumes nothing: these are definitions.
 use Prim.Native.Nat.{ℕ, suc}

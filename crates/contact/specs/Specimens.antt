@@ -87,10 +87,11 @@ name inside = bytes ",\"name\":{" ++ bytes inside ++ bytes "}"
 abbrev patched : List ℕ → String → List ℕ
 patched more patch = with (more ++ bytes ",\"localizations\":{\"de\":{" ++ bytes patch ++ bytes "}}")
 
--- judged with a table of 8 rows and 2 words; localized for `de` with a table of 16 rows and 4 words and an output of 99 bytes
+-- judged with a table of 8 rows and 2 words
 abbrev judging : List ℕ → Call
 judging text = judge text (8 * rowWords + 2)
 
+-- localized for `de` with a table of 16 rows and 4 words and an output of 99 bytes
 abbrev localizing : List ℕ → Call
 localizing text = localize text (bytes "de") (16 * rowWords + 4) 99
 
@@ -170,6 +171,10 @@ cases =
     ∷ refusedAt (judge (with (bytes ",\"addresses\":{\"a\":{\"components\":[{\"kind\":\"separator\",\"value\":\" \"}]}}")) 60) 14 60
     ∷ refusedAt (judging (with (bytes ",\"addresses\":{\"a\":{\"components\":[],\"defaultSeparator\":\" \"}}"))) 14 60
     ∷ refusedAt (judging (with (bytes ",\"addresses\":{\"a\":{\"isOrdered\":true,\"defaultSeparator\":\" \"}}"))) 14 60
+    -- the entry that isn't a separator isn't asked of an Address (house ruling); two separators in a row are 14 there too
+    ∷ accepted (judging (with (bytes ",\"addresses\":{\"a\":{\"components\":[]}}"))) 7 0
+    (cardRows 79 6 (row 7 44 53 55 78 2 ++ row 7 57 58 60 77 1 ++ row 6 62 72 74 76 0)) []
+    ∷ refusedAt (judge (with (bytes ",\"addresses\":{\"a\":{\"isOrdered\":true,\"components\":[{\"kind\":\"separator\",\"value\":\" \"},{\"kind\":\"separator\",\"value\":\"-\"}]}}")) (14 * rowWords)) 14 60
     -- more of the wrong kind, in an object of each type of the table; null fits none that is listed
     ∷ refusedAt (judging (with (bytes ",\"language\":null"))) 11 54
     ∷ refusedAt (judging (with (bytes ",\"localizations\":{\"de\":1}"))) 11 65
@@ -225,6 +230,7 @@ cases =
     (bytes "{\"@type\":\"Card\",\"version\":\"1.0\",\"uid\":\"u1\",\"name\":{\"full\":\"Anne\"},\"ex.com:a\":1,\"ex.com:b\":2}")
     ∷ []
 
+-- what the definitions say of each call is what its case says: all cases, by computation
 pub specimens : map worked cases ≡ cases
 unfolding worked cases served partOf scan orderOf digitOf hex4Of digitAt hex4At checkedAt tailOf seq2 seq3 seq4 tailAt rawAt letterOf lowAt pairAt unitAt onHex escapeAt stepBy stringEnd conts utf8 pieceBy decodeFrom runEnd wordAt digitsAt minusEnd intAt fracAt signEnd expAt numberAt kindBy tokenAt size rowsOf startsOf join scalarWith scalarAt closeOf container deep valueWith afterItem itemsFrom insideOf named colonAt memberWith memberOf valueAt elementsAt membersAt arrayAt objectAt refused endOf readOf fitOf wholeOf sheetOf tableOf membersOf docOf countOf countAll types recordOf typeIn every idByte isId valueFrom isCount monthLengths isLeap daysOf isDay shaped fractionEnds ends inRange isTime present isString isSeparator marksOf anyMark allMarks adjacent anyCounts badlySeparated breaksAny isOf lacking rowNumber breachOf breachAmong refusedFault refusedCard faultOf byBreach judgedRead judgedOf sheetOfJudged paperOfVerdict tableOfJudged refusedLocal byJudge byRoom faultIn byFault byEntries inPatch withPatch localizedDoc localizedJudged localizedOf sheetOfOutcome paperOfLocalized answerOfOutcome tableOfOutcome outputOfOutcome
 specimens = refl

@@ -13,11 +13,11 @@ use Rattle.json.specs.declared.decode.Cursor.{Cursor}
 use Rattle.json.specs.declared.decode.Next.{Next}
 use Rattle.json.specs.declared.decode.Next.the-variants.{Byte, Over}
 
--- the rest of a character, and all after it
+-- the bytes that a cursor still has to hand out: what is left of a character, and all after it
 abbrev pub rest : List ℕ → Cursor → List ℕ
 rest t c = conts (c .left) (c .code) ++ decodeFrom t (c .at)
 
--- what an answer of the cursor stands for
+-- the bytes that an answer stands for: the byte handed out and all that the cursor has after it; none if it is over
 abbrev pub unread : List ℕ → Next → List ℕ
 unread t (Byte b c) = b ∷ rest t c
 unread t Over = []

@@ -22,7 +22,7 @@ use Rattle.json.specs.declared.values.Part.the-variants.{Next, Stop}
 abbrev pub upTo : ℕ → Limits
 upTo limit = withValues base limit
 
--- What is asked of a reader at a place, with n values before it: the place is inside the text, the values so far are within the limit, the table has
+-- What is asked of a reader at a place, with n values before it: the place is inside the text or at its end, the values so far are within the limit, the table has
 -- a row for each value that the limit allows, and places and numbers of values fit a word.
 pub record ItemAsks (t table : List ℕ) (limit at n : ℕ) : Type 0 where
   pub short : Word (length t)
@@ -31,7 +31,7 @@ pub record ItemAsks (t table : List ℕ) (limit at n : ℕ) : Type 0 where
   pub inside : at ≤ length t
   pub few : n ≤ limit
 
--- a name's places are inside the text
+-- a name's places are inside the text or at its end
 pub record NamePlaces (t : List ℕ) (ns ne : ℕ) : Type 0 where
   pub starts : ns ≤ length t
   pub ends : ne ≤ length t
@@ -87,7 +87,7 @@ itemsAt of L t depth = insideOf t (itemOf of L t depth) (closing (bracketOf of))
 
 -- ---- members ----
 
--- a member's name: it ends before the place ne, and the value is at `from`, inside the text; or the refusal
+-- a member's name: it ends before the place ne, and the value is at `from`, inside the text or at its end; or the refusal
 abbrev pub KeyIn : List ℕ → ℕ → Key → Type 0
 KeyIn t at (Value ne from) = (at < ne) × ((ne < from) × (from ≤ length t))
 KeyIn t at (Broken r) = Prim.Unit {0}

@@ -1,3 +1,4 @@
+-- What speaks of no format: walks over places, parts of lists, bounds, byte order, what holds of each element, tests, multiples, sorting.
 pub mod Scan
 pub mod Lists
 pub mod Bounds

@@ -33,7 +33,7 @@ same xs ys = isSame (orderOf xs ys)
 abbrev pub before : List ℕ → List ℕ → Bool
 before xs ys = isLess (orderOf xs ys)
 
--- the byte order by rules and not by a reader: the one of two runs that comes earlier
+-- the byte order by rules and not by a computation: the first run comes before the second
 pub data Earlier : List ℕ → List ℕ → Type 0 where
   begins : {y : ℕ} {ys : List ℕ} → Earlier [] (y ∷ ys)
   smaller : {x y : ℕ} {xs ys : List ℕ} → x < y → Earlier (x ∷ xs) (y ∷ ys)

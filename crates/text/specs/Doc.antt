@@ -26,7 +26,7 @@ membersOf t T.none = empty
 membersOf t (leaf kind ns ne from to rest) = member (nameOf t ns ne) (labelAt t ns ne) (scalar kind (partOf t from to)) (membersOf t rest)
 membersOf t (node b ns ne from to inside rest) = member (nameOf t ns ne) (labelAt t ns ne) (boxed b (membersOf t inside)) (membersOf t rest)
 
--- the first value of a tree; the tree of a text has just one
+-- the document of the first value of a tree; the tree of a text has just one. (Of no values an empty array, which is never asked.)
 unfoldable pub docOf : List ℕ → Forest → Doc
 docOf t T.none = array empty
 docOf t (leaf kind ns ne from to rest) = scalar kind (partOf t from to)

@@ -32,7 +32,7 @@ kindOf (scalar kind token) = kind
 kindOf (array ms) = 6
 kindOf (object ms) = 7
 
--- the token of a value that holds no others
+-- the token of a value that holds no others; no bytes for an array or an object
 abbrev pub tokenOf : Doc → List ℕ
 tokenOf (scalar kind token) = token
 tokenOf (array ms) = []

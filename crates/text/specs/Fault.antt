@@ -78,7 +78,7 @@ pub record First (F : (number place : ℕ) → Type 0) (n p : ℕ) : Type 0 wher
   pub no-earlier : (m q : ℕ) → F m q → q < p → ⊥
   pub no-smaller : (m : ℕ) → F m p → m < n → ⊥
 
--- of 2 to 6 the sheet takes the first fault of a text so
+-- the first fault of a text, of 2 to 6: the one that the sheet's order picks
 abbrev pub FirstFault : Limits → List ℕ → (number place : ℕ) → Type 0
 FirstFault L t = First (FaultAt L t)
 

@@ -1,4 +1,5 @@
--- The first of some values that stand one beside the other: its words, what is inside it and what follows it, so that laws need no cases.
+-- The first of some values that stand one beside the other: its words, what is inside it and what follows it, so that a law of
+-- the first value needn't ask of what sort it is.
 -- Where there are no values, all is 0 or nothing. Assumes nothing: these are definitions.
 use Prim.Native.Nat.{ℕ, _≤_, _<_}
 use mathlib.Core.Bool.{Bool, true, false}

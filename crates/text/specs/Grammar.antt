@@ -136,7 +136,8 @@ pub data JsonText : List ℕ → Type 0 where
 
 -- ---- the tree of a derivation
 
--- the values of a part whose first byte is at a place, each from its own first byte to its last; a value that is no member has the name that is handed in
+-- The values of a part whose first byte is at a place, each from its own first byte up to the place after its last. A value has the name whose places
+-- are handed in: for a member those of its name, for an element 0 and 0.
 unfoldable pub treeOf : {a : Part} {w : List ℕ} → Is a w → (ns ne at : ℕ) → Forest
 treeOf (simple {w} k l) ns ne at = leaf (simpleKind k) ns ne at (at + length w) none
 treeOf (empty {s} b p) ns ne at = node b ns ne at (at + length s + 2) none none

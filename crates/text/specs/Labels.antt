@@ -1,4 +1,5 @@
--- Something of every name and every token of a document; and what it is for a name as written to say a name. Assumes nothing: these are definitions.
+-- What it is for a name as written (a label) to say a name; and what it is that something holds of every name and every token of a document.
+-- Assumes nothing: these are definitions.
 use Prim.Native.Nat.{ℕ}
 use mathlib.Core.Path.{_≡_}
 use mathlib.Core.List.{List, [], _∷_, _++_}

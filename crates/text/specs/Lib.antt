@@ -1,4 +1,4 @@
--- What a JSON text means, and then how that is computed. None uses a later one, but for Telling, which says of `contentOf` (Strings) that it is what
+-- What a JSON text means, and then how that is computed. No file uses a later one, but for Telling, which says of `contentOf` (Strings) that it is what
 -- a string spells. In comments 01 is the rules paper.
 --
 -- One text walked through: {"a":[1]}, nine bytes; places count from 0.
@@ -34,7 +34,7 @@ pub mod Document
 pub mod Distinct
 pub mod Labels
 pub mod Telling
--- how it is computed: strings, tokens, the rows of a tree, values, whole texts, the document of a text
+-- how it is computed: characters, strings, tokens, the rows of a tree, values, whole texts, limits with fewer values, the document of a text
 pub mod Chars
 pub mod Strings
 pub mod Tokens

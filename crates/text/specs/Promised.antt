@@ -1,4 +1,5 @@
--- What reading promises of an accepted text, in one record: the layers above rely on this and on nothing else. Assumes nothing: these are definitions.
+-- What reading promises of an accepted text: of the text and its tree (`Promised`), and of the table too (`Filled`). The code above reading relies on
+-- this and on what is promised of a refusal, all through one file, proofs/Promise.antt. Assumes nothing: these are definitions.
 use Prim.Native.Nat.{ℕ, _≤_}
 use mathlib.Core.Path.{_≡_}
 use mathlib.Core.List.{List}

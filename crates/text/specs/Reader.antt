@@ -27,7 +27,7 @@ pub data Read : Type 0 where
 abbrev pub Reader : Type 0
 Reader = (ns ne at n : ℕ) → Read
 
--- A reader of items is asked with the items before it (for their names), a place and the number of values so far.
+-- A reader of one item of a container is asked with the items before it (for their names), a place and the number of values so far.
 abbrev pub ItemReader : Type 0
 ItemReader = Forest → (at n : ℕ) → Read
 

@@ -1,4 +1,5 @@
--- White space, literals and numbers: RFC 8259, sections 2, 3 and 6. A token gives the place after it, or 2 at the first byte that can't continue it.
+-- White space, literals and numbers: RFC 8259, sections 2, 3 and 6; at the end the token of any kind, strings (specs/Strings.antt) too. A token gives
+-- the place after it, or 2 at the first byte that can't continue it (a string also 3).
 -- Assumes nothing: these are definitions.
 use Prim.Native.Nat.{ℕ, _+_}
 use mathlib.Core.List.{List, [], _∷_}
@@ -64,7 +65,7 @@ minusEnd t i = cond (eqb (byteAt t i) 45) (i + 1) i
 unfoldable pub intAt : List ℕ → ℕ → Token
 intAt t i = let all = digitsAt t i in cond (eqb (byteAt t i) 48) (End (i + 1)) all
 
--- frac = decimal-point 1*DIGIT
+-- [ frac ], where frac = decimal-point 1*DIGIT: the place itself, if there is no decimal point
 unfoldable pub fracAt : List ℕ → ℕ → Token
 fracAt t i = let all = digitsAt t (i + 1) in cond (eqb (byteAt t i) 46) all (End i)
 
@@ -72,7 +73,7 @@ fracAt t i = let all = digitsAt t (i + 1) in cond (eqb (byteAt t i) 46) all (End
 unfoldable pub signEnd : List ℕ → ℕ → ℕ
 signEnd t i = cond (eqb (byteAt t i) 45) (i + 1) (cond (eqb (byteAt t i) 43) (i + 1) i)
 
--- exp = e [ minus / plus ] 1*DIGIT
+-- [ exp ], where exp = e [ minus / plus ] 1*DIGIT: the place itself, if there is no e
 unfoldable pub expAt : List ℕ → ℕ → Token
 expAt t i =
     let all = digitsAt t (signEnd t (i + 1)) in

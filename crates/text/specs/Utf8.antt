@@ -1,12 +1,13 @@
--- UTF-8 (RFC 3629): the bytes of a code point, by the RFC's table and as they are computed; what is computed is what the table says: `utf8-table`
--- (proofs/Spelling/Codes.antt).
+-- UTF-8 (RFC 3629): the bytes of a code point, by the shapes of the RFC's table and as they are computed; up to U+10FFFF what is computed is what the
+-- shapes say: `utf8-table` (proofs/Spelling/Codes.antt).
 -- Assumes nothing: these are definitions.
 use Prim.Native.Nat.{ℕ, _+_, _*_, _/_, _%_, _≤_, _<_}
 use mathlib.Core.List.{List, [], _∷_}
 use mathlib.Core.Bool.{cond}
 use lib.Dec.{ltb, eqb}
 
--- the table (section 3): a code point and its bytes, each with the bits that it carries; no sequence is longer than it must be
+-- The shapes of the table (section 3): a code point and its bytes, each with the bits that it carries; no sequence is longer than it must be. That
+-- surrogates and numbers above U+10FFFF are no characters is asked apart (`UnicodeScalar`, specs/Spelling.antt).
 pub data Utf8 : (code : ℕ) → List ℕ → Type 0 where
   one-byte : {c : ℕ} → c < 0x80 → Utf8 c (c ∷ [])
   two-bytes : {x y : ℕ} → x < 0x20 → y < 0x40 → 0x80 ≤ x * 0x40 + y → Utf8 (x * 0x40 + y) ((0xC0 + x) ∷ (0x80 + y) ∷ [])

@@ -28,7 +28,7 @@ readOf L t =
     let all = endOf t (valueAt L t (L .depth) 0 0 (skip t 0) 0) in
     cond (ltb (L .bytes) (length t)) (bad TooLong) all
 
--- reading refuses the text with these two numbers of the sheet
+-- reading refuses the text by 1 to 6, so whatever table is lent, with these two numbers of the sheet
 pub record Refuses (L : Limits) (t : List ℕ) (n p : ℕ) : Type 0 where
   pub refusal : Refusal
   pub answer : readOf L t ≡ bad refusal

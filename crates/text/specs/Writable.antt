@@ -58,7 +58,8 @@ pub record FitsLimits (L : Limits) (t : List ℕ) (d : Doc) : Type 0 where
   pub few : countOf d ≤ L .values
   pub distinct : L .unique ≡ true → Distinct d
 
--- what it is refused for: 1 and nothing else if it is too long, else 4, 5 or 6, and just where that limit is broken
+-- what it is refused for: 1 and nothing else if it is too long, else 4, 5 or 6, each only if that limit is broken; `first` of `ReadsBack` says at which
+-- place
 pub data Exceeds (L : Limits) (t : List ℕ) (d : Doc) : Refusal → Type 0 where
   long : L .bytes < length t → Exceeds L t d TooLong
   repeated : {p : ℕ} → length t ≤ L .bytes → L .unique ≡ true → (Distinct d → ⊥) → Exceeds L t d (Repeated p)

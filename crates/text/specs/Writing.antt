@@ -60,12 +60,12 @@ spelledByte b =
     (cond (ltb b 32) (coded b) (b ∷ []))
     (92 ∷ shortOf b ∷ [])
 
--- byte by byte
+-- the bytes of a new name, one after the other, each escaped or not
 abbrev pub spelledBytes : Name → List ℕ
 spelledBytes [] = []
 spelledBytes (b ∷ bs) = spelledByte b ++ spelledBytes bs
 
--- a name as it is written, quotes included
+-- a new name as it is written, quotes included
 abbrev pub spelled : Name → List ℕ
 spelled n = 34 ∷ spelledBytes n ++ (34 ∷ [])
 
