@@ -1,6 +1,6 @@
 /* Bezinkol: the card intake, for those who link it from C (Linux on x86-64).
  *
- * `rt staticlib bezinkol` writes target/staticlib/libbezinkol.a, which asks for nothing of a C library but `memset`. examples/c shows the use.
+ * `rt staticlib bezinkol` writes target/staticlib/libbezinkol.a, which asks for nothing of a C library but `memset` and `memcpy`. examples/c shows the use.
  *
  * A caller's duties
  *
@@ -50,8 +50,8 @@ extern "C" {
 #define BEZINKOL_TABLE_WORDS (BEZINKOL_ROW_WORDS * BEZINKOL_MAX_VALUES)
 #define BEZINKOL_ANSWER_WORDS 3
 
-/* The bytes of stack that a call needs, with a margin of 14 KiB or more. Measured on x86-64 with this kit (rattle-kit-5b): 66 KiB for reading and for
- * judging, 82 KiB for localizing, by calls that nest as deep as the limits let them; by the frames of the machine code no call takes more. tests/c
+/* The bytes of stack that a call needs, with a margin of 13 KiB or more. Measured on x86-64 with this kit (rattle-kit-5b): 67 KiB for reading and for
+ * judging, 83 KiB for localizing, by calls that nest as deep as the limits let them; by the frames of the machine code no call takes more. tests/c
  * measures both again (stack.c, frames.py) and fails where it is more than is said here; another kit may write other machine code. */
 #define BEZINKOL_READ_STACK 81920
 #define BEZINKOL_JUDGE_STACK 81920
@@ -82,26 +82,26 @@ enum {
 /* The refusal sheet: what answer[0] says, and what answer[1] then is. There are no other numbers. Reading gives 1 to 7, judging 11 to 14 too,
  * localizing all. Which one comes first where several things are wrong: docs/REFUSALS.md. */
 enum {
-    BEZINKOL_OK = 0,            /* accepted; the row count */
-    BEZINKOL_TOO_LONG = 1,      /* text over 65,536 bytes; 0 */
-    BEZINKOL_GRAMMAR = 2,       /* not RFC 8259; the first byte that can't continue, or the text's length */
-    BEZINKOL_CHARACTER = 3,     /* bad UTF-8, a lone surrogate, a noncharacter; its first byte */
-    BEZINKOL_REPEATED_NAME = 4, /* a name already in the same object; the later name's opening quote */
-    BEZINKOL_TOO_DEEP = 5,      /* the 33rd open array or object; its bracket */
-    BEZINKOL_TOO_MANY = 6,      /* a 2,049th value begins; its first byte */
-    BEZINKOL_SMALL_TABLE = 7,   /* fewer whole rows than the text has values; the rows needed, each of six words */
-    BEZINKOL_WRONG_KIND = 11,   /* JSON kind wrong for the type; the value's first byte */
-    BEZINKOL_MISSING = 12,      /* mandatory member missing; the object's first byte */
-    BEZINKOL_NOT_ALLOWED = 13,  /* value not allowed, or map key not an Id; the value's first byte */
-    BEZINKOL_RULE_BROKEN = 14,  /* a rule between members broken; the object's first byte */
-    BEZINKOL_NO_LANGUAGE = 21,  /* no such language in the card; 0 */
-    BEZINKOL_BAD_KEY = 22,      /* a key with ~ not followed by 0 or 1; 0 */
-    BEZINKOL_OWN_PATCH = 23,    /* a pointer whose first part is localizations; 0 */
-    BEZINKOL_CLASH = 24,        /* one pointer is a prefix of another; 0 */
-    BEZINKOL_IN_ARRAY = 25,     /* a pointer goes inside an array; 0 */
-    BEZINKOL_NO_OBJECT = 26,    /* a part before the last doesn't lead to an object that exists; 0 */
-    BEZINKOL_SHORT_OUTPUT = 27, /* output shorter than needed; the bytes needed */
-    BEZINKOL_WOULD_FAIL = 28    /* the localized card would itself be refused; that refusal's number, 5 or 11 to 14, without its place */
+    BEZINKOL_OK = 0,                 /* accepted; the row count */
+    BEZINKOL_TOO_LONG = 1,           /* text over 65,536 bytes; 0 */
+    BEZINKOL_GRAMMAR = 2,            /* not RFC 8259; the first byte that can't continue, or the text's length */
+    BEZINKOL_CHARACTER = 3,          /* bad UTF-8, a lone surrogate, a noncharacter; its first byte */
+    BEZINKOL_REPEATED_NAME = 4,      /* a name already in the same object; the later name's opening quote */
+    BEZINKOL_TOO_DEEP = 5,           /* the 33rd open array or object; its bracket */
+    BEZINKOL_TOO_MANY = 6,           /* a 2,049th value begins; its first byte */
+    BEZINKOL_SMALL_TABLE = 7,        /* fewer whole rows than the text has values; the rows needed, each of six words */
+    BEZINKOL_WRONG_KIND = 11,        /* JSON kind wrong for the type; the value's first byte */
+    BEZINKOL_MISSING = 12,           /* mandatory member missing; the object's first byte */
+    BEZINKOL_NOT_ALLOWED = 13,       /* value not allowed, or map key not an Id; the value's first byte */
+    BEZINKOL_RULE_BROKEN = 14,       /* a rule between members broken; the object's first byte */
+    BEZINKOL_NO_LANGUAGE = 21,       /* no such language in the card; 0 */
+    BEZINKOL_BAD_KEY = 22,           /* a key with ~ not followed by 0 or 1; 0 */
+    BEZINKOL_OWN_LOCALIZATIONS = 23, /* a pointer whose first part is localizations; 0 */
+    BEZINKOL_CLASH = 24,             /* one pointer is a prefix of another; 0 */
+    BEZINKOL_IN_ARRAY = 25,          /* a pointer goes inside an array; 0 */
+    BEZINKOL_NO_OBJECT = 26,         /* a part before the last doesn't lead to an object that exists; 0 */
+    BEZINKOL_SHORT_OUTPUT = 27,      /* output shorter than needed; the bytes needed */
+    BEZINKOL_WOULD_FAIL = 28         /* the localized card would itself be refused; that refusal's number, 5 or 11 to 14, without its place */
 };
 
 /* Reads a text into rows: any JSON text of RFC 8259 that keeps RFC 7493's rules for strings and names, within the limits. */

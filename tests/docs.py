@@ -8,6 +8,7 @@ import sys
 from store import ROOT
 
 import intake
+from duds import edits
 from rulings import whole
 
 WORDS = 12288
@@ -61,18 +62,55 @@ def training():
         yield card, answer, (number, second) if number else bytes(output[:written])
 
 
-def words(pattern):
-    """All words of the files of a pattern below the crates."""
-    found = set()
-    for path in glob.glob(os.path.join(ROOT, "crates", pattern), recursive=True):
+# What declares a name in the logic: `data X`, or `x y : ..` at the start of a line, which fields and constructors are too.
+MARKS = r"^\s*(?:(?:pub|abbrev|unfoldable|local)\s+)*"
+HEAD = re.compile(MARKS + r"(?:data|record|ruleset|mod)\s+([^\s({:]+)", re.M)
+TYPED = re.compile(MARKS + r"([^\s(){}:=|]+(?:[ \t]+[^\s(){}:=|]+)*)\s+:(?=\s)", re.M)
+PARAMETERS = re.compile(MARKS + r"(?:data|record)\s+\S+((?:\s*[({][^(){}]*[)}])*)", re.M)
+# And in the code: an item, a field, a case of an enum.
+ITEM = re.compile(r"\b(?:fn|struct|enum|const|mod)\s+(\w+)")
+FIELD = re.compile(r"^    (?:pub )?([a-z]\w*): ", re.M)
+ENUM = re.compile(r"\benum \w+ \{(.*?)\n\}", re.S)
+CASE = re.compile(r"^    ([A-Z]\w*)", re.M)
+
+
+def files(ending):
+    """The files below the crates with such an ending, without their comments."""
+    for path in glob.glob(os.path.join(ROOT, "crates", "**", "*" + ending), recursive=True):
         with open(path, encoding="utf-8") as file:
-            found.update(re.findall(r"[A-Za-z][\w'-]*", file.read()))
+            yield re.sub(r"(?:^|\s)(?:--|//).*", "", file.read())
+
+
+def declared():
+    """All names that a file of a crate declares."""
+    found = set(os.listdir(os.path.join(ROOT, "crates")))
+    for text in files(".antt"):
+        found.update(HEAD.findall(text))
+        for names in TYPED.findall(text):
+            found.update(names.split())
+        for some in PARAMETERS.findall(text):
+            found.update(word for names in re.findall(r"[({]([^:(){}]*):", some) for word in names.split())
+    for text in files(".rt"):
+        found.update(ITEM.findall(text) + FIELD.findall(text))
+        for cases in ENUM.findall(text):
+            found.update(CASE.findall(cases))
     return found
 
 
+# Backquoted words of the two pages that are no names of ours: of C, of the language, and the folders of each crate.
+OTHERS = {"isspace", "requires", "specs", "proofs"}
+
+
+def named(page):
+    """The names in backquotes: words, and paths of words (`json::names::{part, part_is}`, `Patched.keeps`)."""
+    for quoted in re.findall(r"`([^`]*)`", page):
+        if re.fullmatch(r"\.?[A-Za-z][\w'-]*(?:(?:::|\.)(?:[\w'-]+|\*|\{[\w, ]+\}))*", quoted) and not quoted.endswith((".antt", ".rt", ".md")):
+            yield from (word for word in re.findall(r"[\w'-]+", quoted))
+
+
 def unknown():
-    """What the two pages name and nothing has: files, must-fail edits, and words in backquotes."""
-    declared = words("**/*.antt") | words("**/*.rt")
+    """What the two pages name and nothing declares: files, must-fail edits, and names in backquotes."""
+    known = declared() | OTHERS
     for name in ("PROMISES.md", "DUDS.md"):
         page = page_of(name)
         for path in re.findall(r"(?:text|contact|laws|json|card|bezinkol|intake)/[\w/]+\.(?:antt|rt)", page):
@@ -81,9 +119,17 @@ def unknown():
         for crate, edit in re.findall(r"[| ,](text|contact|laws|json|card|bezinkol)/([a-z0-9_]+)(?=[ ,])", page):
             if not os.path.exists(os.path.join(ROOT, "crates", crate, "must-fail", edit + ".edit")):
                 yield f"{name}: {crate}/{edit}"
-        for word in re.findall(r"`\.?([A-Za-z][\w'-]*)`", page):
-            if word not in declared and not os.path.exists(os.path.join(ROOT, "crates", word)) and word not in ("isspace", "specs"):
+        for word in named(page):
+            if word not in known:
                 yield f"{name}: {word}"
+
+
+def untold():
+    """Must-fail edits that no case of second/duds.py tells apart, and names there that are no edit."""
+    paths = glob.glob(os.path.join(ROOT, "crates", "*", "must-fail", "*.edit"))
+    there = {"/".join((path.split(os.sep)[-3], os.path.basename(path)[:-len(".edit")])) for path in paths}
+    yield from (f"{edit}: no case in tests/second/duds.py" for edit in there - edits())
+    yield from (f"{edit}: in tests/second/duds.py, and no must-fail edit" for edit in edits() - there)
 
 
 def main():
@@ -93,9 +139,13 @@ def main():
         print(f"{card}: the page says {wanted}, answered {answer}")
     names = sorted(set(unknown()))
     for name in names:
-        print(f"{name} is nowhere")
-    print(f"docs: {len(cases)} cards, {len(faults)} faults; {len(names)} names that are nowhere")
-    return 1 if faults or names or len(cases) != 25 else 0
+        print(f"{name} is declared nowhere")
+    missing = sorted(untold())
+    for line in missing:
+        print(line)
+    print(f"docs: {len(cases)} cards, {len(faults)} faults; {len(names)} names that nothing declares; "
+        f"{len(edits())} must-fail edits, {len(missing)} without a case")
+    return 1 if faults or names or missing or len(cases) != 25 else 0
 
 
 if __name__ == "__main__":

@@ -10,20 +10,26 @@ import sys
 import make_judging
 import make_localizing
 import make_reading
-import make_strings
-from store import ROOT
+from store import ROOT, lines_of
 
-SERVICES = {"strings": make_strings, "reading": make_reading, "judging": make_judging, "localizing": make_localizing}
+SERVICES = {"reading": make_reading, "judging": make_judging, "localizing": make_localizing}
 LIMIT = 1200000  # the program's input buffer
+
+# the numbers of the sheet that each service can answer, and those that can stand second in 28
+SHEET = {"reading": range(8), "judging": [*range(8), *range(11, 15)], "localizing": [*range(8), *range(11, 15), *range(21, 29)]}
+INSIDE = (5, 11, 12, 13, 14)
 
 
 def joined():
     """All lines, and all answers."""
     lines, answers = [], []
     for name, service in SERVICES.items():
-        some, said = service.made()
+        some, said = lines_of(service.groups())
         assert not any(line.startswith("@") for line in some), name
         assert sum(not line.startswith("!") for line in some) == len(said), name
+        numbers = {tuple(map(int, line.split()[:2])) for line in said}
+        assert {first for first, _ in numbers} == set(SHEET[name]), name
+        assert {second for first, second in numbers if first == 28} == (set(INSIDE) if name == "localizing" else set()), name
         lines += ["@" + name] + some
         answers += said
         print(f"{name}: {len(said)} cases")

@@ -1,15 +1,14 @@
-"""The cases of judging: cards with the words of the lent table, and what the second implementation says of them."""
+"""The cases of judging: cards with the words of the lent table."""
 import glob
 import itertools
 import os
 
-from store import ROOT, noted, sum_of
+from store import MOST, ROOT, Case
 
 import intake
+from duds import ASKED
 from reading import tree
-from rulings import MUST, RULINGS, SPECIMENS
-
-MOST = 12288  # words of 2,048 rows
+from rulings import MUST
 
 GIVEN = b'{"kind":"given","value":"A"}'
 APART = b'{"kind":"separator","value":"-"}'
@@ -314,21 +313,11 @@ def figures():
         yield text
 
 
-def made():
-    """The lines, and an answer for each that is a case."""
-    asked = (case for case in RULINGS + SPECIMENS if case["service"] == "judge")
+def groups():
+    """The cases, by the base text that they share."""
+    asked = ((min(case["words"], MOST), case["text"]) for case in ASKED if case["service"] == "judge")
     texts = itertools.chain(
         properties(), types(), mandatory(), between(), keys(), times(), numbers(), sets(), pairs(), figures(), chance(500))
-    groups = [
-        (b"", buffers()),
-        (card(), itertools.chain(((min(case["words"], MOST), case["text"]) for case in asked), map(sized, texts))),
-        (RICH, map(sized, itertools.chain([RICH], damaged())))]
-    lines, answers = [], []
-    for base, cases in groups:
-        if base:
-            lines.append("!" + noted(base))
-        for words, text in dict.fromkeys(cases):
-            number, second, table = intake.judge(text, words)
-            lines.append(f"{words} {noted(text, base)}")
-            answers.append(f"{number} {second} {sum_of(table)}")
-    return lines, answers
+    damage = itertools.chain([RICH], damaged())
+    for base, cases in ((b"", buffers()), (card(), itertools.chain(asked, map(sized, texts))), (RICH, map(sized, damage))):
+        yield base, (Case("judging", words, text) for words, text in cases)

@@ -1,16 +1,13 @@
-"""The cases of localizing: cards with a language and the lengths of what is lent, and what the second implementation says of them."""
+"""The cases of localizing: cards with a language and the lengths of what is lent."""
 import itertools
 import os
 
+import make_strings
 from make_judging import Dice, card
-from store import ROOT, noted, sum_of
+from store import MOST, ROOT, Case, told_of
 
 import intake
-from localizing import told
-from rulings import RULINGS, SPECIMENS
-
-MOST = 12288  # words of 2,048 rows
-SHOWN = 400  # shorter cards are shown whole
+from duds import ASKED
 
 GIVEN = b'{"kind":"given","value":"Ann"}'
 OWN = (
@@ -28,13 +25,13 @@ def lent(text, language=b"de", words=None, room=None):
     """A case; the table has some words more than the text needs, the output is as long as the text."""
     number, rows, _ = intake.read(text, MOST)
     enough = 6 * rows + 13 if number == 0 else 100
-    return enough if words is None else words, len(text) if room is None else room, language, text
+    return Case("localizing", enough if words is None else words, text, len(text) if room is None else room, language)
 
 
 def rulings():
-    for case in RULINGS + SPECIMENS:
+    for case in ASKED:
         if case["service"] == "localize":
-            yield min(case["words"], MOST), case["room"], case["language"], case["text"]
+            yield Case("localizing", min(case["words"], MOST), case["text"], case["room"], case["language"])
 
 
 CONDITIONS = {
@@ -56,6 +53,18 @@ def conditions():
         yield lent(patched(CONDITIONS[22], own))
         yield lent(patched(CONDITIONS[22], own), words=5, room=0)
     yield lent(patched(CONDITIONS[22]), words=6, room=0)
+
+
+def unread():
+    """Texts that reading refuses, each with a patch at fault beside."""
+    for own in (b'"k":x', b'"k":"\\uD800"', b'"k":"\xc3"', b'"k":1,"\\u006b":2', b'"k":' + b"[" * 32 + b"]" * 32, b'"k":[' + b"0," * 2048 + b"0]",
+        b'"k":"' + b"k" * 65536 + b'"'):
+        for patch in (b"", CONDITIONS[22]):
+            yield lent(patched(patch, own))
+            yield lent(patched(patch, own), words=0, room=0)
+    for text in (b"", b" ", b"5", b"null", b"[]", b'"de"', patched(b"")[:-1], patched(b"") + b"}"):
+        yield lent(text)
+        yield lent(text, room=30)
 
 
 def buffers():
@@ -170,7 +179,7 @@ def orders():
         answers = set()
         for order in itertools.permutations(entries):
             case = lent(patched(b",".join(order)))
-            number, second, written, inner, table, output = told(case[3], case[2], case[0], case[1])
+            number, second, written, inner, table, output = told_of(case)
             answers.add((number, second, written, inner, tuple(table), output))
             yield case
         assert len(answers) == 1
@@ -213,18 +222,19 @@ def chance(count):
         yield lent(patched(b",".join(b'"' + key + b'":' + dice.one(values) for key in some)))
 
 
-def answer(words, room, language, text):
-    number, second, written, inner, table, output = told(text, language, words, room)
-    said = f"{number} {second} {written} {inner} {sum_of(table)} {sum_of(output)}"
-    return said + (" " + output[:written].decode("latin-1") if 0 < written < SHOWN else "")
+NAMED = card(b'"localizations":{"de":{"":1}}')
 
 
-def made():
-    """The lines, and an answer for each that is a case."""
-    cases = itertools.chain(
-        rulings(), conditions(), buffers(), languages(), keys(), prefixes(), walks(), members(), orders(), large(), figures(), chance(800))
-    lines, answers = ["!" + noted(BASE)], []
-    for words, room, language, text in dict.fromkeys(cases):
-        lines.append(f"{words} {room} {noted(language).replace(' ', '%20')} {noted(text, BASE)}")
-        answers.append(answer(words, room, language, text))
-    return lines, answers
+def strings():
+    """Strings as keys: a new member shows what they spell, and two new members how they are ordered."""
+    for text in make_strings.good():
+        yield lent(NAMED.replace(b'"":1', text + b":1"))
+    for one, other in itertools.combinations(make_strings.SPELLED, 2):
+        yield lent(NAMED.replace(b'"":1', b'"' + one + b'":1,"' + other + b'":2'))
+
+
+def groups():
+    """The cases, by the base text that they share."""
+    yield BASE, itertools.chain(
+        rulings(), conditions(), unread(), buffers(), languages(), keys(), prefixes(), walks(), members(), orders(), large(), figures(), chance(800))
+    yield NAMED, strings()

@@ -1,12 +1,11 @@
-"""The cases of reading: texts with the words of the lent table, and what the second implementation says of them."""
+"""The cases of reading: texts with the words of the lent table."""
 import itertools
 
-from store import noted, sum_of
+import make_strings
+from store import MOST, Case
 
 import intake
-from rulings import RULINGS, SPECIMENS
-
-MOST = 12288  # words of 2,048 rows
+from duds import ASKED
 
 RICH = (
     b' {"a" : [1, -2.5e+3,\t0.25E-1,-0, 1e9 ],\n"b":{"\\u0061":null,"\xc3\xa9\\n":true , "":false},\r\n"c\\"\\/":"x\\ud83d\\uDE00\xe2\x82\xac\\u00e9 \x7f",'
@@ -20,7 +19,7 @@ def sized(text, spare=13):
 
 
 def rulings():
-    for case in RULINGS + SPECIMENS:
+    for case in ASKED:
         if case["service"] == "read":
             yield min(case["words"], MOST), case["text"]
 
@@ -94,12 +93,14 @@ def tables():
 
 
 def names():
-    spelled = [b"", b"a", b"\\u0061", b"A", b"aa", b"\\u0061a", b"\\n", b"\\u000a", b"\\u000A", b"/", b"\\/", b"\xc3\xa9", b"\\u00e9",
-        b"\\u00E9", b"\xf0\x9f\x98\x80", b"\\ud83d\\ude00"]
-    for one in spelled:
-        for other in spelled:
+    for one in make_strings.SPELLED:
+        for other in make_strings.SPELLED:
             yield sized(b'{"' + one + b'":1,"' + other + b'":2}')
-            yield sized(b'{"' + one + b'":{"' + other + b'":1},"z":[{"' + other + b'":2}]}')
+    some = [b"", b"a", b"\\u0061", b"A", b"aa", b"\\u0061a", b"\\n", b"\\u000a", b"\\u000A", b"/", b"\\/", b"\xc3\xa9", b"\\u00e9",
+        b"\\u00E9", b"\xf0\x9f\x98\x80", b"\\ud83d\\ude00"]
+    for one, other in itertools.product(some, repeat=2):
+        yield sized(b'{"' + one + b'":1,"' + other + b'":2}')
+        yield sized(b'{"' + one + b'":{"' + other + b'":1},"z":[{"' + other + b'":2}]}')
     for text in (
             b'{"a":1,"b":2,"c":3,"a":4}', b'{"a":1,"b":2,"b":3,"a":4}', b'{"a":{"a":{"a":1}}}', b'[{"a":1},{"a":2}]', b'{"a":1,"a":',
             b'{"a":1,"a":x}', b'{"a":1,"a\\',
@@ -142,16 +143,14 @@ def damaged(text):
         yield 313, text[:at + 1] + text[at:]
 
 
-def made():
-    """The lines, and an answer for each that is a case."""
+def strings():
+    for text in make_strings.texts():
+        yield 31, text
+
+
+def groups():
+    """The cases, by the base text that they share."""
     assert intake.read(RICH, 313)[0] == 0 and len(RICH) < 313
-    groups = [(b"", itertools.chain(rulings(), depths(), counts(), lengths(), tables(), names(), short())), (MANY, members()), (RICH, damaged(RICH))]
-    lines, answers = [], []
-    for base, cases in groups:
-        if base:
-            lines.append("!" + noted(base))
-        for words, text in dict.fromkeys(cases):
-            number, second, table = intake.read(text, words)
-            lines.append(f"{words} {noted(text, base)}")
-            answers.append(f"{number} {second} {sum_of(table)}")
-    return lines, answers
+    plain = itertools.chain(rulings(), depths(), counts(), lengths(), tables(), names(), short(), strings())
+    for base, cases in ((b"", plain), (MANY, members()), (RICH, damaged(RICH))):
+        yield base, (Case("reading", words, text) for words, text in cases)

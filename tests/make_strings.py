@@ -1,5 +1,6 @@
-"""The cases of strings: texts that begin with a string, and what the second implementation says of them."""
-from store import noted
+"""Strings, good and bad, for the cases of reading and localizing: what a string spells is seen by the names that it is equal to, and by the member that
+it names in a localized card."""
+import store  # which finds the second implementation
 
 from reading import Reader, Refused
 from rulings import RULINGS
@@ -55,20 +56,13 @@ def damaged(inner):
             yield b'"' + inner[:at] + bytes([other]) + inner[at + 1:] + b'"'
 
 
-def names():
-    """Strings compared with the one after them."""
-    spelled = [
-        b"", b"a", rb"\u0061", b"ab", rb"a\u0062", b"b", b"uid", rb"\u0075id", rb"u\u0069\u0064", b"Uid", b"ui", b"uidx", rb"\/", b"/",
-        rb"\\", rb"\u005c", rb'\"',
-        rb"\u0022", rb"\b", rb"\u0008", rb"\f", rb"\n", rb"\u000a", rb"\r", rb"\t", rb"\u0000", rb"a\u0000", b"\x7f", rb"\u007f",
-        rb"\u0080", b"\xc2\x80", b"\xc3\xa9",
-        rb"\u00E9", rb"\u00e9", b"\xe2\x82\xac", rb"\u20AC", b"\xef\xbf\xae", rb"\uffee", b"\xf0\x9f\x98\x80", rb"\uD83D\uDE00",
-        rb"\ud83d\ude00", b"\xee\x80\x80"]
-    for one in spelled:
-        for other in spelled:
-            yield b'"' + one + b'""' + other + b'"'
-    for second in (b'"', b'"\\uD800"', b'"\xc3"', b'"\n"', b'"a'):
-        yield b'"a"' + second
+SPELLED = [
+    b"", b"a", rb"\u0061", b"ab", rb"a\u0062", b"b", b"uid", rb"\u0075id", rb"u\u0069\u0064", b"Uid", b"ui", b"uidx", rb"\/", b"/",
+    rb"\\", rb"\u005c", rb'\"',
+    rb"\u0022", rb"\b", rb"\u0008", rb"\f", rb"\n", rb"\u000a", rb"\r", rb"\t", rb"\u0000", rb"a\u0000", b"\x7f", rb"\u007f",
+    rb"\u0080", b"\xc2\x80", b"\xc3\xa9",
+    rb"\u00E9", rb"\u00e9", b"\xe2\x82\xac", rb"\u20AC", b"\xef\xbf\xae", rb"\uffee", b"\xf0\x9f\x98\x80", rb"\uD83D\uDE00",
+    rb"\ud83d\ude00", b"\xee\x80\x80"]
 
 
 def texts():
@@ -91,33 +85,20 @@ def texts():
         yield b'"' + bad + b'"'
         yield b'"' + bad
     yield from damaged(b'a\\"b\\\\\\/\\n')
-    yield from names()
+    for second in (b'"', b'"\\uD800"', b'"\xc3"', b'"\n"', b'"a'):
+        yield b'"a"' + second
     for case in RULINGS:
         if case["text"].startswith(b'"'):
             yield case["text"]
 
 
-def answer(text):
-    reader = Reader(text)
-    try:
-        name = reader.string()
-    except Refused as no:
-        return f"{no.number} {no.second}"
-    total = 0
-    for byte in name:
-        total = total % 65521 * 31 + byte
-    said = f"0 {reader.at} {len(name)} {total}" + (" uid" if name == b"uid" else "")
-    if reader.at < len(text):
+def good():
+    """Those texts that are one string, which a key may be."""
+    for text in dict.fromkeys(texts()):
+        reader = Reader(text)
         try:
-            other = reader.string() if reader.byte() == b'"' else None
+            reader.string()
         except Refused:
-            other = None
-        if other is not None:
-            said += f" {(name > other) - (name < other) + 1}" + (" same" if name == other else "")
-    return said
-
-
-def made():
-    """The lines, and an answer for each that is a case."""
-    cases = list(dict.fromkeys(texts()))
-    return [noted(text) for text in cases], [answer(text) for text in cases]
+            continue
+        if reader.at == len(text):
+            yield text

@@ -1,12 +1,28 @@
-"""The notation of a case, and the sums of buffers, as in crates/cases_run."""
+"""Stored cases: their notation, their form on a line, what the second implementation answers, and the two files of crates/cases_run. All that is
+written in Python reads and writes them here; crates/cases_run/src and tests/c/cases.h do the same in their languages."""
+import collections
 import os
+import platform
 import re
+import shutil
 import sys
 
 ROOT = os.path.dirname(os.path.dirname(os.path.abspath(__file__)))
 sys.path.insert(0, os.path.join(ROOT, "tests", "second"))
+from judging import judge
+from localizing import told
+from reading import read
 
 FAR = 24  # a run, or a part of the base text, at least so long is written shorter
+SHOWN = 400  # a shorter localized card is in the answer itself
+MOST = 12288  # words of 2,048 rows
+SERVICES = ("reading", "judging", "localizing")
+
+# A call: the service, the words of the lent table and the text; localizing has the bytes of the lent output and the language too.
+Case = collections.namedtuple("Case", "service words text room language", defaults=(0, b""))
+
+# A case as it is stored: its number from 1 on, the call, the line with what is wanted, and the line of the case.
+Stored = collections.namedtuple("Stored", "number case wanted line")
 
 
 def plain(text):
@@ -66,3 +82,103 @@ def sum_of(numbers):
     for n in numbers:
         total = (total * 65599 + n) % 4294967291
     return total
+
+
+def line_of(case, base=b""):
+    """The line of a case."""
+    text = noted(case.text, base)
+    if case.service == "localizing":
+        return f"{case.words} {case.room} {noted(case.language).replace(' ', '%20')} {text}"
+    return f"{case.words} {text}"
+
+
+def case_of(service, line, base=b""):
+    """The case of a line."""
+    if service == "localizing":
+        words, room, language, text = line.split(" ", 3)
+        return Case(service, int(words), unpacked(text, base), int(room), unpacked(language))
+    words, text = line.split(" ", 1)
+    return Case(service, int(words), unpacked(text, base))
+
+
+def told_of(case):
+    """What the second implementation answers: (number, second, written, the place inside 28, table, output)."""
+    if case.service == "localizing":
+        return told(case.text, case.language, case.words, case.room)
+    number, second, table = (read if case.service == "reading" else judge)(case.text, case.words)
+    return number, second, 0, 0, table, b""
+
+
+def answer_of(case):
+    """The same as the line that is stored."""
+    number, second, written, inner, table, output = told_of(case)
+    if case.service != "localizing":
+        return f"{number} {second} {sum_of(table)}"
+    shown = " " + output[:written].decode("latin-1") if 0 < written < SHOWN else ""
+    return f"{number} {second} {written} {inner} {sum_of(table)} {sum_of(output)}{shown}"
+
+
+def lines_of(groups):
+    """The lines of groups of cases, each with a base text, and an answer for each case."""
+    lines, answers = [], []
+    for base, cases in groups:
+        if base:
+            lines.append("!" + noted(base))
+        for case in dict.fromkeys(cases):
+            lines.append(line_of(case, base))
+            answers.append(answer_of(case))
+    return lines, answers
+
+
+def run_words(program):
+    """The words that run a program of the kit: by its emulator where the machine isn't x86-64."""
+    machine = platform.machine()
+    if machine == "x86_64":
+        return [program]
+    kit = os.environ.get("RATTLE_HOME") or os.path.dirname(os.path.dirname(os.path.realpath(shutil.which("rt") or "")))
+    tools = os.path.join(kit, "on", machine, "toolchain")
+    library = os.path.join(tools, "lib")
+    return [os.path.join(tools, "bin", "qemu-x86_64"), os.path.join(library, "ld-linux-x86-64.so.2"), "--library-path", library, program]
+
+
+def kept(name):
+    """The lines of one of the two stored files."""
+    with open(os.path.join(ROOT, "crates", "cases_run", name), encoding="latin-1", newline="\n") as file:
+        return file.read().split("\n")[:-1]
+
+
+def sections():
+    """The stored lines: the service and the line, base texts among them."""
+    service = None
+    for line in kept("stdin"):
+        if line.startswith("@"):
+            service = line[1:]
+        else:
+            yield service, line
+
+
+def stored():
+    """All stored cases."""
+    base, number, answers = b"", 0, kept("stdout")
+    for service, line in sections():
+        if line.startswith("!"):
+            base = unpacked(line[1:])
+        else:
+            number += 1
+            yield Stored(number, case_of(service, line, base), answers[number - 1], line)
+
+
+def lines_for(wanted):
+    """The lines of one service, base texts among them, and the answers."""
+    lines, answers, said = [], [], iter(kept("stdout"))
+    for service, line in sections():
+        answer = None if line.startswith("!") else next(said)
+        if service == wanted:
+            lines.append(line)
+            answers += [answer] if answer else []
+    return lines, answers
+
+
+def answer_in_c(answer):
+    """The stored answer of localizing as the C function gives it, which has no room for the place inside 28."""
+    return re.sub(r"^(\d+ \d+ \d+) \d+ ", r"\1 ", answer)

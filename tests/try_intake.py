@@ -10,7 +10,8 @@ import sys
 from store import ROOT
 
 import intake
-from rulings import RULINGS, SPECIMENS, whole
+from duds import ASKED
+from rulings import whole
 
 ROWS = 12288  # words of the program's table
 
@@ -19,7 +20,7 @@ def inputs():
     for path in sorted(glob.glob(os.path.join(ROOT, "tests", "cards", "figure-*.json"))):
         with open(path, "rb") as figure:
             yield figure.read()
-    for case in RULINGS + SPECIMENS:
+    for case in ASKED:
         if case["service"] == "judge" and case["words"] == ROWS:
             yield case["text"]
     good = whole(b"{..}")

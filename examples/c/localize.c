@@ -22,7 +22,7 @@ static const struct line {
     [BEZINKOL_RULE_BROKEN] = {"members don't go together", "in the object at byte"},
     [BEZINKOL_NO_LANGUAGE] = {"the card has no such language", NULL},
     [BEZINKOL_BAD_KEY] = {"a key of the patch has a ~ without 0 or 1 after it", NULL},
-    [BEZINKOL_OWN_PATCH] = {"the patch reaches into localizations itself", NULL},
+    [BEZINKOL_OWN_LOCALIZATIONS] = {"the patch reaches into localizations itself", NULL},
     [BEZINKOL_CLASH] = {"one key of the patch covers another", NULL},
     [BEZINKOL_IN_ARRAY] = {"a key of the patch goes inside an array", NULL},
     [BEZINKOL_NO_OBJECT] = {"a key of the patch goes through what is no object", NULL},

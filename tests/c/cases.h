@@ -1,4 +1,5 @@
-/* Stored cases for C: the notation of crates/cases_run, and the sums that the stored answers have. */
+/* Stored cases for C: the notation and the form of crates/cases_run, the calls, and the sums that the stored answers have. */
+#include "bezinkol.h"
 #include <stdint.h>
 #include <stdio.h>
 #include <stdlib.h>
@@ -68,8 +69,8 @@ static inline uint64_t sum_of_bytes(const uint8_t *bytes, size_t size) {
     return sum;
 }
 
-/* The next case of standard input, or NULL; a base text on the way is kept. */
-static inline const char *next_case(void) {
+/* The next case of standard input as a line, or NULL; a base text on the way is kept. */
+static inline const char *next_line(void) {
     static char line[LINE];
     while (fgets(line, sizeof line, stdin)) {
         line[strcspn(line, "\n")] = 0;
@@ -81,4 +82,41 @@ static inline const char *next_case(void) {
         }
     }
     return NULL;
+}
+
+/* A call: what is lent, and the answer. `out` and `language` are for localizing alone. */
+struct call {
+    char service; /* the first letter of read, judge, localize */
+    uint8_t *text, *language, *out;
+    size_t size, named, room, words;
+    uint32_t *table;
+    uint64_t answer[BEZINKOL_ANSWER_WORDS];
+};
+
+/* The call of a case: the words of the table, for localizing the bytes of the output and the language, and the text. */
+static inline struct call call_of(char service, const char *line) {
+    static uint8_t text[ROOM], language[ROOM];
+    struct call c = {.service = service, .answer = {9, 9, 9}};
+    c.words = number(&line);
+    if (service == 'l') {
+        c.room = number(&line);
+        c.named = unpack(&line, ' ', language);
+    }
+    c.size = unpack(&line, 0, text);
+    c.text = lent(text, c.size), c.language = lent(language, c.named);
+    c.out = lent(NULL, c.room), c.table = lent(NULL, c.words * sizeof *c.table);
+    return c;
+}
+
+static inline void make(struct call *c) {
+    if (c->service == 'r') bezinkol_read(c->text, c->size, c->table, c->words, c->answer);
+    else if (c->service == 'j') bezinkol_judge(c->text, c->size, c->table, c->words, c->answer);
+    else bezinkol_localize(c->text, c->size, c->language, c->named, c->out, c->room, c->table, c->words, c->answer);
+}
+
+static inline void give_back(struct call *c) {
+    free(c->text);
+    free(c->language);
+    free(c->out);
+    free(c->table);
 }

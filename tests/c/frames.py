@@ -2,24 +2,26 @@
 
     python3 tests/c/frames.py target/staticlib/libbezinkol.a include/bezinkol.h
 
-Needs objdump. A function's frame is every push and every step of the stack pointer before its first call's arguments, so it is rather too large; what
-this can't follow (a call through a pointer, a frame of no fixed size, a recursion not named below) ends it with an error.
+Needs objdump (`OBJDUMP` names another one). A function's frame is every push and every step of the stack pointer before its first call's arguments, so
+it is rather too large; what this can't follow (a call through a pointer, a frame of no fixed size, a recursion not named below) ends it with an error.
 """
+import os
 import re
 import subprocess
 import sys
 
 # How often a function that calls itself, also through others, can be open at once. Depth 32 is 32 containers and a value in the last; all but sorting
 # go from a value to one inside it, also the walk of a pointer, however many parts its key has. Sorting halves at most 2,048 rows down to one.
-OPEN = {"json::values::read_value": 33, "json::values::read_container": 32, "card::walk::breach_at": 33, "card::paths::follow": 33,
-    "card::writing::copy_value": 33, "card::writing::put_value": 33, "card::sort::sort": 12}
+OPEN = {"json::values::read_value": 33, "json::values::read_container": 32, "card::walk::breach_at": 33, "patch::paths::follow": 33,
+    "patch::writing::copy_value": 33, "patch::writing::put_value": 33, "patch::sort::sort": 12}
+OBJDUMP = os.environ.get("OBJDUMP", "objdump")
 PROBE = 0x1000  # a large frame is taken by pages; where that is a loop, its size is in r11
 
 
 def functions(archive):
     """The instructions of each function, and the relocation after a call."""
     found, name = {}, None
-    dump = subprocess.run(["objdump", "-dr", "--no-show-raw-insn", archive], check=True, capture_output=True, text=True).stdout
+    dump = subprocess.run([OBJDUMP, "-dr", "--no-show-raw-insn", archive], check=True, capture_output=True, text=True).stdout
     for line in dump.splitlines():
         head = re.fullmatch(r"[0-9a-f]+ <(.*)>:", line)
         if head:
@@ -83,15 +85,15 @@ def deepest(name, frames, known):
 
 
 def main(archive, header):
-    symbols = subprocess.run(["objdump", "-t", archive], check=True, capture_output=True, text=True).stdout
+    symbols = subprocess.run([OBJDUMP, "-t", archive], check=True, capture_output=True, text=True).stdout
     outside = re.findall(r"\*UND\*\s+\S+\s+(\S+)", symbols)
-    sections = subprocess.run(["objdump", "-h", archive], check=True, capture_output=True, text=True).stdout
+    sections = subprocess.run([OBJDUMP, "-h", archive], check=True, capture_output=True, text=True).stdout
     state = re.findall(r"\s(\.t?(?:data|bss)\S*)\s", sections)
-    if outside != ["memset"] or state:
+    if sorted(outside) != ["memcpy", "memset"] or state:
         raise SystemExit(f"tests/c: the archive asks for {outside} and has the writable sections {state}")
     text = open(header, encoding="utf-8").read()
     frames, known = {name: frame_of(name, code) for name, code in functions(archive).items()}, {}
-    frames["memset"] = (0, 0, [])
+    frames["memset"] = frames["memcpy"] = (0, 0, [])
     for service in ("read", "judge", "localize"):
         said = int(re.search(rf"BEZINKOL_{service.upper()}_STACK (\d+)", text)[1])
         most = 8 + deepest("bezinkol_" + service, frames, known)

@@ -4,7 +4,6 @@
  * They are those of the stored cases and, first, those below, which nest as deep as the limits let them and end in the deepest calls of the machine
  * code (an escape of two surrogates, in a string at the bottom). It is counted from the caller's frame, so it is a little over what a call takes. */
 #define _XOPEN_SOURCE 700
-#include "bezinkol.h"
 #include "cases.h"
 #include <pthread.h>
 
@@ -28,55 +27,40 @@ static const char *const cards[] = {
     "12288 1000 de " CARD OBJECTS LANGUAGE("\"y/a%*58,2;/\\ud83d\\ude00\":null"),
     "12288 1000 de " CARD OBJECTS LANGUAGE("\"y/a%*56,2;/b\":[%*26,1;" PAIR "]%*26,1;"), NULL};
 
-static struct {
-    char service;
-    uint8_t *text, *language, *out;
-    size_t size, named, room, words;
-    uint32_t *table;
-    uint64_t answer[BEZINKOL_ANSWER_WORDS];
-    const char *top; /* of the stack, where the call is made */
-} call;
+static struct call call;
+static const char *top; /* of the stack, where the call is made */
 
 static void *run(void *none) {
-    call.top = __builtin_frame_address(0);
-    if (call.service == 'r') bezinkol_read(call.text, call.size, call.table, call.words, call.answer);
-    else if (call.service == 'j') bezinkol_judge(call.text, call.size, call.table, call.words, call.answer);
-    else bezinkol_localize(call.text, call.size, call.language, call.named, call.out, call.room, call.table, call.words, call.answer);
+    top = __builtin_frame_address(0);
+    make(&call);
     return none;
 }
 
 /* Makes the call of a case on the stack. */
-static void call_on(void *stack, const char *line) {
-    static uint8_t text[ROOM], language[ROOM];
-    call.words = number(&line);
-    call.room = call.service == 'l' ? number(&line) : 0;
-    call.named = call.service == 'l' ? unpack(&line, ' ', language) : 0;
-    call.size = unpack(&line, 0, text);
-    call.text = text, call.language = language;
-    call.out = lent(NULL, call.room), call.table = lent(NULL, call.words * sizeof *call.table);
+static void call_on(void *stack, char service, const char *line) {
+    call = call_of(service, line);
     pthread_attr_t how;
     pthread_t thread;
     if (pthread_attr_init(&how) || pthread_attr_setstack(&how, stack, STACK) || pthread_create(&thread, &how, run, NULL)) abort();
     if (pthread_join(thread, NULL) || pthread_attr_destroy(&how)) abort();
-    free(call.out);
-    free(call.table);
+    give_back(&call);
 }
 
 int main(int count, char **given) {
-    call.service = count == 2 ? *given[1] : 0;
-    if (!call.service) return 2;
-    size_t said = call.service == 'r' ? BEZINKOL_READ_STACK : call.service == 'j' ? BEZINKOL_JUDGE_STACK : BEZINKOL_LOCALIZE_STACK;
+    if (count != 2) return 2;
+    char service = *given[1];
+    size_t said = service == 'r' ? BEZINKOL_READ_STACK : service == 'j' ? BEZINKOL_JUDGE_STACK : BEZINKOL_LOCALIZE_STACK;
     size_t used = 0, cases = 0;
     char *stack = aligned_alloc(4096, STACK);
     if (!stack) abort();
     memset(stack, PATTERN, STACK);
-    for (const char *const *line = call.service == 'l' ? cards : texts; *line; line++) {
-        call_on(stack, *line);
+    for (const char *const *line = service == 'l' ? cards : texts; *line; line++) {
+        call_on(stack, service, *line);
         if (call.answer[0] == BEZINKOL_GRAMMAR) abort(); /* then it isn't the text that was meant */
     }
-    for (const char *line; (line = next_case()); cases++) call_on(stack, line);
+    for (const char *line; (line = next_line()); cases++) call_on(stack, service, line);
     while (used < STACK && stack[used] == PATTERN) used++;
-    used = (size_t)(call.top - stack) - used;
+    used = (size_t)(top - stack) - used;
     printf("tests/c: bezinkol_%s took %zu bytes of stack at most, in %zu stored cases and in deeper ones; ", given[1], used, cases);
     printf("the header says %zu\n", said);
     return used > said;

@@ -1,8 +1,9 @@
-"""Holds the second implementation to the rulings and specimens: python3 tests/second/check.py"""
+"""Holds the second implementation to the rulings, the specimens and the cases against wrong programs: python3 tests/second/check.py"""
 import sys
 
 import intake
-from rulings import OK, RULINGS, SPECIMENS
+from duds import ASKED, DUDS
+from rulings import OK, RULINGS, SPECIMENS, whole
 
 
 def answer(case):
@@ -31,16 +32,20 @@ def fault(case):
 
 def main():
     faults = 0
-    for case in RULINGS + SPECIMENS:
+    for case in ASKED:
         why = fault(case)
         if why:
             faults += 1
             print(f"{case['service']} {case['text'][:200]!r}: {why}, wanted {case['wanted']}")
+    for edits, case, wrong in DUDS:
+        if (whole(wrong) if isinstance(wrong, bytes) else wrong) == case["wanted"]:
+            faults += 1
+            print(f"{edits}: the wrong program is right")
     rows = intake.read(b'{"a":[1]}', 18)
     if rows != (0, 3, [7, 0, 0, 0, 9, 2, 6, 2, 3, 5, 8, 1, 4, 0, 0, 6, 7, 0]):
         faults += 1
         print("the three rows:", rows)
-    print(f"{len(RULINGS)} inputs of rulings, {len(SPECIMENS) + 1} specimens, {faults} faults")
+    print(f"{len(RULINGS)} inputs of rulings, {len(SPECIMENS) + 1} specimens, {len(DUDS)} inputs against wrong programs, {faults} faults")
     return 1 if faults else 0
 
 

@@ -10,11 +10,11 @@ use Rattle.text.specs.declared.Paper.{Paper}
 use Rattle.contact.specs.Services.{leaves, served}
 use Rattle.contact.specs.Demands.{Demands}
 use Rattle.contact.proofs.Demands.{base-demands}
-use Rattle.bezinkol.specs.Answer.{words}
+use Rattle.bezinkol.specs.Answer.{answerWords}
 use Rattle.bezinkol.specs.Called.{Called, EachCall, OneOutcome}
 
 -- the three words tell the answer
-same-paper : (p q : Paper) → words p ≡ words q → p ≡ q
+same-paper : (p q : Paper) → answerWords p ≡ answerWords q → p ≡ q
 same-paper p q e =
     let number : p .number ≡ q .number = cc in
     let second : p .second ≡ q .second = cc in

@@ -8,11 +8,11 @@ use Rattle.text.specs.Limits.{base}
 use Rattle.text.specs.declared.Paper.{Paper}
 use Rattle.contact.specs.Services.{Call, Left, leaves, served}
 use Rattle.contact.specs.Demands.{Demands}
-use Rattle.bezinkol.specs.Answer.{words, Serves}
+use Rattle.bezinkol.specs.Answer.{answerWords, Serves}
 
 -- what each call leaves is what the contract of its C function allows
 abbrev pub KeepsContracts : (Call → Left) → Type 0
-KeepsContracts serve = (c : Call) → Serves c (words (serve c .answer)) (serve c .table) (serve c .output)
+KeepsContracts serve = (c : Call) → Serves c (answerWords (serve c .answer)) (serve c .table) (serve c .output)
 
 -- any services that keep the contracts meet the three demands, with the limits of 01
 abbrev pub Called : Type 0
@@ -21,7 +21,7 @@ Called = (serve : Call → Left) → KeepsContracts serve → Demands base serve
 -- The same of one call, whatever others leave: it leaves what the definitions say, of which the demands hold (`base-demands`, crate contact). So nothing
 -- hangs on calls that C can't make, as of a list with numbers past 255.
 abbrev pub EachCall : Type 0
-EachCall = (c : Call) (answer : Paper) (table output : List ℕ) → Serves c (words answer) table output → leaves answer table output ≡ served base c
+EachCall = (c : Call) (answer : Paper) (table output : List ℕ) → Serves c (answerWords answer) table output → leaves answer table output ≡ served base c
 
 -- two outcomes that the contract of a C function allows are equal: the three words, the table and the output
 abbrev pub OneOutcome : Type 0

@@ -1,8 +1,8 @@
 // The intake for those who link it from C: thin functions over the three services, whose answers go into three lent words.
 use card::judge::judge;
 use card::localize::localize;
-use card::sheet::localized_on_paper;
-use card::sheet::verdict_on_paper;
+use card::paper::localized_on_paper;
+use card::paper::verdict_on_paper;
 use json::read::read;
 use json::sheet::on_paper;
 use text::Paper;
@@ -10,11 +10,11 @@ ghost use mathlib.Core.Path.{_≡_};
 ghost use mathlib.Core.List.{[]};
 ghost use lib.ListN.{length};
 ghost use Rattle.contact.specs.Services as services;
-ghost use Rattle.bezinkol.specs.Answer.{words, Serves};
+ghost use Rattle.bezinkol.specs.Answer.{answerWords, Serves};
 
 // The three numbers of an answer, in their order.
 fn put_answer(p: Paper, answer: &mut [u64; 3])
-    ensures { λ _. ⌜ now (answer .exit) ≡ words p ⌝ }
+    ensures { λ _. ⌜ now (answer .exit) ≡ answerWords p ⌝ }
 {
     *answer = [p.number, p.second, p.written];
 }

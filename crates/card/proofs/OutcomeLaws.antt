@@ -1,35 +1,77 @@
 -- From what was written and judged to the outcome of localizing:
+--     card-there                     judging left the card's rows in the table
 --     judged-passed, judged-failed   that text is judged: its rows, or 28
 --     given-so, refused-so, written-so       what is answered before anything is cleared
 --     written-left, denied-left      and what clearing leaves
 -- Assumes nothing.
 use Prim.Native.Nat.{ℕ, _-_, _≤_}
 use mathlib.Core.Path.{_≡_, refl, sym, ap, _∙_}
+use mathlib.Core.Bool.{Bool, true, false, cond}
 use mathlib.Core.List.{List, _++_, append-nil}
 use native.Mathlib.Omega.{arith}
 use native.Mathlib.Nat.{sub-zero}
 use lib.ListN.{length, take, replicate}
-use lib.Seq.{length-take-le, drop-length}
+use lib.Seq.{sets, length-take-le, drop-length, sets-eq, length-sets, take-append-seam}
+use lib.Dec.{ltb}
+use borrow.Author.Tests.{ltb-true, ltb-false}
 use borrow.Rule.Slice.PartMut.{midOf, putMid, mid-len, post-is}
 use Rattle.text.specs.Limits.{base}
 use Rattle.text.specs.Tree.{Forest}
 use Rattle.text.specs.Doc.{Name, docOf}
 use Rattle.contact.specs.Verdict.{Judged, passed, failed, judgedOf, answerOfJudged, tableOfJudged}
-use Rattle.contact.specs.Localize.{Outcome, done, denied, byJudge, localizedDoc, localizedOf, answerOfOutcome, tableOfOutcome, outputOfOutcome}
+use Rattle.contact.specs.Localize.{Outcome, done, denied, byJudge, byRoom, localizedDoc, localizedOf, answerOfOutcome, tableOfOutcome, outputOfOutcome}
 use Rattle.contact.specs.Judging.{Judges}
 use Rattle.contact.specs.Contract.{Localizes}
 use Rattle.contact.specs.declared.Verdict.the-variants.{Passed, Failed}
 use Rattle.contact.specs.declared.CardRefusal.{CardRefusal}
 use Rattle.contact.specs.declared.LocalRefusal.{LocalRefusal}
-use Rattle.contact.specs.declared.LocalRefusal.the-variants.{Given, Inner}
+use Rattle.contact.specs.declared.LocalRefusal.the-variants.{Given, Short, Inner}
 use Rattle.contact.specs.declared.Localized.{Localized}
 use Rattle.contact.specs.declared.Localized.the-variants.{Written, Denied}
 use Rattle.contact.proofs.Patching.Public.{given-iff, passed-so}
 use Rattle.contact.proofs.Patching.Contract.{paper-follows}
-use Rattle.contact.proofs.Patching.Steps.{judged-answer}
-use Rattle.card.specs.Localizing.{CardIn, judgedOutcome, Composed, MakesFor, Rejudged, LeavesCard, Answers, usedBy}
-use Rattle.card.specs.declared.compose.Attempt.the-variants.{Bytes, Refused}
-use Rattle.card.proofs.CardLaws.{card-there}
+use Rattle.contact.proofs.Patching.Steps.{judged-answer, short-so, room-so}
+use Rattle.card.specs.Localizing.{judgedOutcome, Composed, Made, Rejudged, LeavesCard, Answers, usedBy}
+use Rattle.patch.specs.declared.compose.Attempt.the-variants.{Bytes, Refused}
+use Rattle.patch.specs.Drafts.{Draft, draft, refusal, draftOf, draftOutcome, CardIn, Drafted, MakesFor}
+use Rattle.patch.specs.declared.compose.Attempt.{Attempt}
+use Rattle.patch.proofs.Drafting.Drafts.{localized-draft}
+
+-- ---- what judging left
+
+module _ {t lent table : List ℕ} {n : ℕ} (j : Judges base t lent (Passed n) table) (long : length table ≡ length lent) where
+  pub card-there : (f : Forest) × CardIn t table f
+  unfolding tableOfJudged
+  card-there = go (judgedOf base (length lent) t) refl
+    where
+      go : (o : Judged) → judgedOf base (length lent) t ≡ o → (f : Forest) × CardIn t table f
+      go (passed f) e = (f, record { passes = rw long e; rows = rw long (j .table ∙ ap (tableOfJudged (length lent)) e) })
+      go (failed r) e =
+          let answer : Passed n ≡ Failed r = judged-answer (Passed n) (judgedOf base (length lent) t) (j .answered) ∙ ap answerOfJudged e in
+          let z : _≡_ {A = ℕ} 0 1 = cc in
+          absurd (omega arith)
+
+-- ---- what was written of it
+
+-- a draft that has room is judged; one that has none is 27
+module _ (words : ℕ) (t old new : List ℕ) (is : new ≡ sets old 0 t) where
+  front : length t ≤ length old → take (length t) new ≡ t
+  front h = rw (is, sets-eq t old 0 (omega (arith, h))) (take-append-seam t _)
+
+  made-draft : (b : Bool) → ltb (length old) (length t) ≡ b
+      → Made words (length old) (byRoom base words (length old) t) new (cond b (Refused (Short (length t))) (Bytes (length t)))
+  made-draft true h = short-so base words (length old) t (ltb-true (length old) (length t) h)
+  made-draft false h =
+      let room = ltb-false (length old) (length t) h in
+      record {
+        fits = omega (arith, room, ap length is ∙ length-sets old 0 t);
+        is = rw (front room) (room-so base words (length old) t room);
+      }
+
+made-of : (words : ℕ) (d : Draft) (old new : List ℕ) (r : Attempt) → Drafted d old new r
+    → Made words (length old) (draftOutcome base words (length old) d) new r
+made-of words (refusal q) old new r (e, same) = rw e refl
+made-of words (draft t) old new r (e, is) = rw e (made-draft words t old new is (ltb (length old) (length t)) refl)
 
 -- ---- 28
 
@@ -87,27 +129,35 @@ judged-so {words} {room} {n} {o} {r} {table} {out} c j =
     go (failed q) e = tt
 
 -- a card that judging let pass, and what was made of it
-module _ {t lent table : List ℕ} {count : ℕ} (j : Judges base t lent (Passed count) table) (long : length table ≡ length lent) (room : ℕ)
+module _ {t lent table : List ℕ} {count : ℕ} (j : Judges base t lent (Passed count) table) (long : length table ≡ length lent) (old : List ℕ)
     (lang : Name) where
+  abbrev room : ℕ
+  room = length old
+
   abbrev outcomeOf : Forest → Outcome
   outcomeOf f = localizedDoc base (length table) room (docOf t f) lang
+
+  made-for : (out : List ℕ) (r : Attempt) → MakesFor t table lang old out r → (f : Forest) → CardIn t table f
+      → Made (length table) room (outcomeOf f) out r
+  made-for out r h f k =
+      rw (localized-draft base (length table) room (docOf t f) lang) (made-of (length table) (draftOf (docOf t f) lang) old out r (h f k))
 
   -- the same of the outcome for the text
   answers-as : (f : Forest) → CardIn t table f → {r : Localized} {rows out : List ℕ} → Answers (length table) (outcomeOf f) r rows out
       → Answers (length lent) (localizedOf base (length lent) room t lang) r rows out
   answers-as f k a = rw (← long, passed-so base (length table) room t lang f (k .passes)) a
 
-  pub refused-so : {r : LocalRefusal} (rows out : List ℕ) → MakesFor t table lang room out (Refused r)
+  pub refused-so : {r : LocalRefusal} (rows out : List ℕ) → MakesFor t table lang old out (Refused r)
       → Answers (length lent) (localizedOf base (length lent) room t lang) (Denied r) rows out
-  refused-so rows out h = let (f, k) = card-there j long in answers-as f k (denied-so rows out (h f k))
+  refused-so {r} rows out h = let (f, k) = card-there j long in answers-as f k (denied-so rows out (made-for out (Refused r) h f k))
 
-  module _ {n : ℕ} {out : List ℕ} (h : MakesFor t table lang room out (Bytes n)) where
+  module _ (n : ℕ) (out : List ℕ) (h : MakesFor t table lang old out (Bytes n)) where
     pub fits-so : n ≤ length out
-    fits-so = let (f, k) = card-there j long in h f k .fits
+    fits-so = let (f, k) = card-there j long in made-for out (Bytes n) h f k .fits
 
     pub written-so : {r : Localized} {rows : List ℕ} → Rejudged (length table) (judgedOutcome (length table) room (take n out)) r rows
         → Answers (length lent) (localizedOf base (length lent) room t lang) r rows out
-    written-so d = let (f, k) = card-there j long in answers-as f k (judged-so (h f k) d)
+    written-so d = let (f, k) = card-there j long in answers-as f k (judged-so (made-for out (Bytes n) h f k) d)
 
 -- ---- clearing
 

@@ -18,6 +18,9 @@ ghost use Rattle.json.specs.Cursors.{rest};
 // The twelve month lengths; February has one day more in leap years.
 const MONTHS: [u32; 12] = [31, 28, 31, 30, 31, 30, 31, 31, 30, 31, 30, 31];
 
+// The digit 0, among the numbers that peeking gives.
+const ZERO: u16 = b'0' as u16;
+
 // How a time begins, where d is any digit.
 const SHAPE: [u8; 19] = *b"dddd-dd-ddTdd:dd:dd";
 
@@ -68,7 +71,7 @@ fn is_day(year: u32, month: u32, day: u32) -> bool
 fn suits(shape: u8, b: u8) -> bool
     ensures { λ r. ⌜ r ≡ cond (eqb shape 100) (isDigit b) (eqb shape b) ⌝ }
 {
-    if shape == 100 {
+    if shape == b'd' {
         return is_digit(b);
     }
     shape == b
@@ -78,10 +81,10 @@ fn suits(shape: u8, b: u8) -> bool
 fn digit_of(b: u16) -> u32
     ensures { λ r. ⌜ r ≡ b - 48 ⌝ }
 {
-    if b < 48 {
+    if b < ZERO {
         return 0;
     }
-    (b - 48) as u32
+    (b - ZERO) as u32
 }
 
 // Two digits as a number.
@@ -117,10 +120,10 @@ fn closes(content: &[u8], last: u8, b: u8, after: Cursor) -> bool
     requires { ⌜ isDigit b ≡ false ⌝ }
     ensures { λ r. ⌜ r ≡ fractionEnds last (b ∷ rest (now (content .entry)) after) ⌝ }
 {
-    if b != 90 {
+    if b != b'Z' {
         return false;
     }
-    if last == 48 {
+    if last == b'0' {
         return false;
     }
     match next_byte(content, after) {
@@ -134,7 +137,7 @@ fn fraction_ends(content: &[u8], from: Cursor) -> bool
     ensures { λ r. ⌜ r ≡ fractionEnds 48 (rest (now (content .entry)) from) ⌝ }
 {
     let mut at = from;
-    let mut last: u8 = 48;
+    let mut last: u8 = b'0';
     loop {
         match next_byte(content, at) {
             Next::Over => {
@@ -158,10 +161,10 @@ fn time_ends(content: &[u8], from: Cursor) -> bool
     let Next::Byte(b, after) = next_byte(content, from) else {
         return false;
     };
-    if b == 46 {
+    if b == b'.' {
         return fraction_ends(content, after);
     }
-    if b != 90 {
+    if b != b'Z' {
         return false;
     }
     match next_byte(content, after) {

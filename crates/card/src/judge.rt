@@ -1,7 +1,9 @@
 // Judging a text as a card.
-use crate::schema::CARD;
-use crate::types::Item;
-use crate::types::Ty;
+use crate::catalog::CARD;
+use crate::catalog::NUMBERS;
+use crate::catalog::WORDS;
+use crate::items::Item;
+use crate::items::Ty;
 use crate::walk::Breach;
 use crate::walk::breach_at;
 use contact::CardFault;
@@ -14,8 +16,13 @@ use text::Reading;
 ghost use mathlib.Core.Path.{_≡_};
 ghost use Rattle.text.specs.Limits.{base};
 ghost use Rattle.text.specs.Tree.{Forest};
+ghost use Rattle.text.specs.Firsts.{Kinds};
+ghost use Rattle.text.specs.Doc.{docOf};
+ghost use Rattle.contact.specs.Judge.{cardBreach};
 ghost use Rattle.contact.specs.Verdict.{faultOf};
 ghost use Rattle.contact.specs.Judging.{Judges};
+ghost use Rattle.card.specs.Rows.{ValueAt};
+ghost use Rattle.card.specs.Walk.{foundOf};
 ghost use Rattle.card.specs.Judged.{ReadInto, JudgedRows};
 
 // The line of the sheet that a number from 11 to 14 names, at a place.
@@ -34,13 +41,23 @@ fn fault_of(number: usize, place: usize) -> CardFault
     CardFault::Rule(place)
 }
 
+// The first breach of a card that stands in a table. The catalog is made here, once for a call.
+fn card_breach(text: &[u8], table: &[u32]) -> Breach
+    requires { ⌜ ((f : Forest) × ValueAt (now table) 0 f × Kinds f) ⌝ }
+    ensures { λ r. ⌜ ((f : Forest) → ValueAt (now (table .entry)) 0 f → Kinds f → foundOf r ≡ cardBreach (docOf (now (text .entry)) f)) ⌝ }
+{
+    let words = WORDS;
+    let numbers = NUMBERS;
+    let card = Ty::One(Item::ObjectOf(CARD));
+    breach_at(&words, &numbers, text, table, 0, card, true)
+}
+
 // The verdict on the n rows of a text that was read; where it fails, the table is cleared.
 fn judge_rows(text: &[u8], table: &mut [u32], n: usize) -> Verdict
     requires { ⌜ ((f : Forest) × ReadInto (now text) (now table) n f) ⌝ }
     ensures { λ r. ⌜ ((f : Forest) → ReadInto (now (text .entry)) (now (table .entry)) n f → JudgedRows (now (text .entry)) (now (table .entry)) n f r (now (table .exit))) ⌝ }
 {
-    let card = Ty::One(Item::ObjectOf(CARD));
-    match breach_at(text, table, 0, card, true) {
+    match card_breach(text, table) {
         Breach::Nothing => Verdict::Passed(n),
         Breach::At(row, number) => {
             let place = value_start(table, row);

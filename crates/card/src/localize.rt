@@ -1,12 +1,12 @@
 // Localizing: a card text and a language become the localized card and its rows, or a refusal.
-use crate::compose::Attempt;
-use crate::compose::compose_for;
 use crate::judge::judge;
 use contact::LocalRefusal;
 use contact::Localized;
 use contact::Verdict;
 use laws::clear::clear_bytes;
 use laws::clear::clear_words;
+use patch::compose::Attempt;
+use patch::compose::compose_for;
 ghost use mathlib.Core.Path.{_≡_};
 ghost use Prim.Native.Nat.{ℕ, _≤_};
 ghost use lib.ListN.{length, take};

@@ -1,18 +1,22 @@
-// Rules between members (refusal 14), as a table of rules of a few shapes. A member of the wrong kind counts as absent.
-// A new rule is in the record of its type in contact/specs/Schema.antt, and at the same place a line in RULES and one in WORDS; RULE_COUNT, and
-// `ruleCount` in specs/RuleTable.antt, go up by one. The proofs compute over the table.
-use crate::members::Found;
-use crate::rows::find;
+// Rules between members (refusal 14), by the catalog's rules of a few shapes. A member of the wrong kind counts as absent.
+use crate::catalog::EACH;
+use crate::catalog::NEEDS;
+use crate::catalog::NEEDS_STRING;
+use crate::catalog::NEEDS_TRUE;
+use crate::catalog::ONE_OF;
+use crate::catalog::RULE_WORDS;
+use crate::catalog::SEPARATORS;
+use crate::catalog::SHAPES;
+use crate::catalog::rules_of;
+use crate::catalog::word_at;
+use crate::items::kind_fits;
 use crate::rows::has_string;
-use crate::rows::is_string;
+use crate::rows::is_string_at;
 use crate::rows::next_row;
-use crate::schema::ADDRESS;
-use crate::schema::CARD;
-use crate::schema::NAME;
-use crate::schema::WIDTH;
+use crate::schema::Object;
 use crate::schema::type_in;
-use crate::schema::word_at;
-use crate::types::kind_fits;
+use json::lookup::Found;
+use json::lookup::find;
 use json::rows::OBJECT;
 use json::rows::TRUE;
 use json::rows::kind;
@@ -26,84 +30,38 @@ ghost use lib.ListN.{length, getD};
 ghost use Rattle.text.specs.Tree.{Forest};
 ghost use Rattle.text.specs.Standing.{StandsTo};
 ghost use Rattle.text.specs.Doc.{docOf, membersOf};
-ghost use Rattle.contact.specs.Rules.{present as presentOf, isTrue, isThisString, isSeparator, marksOf, marks, badlySeparated, breaks as breaksOf};
-ghost use Rattle.card.specs.Rows.{ValueAt};
-ghost use Rattle.card.specs.Table.{nameWidth};
+ghost use Rattle.contact.specs.Rules.{present as presentOf, isTrue, isThisString, isSeparator, marksOf, marks, badlySeparated, breaksOne, breaks as breaksOf};
+ghost use Rattle.card.specs.Rows.{ValueAt, ValueOf};
+ghost use Rattle.card.specs.Catalog.{MembersAt, nameWidth, ruleCount, allRules, noRule, Lent};
 ghost use Rattle.card.specs.Marks.{fresh, markOn, tally};
-ghost use Rattle.card.specs.RuleTable.{ruleCount, ruleLines, noRule, isBroken, RuleCode, ValueOf, isCounted, anyWord, needsBroken, stringBroken, truthBroken, separatorsBroken, onlyBroken, byShape};
-
-// ---- the table
-
-// The table says each rule in two lines: a number, and words. The number is a sum: the object type that has the rule, as `NAME * OF`, and its shape.
-const OF: u32 = 8;
-
-// One of the words is there.
-const ONE_OF: u32 = 0;
-
-// Where the first is there, so is one of the others.
-const NEEDS: u32 = 1;
-
-// Where the first is there, the second is a String with the third as its content.
-const NEEDS_STRING: u32 = 2;
-
-// Where the first is there, the second is true.
-const NEEDS_TRUE: u32 = 3;
-
-// Of the list of the first, no two separators stand in a row, and where the second isn't true there is none.
-const SEPARATORS: u32 = 4;
-
-// The list of the first, where it is there, has an entry that isn't a separator.
-const NOT_ONLY: u32 = 5;
-
-// How many rules there are, and the words for each.
-const RULE_COUNT: usize = 9;
-
-const EACH: usize = 6;
-
-// Type and shape of each.
-const RULES: [u32; RULE_COUNT] = [
-    CARD * OF + NEEDS_STRING, // members kind group
-    NAME * OF + ONE_OF, // full components
-    NAME * OF + NOT_ONLY, // components
-    NAME * OF + SEPARATORS, // components isOrdered
-    NAME * OF + NEEDS_TRUE, // defaultSeparator isOrdered
-    NAME * OF + NEEDS, // defaultSeparator components
-    ADDRESS * OF + SEPARATORS, // components isOrdered
-    ADDRESS * OF + NEEDS_TRUE, // defaultSeparator isOrdered
-    ADDRESS * OF + NEEDS, // defaultSeparator components
-];
-
-// Their words.
-const WORDS: [u8; RULE_COUNT * EACH * WIDTH] = *b"\
-    members             kind                group                                                                           \
-    full                components                                                                                          \
-    components                                                                                                              \
-    components          isOrdered                                                                                           \
-    defaultSeparator    isOrdered                                                                                           \
-    defaultSeparator    components                                                                                          \
-    components          isOrdered                                                                                           \
-    defaultSeparator    isOrdered                                                                                           \
-    defaultSeparator    components                                                                                          ";
-
-// What the table says of rule i besides its words.
-fn rule_at(i: usize) -> u32
-    requires { ⌜ i < ruleCount ⌝ }
-    ensures { λ r. ⌜ RuleCode r (getD ruleLines i noRule) ⌝ }
-{
-    RULES[i]
-}
+ghost use Rattle.card.specs.RuleTable.{isCounted, anyWord, thenBroken, separatorsBroken, byShape};
 
 // ---- members that count
 
-// The row of the member of that name, if its kind is the one that the table asks in an object of that type.
-fn present(text: &[u8], table: &[u32], from: usize, end: usize, o: u32, name: &[u8]) -> Found
-    requires { ⌜ ((f : Forest) × StandsTo (now table) from end f) ⌝ }
-    ensures { λ r. ⌜ ((f : Forest) → StandsTo (now (table .entry)) from end f → ValueOf (now (text .entry)) (now (table .entry)) r (presentOf o (now (name .entry)) (membersOf (now (text .entry)) f))) ⌝ }
+// The row of the member of that name, if its kind is the one that the catalog asks.
+fn present(
+    words: &[u8],
+    numbers: &[u32],
+    text: &[u8],
+    table: &[u32],
+    object: Object,
+    name: &[u8],
+) -> Found
+    requires { ⌜ Lent (now words) (now numbers) ⌝ }
+    requires { ⌜ ((f : Forest) × MembersAt (now table) object f) ⌝ }
+    ensures { λ r. ⌜ ((f : Forest) → MembersAt (now (table .entry)) object f → ValueOf (now (text .entry)) (now (table .entry)) r (presentOf (object .of) (now (name .entry)) (membersOf (now (text .entry)) f))) ⌝ }
 {
-    let Found::Row(k) = find(text, table, from, end, name) else {
+    let Found::Row(k) = find(text, table, object.from, object.end, name) else {
         return Found::Nothing;
     };
-    let ty = type_in(text, o, name_start(table, k), name_end(table, k));
+    let ty = type_in(
+        words,
+        numbers,
+        text,
+        object.of,
+        name_start(table, k),
+        name_end(table, k),
+    );
     if kind_fits(ty, kind(table, k)) {
         return Found::Row(k);
     }
@@ -111,25 +69,41 @@ fn present(text: &[u8], table: &[u32], from: usize, end: usize, o: u32, name: &[
 }
 
 // Is it there? Nothing has the empty word for its name.
-fn counts(text: &[u8], table: &[u32], from: usize, end: usize, o: u32, name: &[u8]) -> bool
-    requires { ⌜ ((f : Forest) × StandsTo (now table) from end f) ⌝ }
-    ensures { λ r. ⌜ ((f : Forest) → StandsTo (now (table .entry)) from end f → r ≡ isCounted o (membersOf (now (text .entry)) f) (now (name .entry))) ⌝ }
+fn counts(
+    words: &[u8],
+    numbers: &[u32],
+    text: &[u8],
+    table: &[u32],
+    object: Object,
+    name: &[u8],
+) -> bool
+    requires { ⌜ Lent (now words) (now numbers) ⌝ }
+    requires { ⌜ ((f : Forest) × MembersAt (now table) object f) ⌝ }
+    ensures { λ r. ⌜ ((f : Forest) → MembersAt (now (table .entry)) object f → r ≡ isCounted (object .of) (membersOf (now (text .entry)) f) (now (name .entry))) ⌝ }
 {
     if name.len() == 0 {
         return false;
     }
-    match present(text, table, from, end, o, name) {
+    match present(words, numbers, text, table, object, name) {
         Found::Row(_) => true,
         Found::Nothing => false,
     }
 }
 
 // Is it there, and true?
-fn is_true(text: &[u8], table: &[u32], from: usize, end: usize, o: u32, name: &[u8]) -> bool
-    requires { ⌜ ((f : Forest) × StandsTo (now table) from end f) ⌝ }
-    ensures { λ r. ⌜ ((f : Forest) → StandsTo (now (table .entry)) from end f → r ≡ isTrue (presentOf o (now (name .entry)) (membersOf (now (text .entry)) f))) ⌝ }
+fn is_true(
+    words: &[u8],
+    numbers: &[u32],
+    text: &[u8],
+    table: &[u32],
+    object: Object,
+    name: &[u8],
+) -> bool
+    requires { ⌜ Lent (now words) (now numbers) ⌝ }
+    requires { ⌜ ((f : Forest) × MembersAt (now table) object f) ⌝ }
+    ensures { λ r. ⌜ ((f : Forest) → MembersAt (now (table .entry)) object f → r ≡ isTrue (presentOf (object .of) (now (name .entry)) (membersOf (now (text .entry)) f))) ⌝ }
 {
-    match present(text, table, from, end, o, name) {
+    match present(words, numbers, text, table, object, name) {
         Found::Row(k) => kind(table, k) == TRUE,
         Found::Nothing => false,
     }
@@ -137,41 +111,40 @@ fn is_true(text: &[u8], table: &[u32], from: usize, end: usize, o: u32, name: &[
 
 // Is it there, and a String with that content?
 fn is_this_string(
+    words: &[u8],
+    numbers: &[u32],
     text: &[u8],
     table: &[u32],
-    from: usize,
-    end: usize,
-    o: u32,
+    object: Object,
     name: &[u8],
     content: &[u8],
 ) -> bool
-    requires { ⌜ ((f : Forest) × StandsTo (now table) from end f) ⌝ }
-    ensures { λ r. ⌜ ((f : Forest) → StandsTo (now (table .entry)) from end f → r ≡ isThisString (now (content .entry)) (presentOf o (now (name .entry)) (membersOf (now (text .entry)) f))) ⌝ }
+    requires { ⌜ Lent (now words) (now numbers) ⌝ }
+    requires { ⌜ ((f : Forest) × MembersAt (now table) object f) ⌝ }
+    ensures { λ r. ⌜ ((f : Forest) → MembersAt (now (table .entry)) object f → r ≡ isThisString (now (content .entry)) (presentOf (object .of) (now (name .entry)) (membersOf (now (text .entry)) f))) ⌝ }
 {
-    match present(text, table, from, end, o, name) {
-        Found::Row(k) => is_string(text, table, k, content),
-        Found::Nothing => false,
-    }
+    let found = present(words, numbers, text, table, object, name);
+    is_string_at(text, table, found, content)
 }
 
 // Is one of the words from a place up to the last of a rule there?
 fn any_of(
+    words: &[u8],
+    numbers: &[u32],
     text: &[u8],
     table: &[u32],
-    from: usize,
-    end: usize,
-    o: u32,
-    words: &[u8],
+    object: Object,
     first: usize,
     last: usize,
 ) -> bool
-    requires { ⌜ ((f : Forest) × StandsTo (now table) from end f) ⌝ }
+    requires { ⌜ Lent (now words) (now numbers) ⌝ }
+    requires { ⌜ ((f : Forest) × MembersAt (now table) object f) ⌝ }
     requires { ⌜ last * nameWidth ≤ length (now words) ⌝ }
-    ensures { λ r. ⌜ ((f : Forest) → StandsTo (now (table .entry)) from end f → r ≡ anyWord o (membersOf (now (text .entry)) f) (now (words .entry)) first last) ⌝ }
+    ensures { λ r. ⌜ ((f : Forest) → MembersAt (now (table .entry)) object f → r ≡ anyWord (object .of) (membersOf (now (text .entry)) f) (now (words .entry)) first last) ⌝ }
 {
     let mut j = first;
     while j < last {
-        if counts(text, table, from, end, o, word_at(words, j)) {
+        if counts(words, numbers, text, table, object, word_at(words, j)) {
             return true;
         }
         j = j + 1;
@@ -260,11 +233,19 @@ fn tally_of(text: &[u8], table: &[u32], from: usize, end: usize) -> Marks
 }
 
 // The entries of the list of that name; without it, those of no list.
-fn tally_in(text: &[u8], table: &[u32], from: usize, end: usize, o: u32, name: &[u8]) -> Marks
-    requires { ⌜ ((f : Forest) × StandsTo (now table) from end f) ⌝ }
-    ensures { λ r. ⌜ ((f : Forest) → StandsTo (now (table .entry)) from end f → r ≡ tally fresh (marks (presentOf o (now (name .entry)) (membersOf (now (text .entry)) f)))) ⌝ }
+fn tally_in(
+    words: &[u8],
+    numbers: &[u32],
+    text: &[u8],
+    table: &[u32],
+    object: Object,
+    name: &[u8],
+) -> Marks
+    requires { ⌜ Lent (now words) (now numbers) ⌝ }
+    requires { ⌜ ((f : Forest) × MembersAt (now table) object f) ⌝ }
+    ensures { λ r. ⌜ ((f : Forest) → MembersAt (now (table .entry)) object f → r ≡ tally fresh (marks (presentOf (object .of) (now (name .entry)) (membersOf (now (text .entry)) f)))) ⌝ }
 {
-    let Found::Row(k) = present(text, table, from, end, o, name) else {
+    let Found::Row(k) = present(words, numbers, text, table, object, name) else {
         return no_marks();
     };
     let after = next_row(table, k);
@@ -286,164 +267,120 @@ fn badly_separated(m: Marks, ordered: bool) -> bool
 
 // ---- the shapes, of the words from a place on
 
-// Where the first is there, so is one of the others.
-fn breaks_needs(
+// Where the first is there, does what the shape asks then fail?
+fn breaks_then(
+    words: &[u8],
+    numbers: &[u32],
     text: &[u8],
     table: &[u32],
-    from: usize,
-    end: usize,
-    o: u32,
-    words: &[u8],
+    object: Object,
+    shape: u32,
     at: usize,
 ) -> bool
-    requires { ⌜ ((f : Forest) × StandsTo (now table) from end f) ⌝ }
+    requires { ⌜ Lent (now words) (now numbers) ⌝ }
+    requires { ⌜ ((f : Forest) × MembersAt (now table) object f) ⌝ }
     requires { ⌜ (at + 6) * nameWidth ≤ length (now words) ⌝ }
-    ensures { λ r. ⌜ ((f : Forest) → StandsTo (now (table .entry)) from end f → r ≡ needsBroken o (membersOf (now (text .entry)) f) (now (words .entry)) at) ⌝ }
+    ensures { λ r. ⌜ ((f : Forest) → MembersAt (now (table .entry)) object f → r ≡ thenBroken (object .of) (membersOf (now (text .entry)) f) shape (now (words .entry)) at) ⌝ }
 {
-    if !counts(text, table, from, end, o, word_at(words, at)) {
-        return false;
+    let second = word_at(words, at + 1);
+    match shape {
+        NEEDS => !any_of(words, numbers, text, table, object, at + 1, at + EACH),
+        NEEDS_STRING => {
+            let third = word_at(words, at + 2);
+            !is_this_string(words, numbers, text, table, object, second, third)
+        }
+        NEEDS_TRUE => !is_true(words, numbers, text, table, object, second),
+        _ => {
+            let m = tally_in(words, numbers, text, table, object, word_at(words, at));
+            m.all
+        }
     }
-    !any_of(text, table, from, end, o, words, at + 1, at + EACH)
-}
-
-// Where the first is there, the second is a String with the third as its content.
-fn breaks_string(
-    text: &[u8],
-    table: &[u32],
-    from: usize,
-    end: usize,
-    o: u32,
-    words: &[u8],
-    at: usize,
-) -> bool
-    requires { ⌜ ((f : Forest) × StandsTo (now table) from end f) ⌝ }
-    requires { ⌜ (at + 6) * nameWidth ≤ length (now words) ⌝ }
-    ensures { λ r. ⌜ ((f : Forest) → StandsTo (now (table .entry)) from end f → r ≡ stringBroken o (membersOf (now (text .entry)) f) (now (words .entry)) at) ⌝ }
-{
-    if !counts(text, table, from, end, o, word_at(words, at)) {
-        return false;
-    }
-    !is_this_string(
-        text,
-        table,
-        from,
-        end,
-        o,
-        word_at(words, at + 1),
-        word_at(words, at + 2),
-    )
-}
-
-// Where the first is there, the second is true.
-fn breaks_true(
-    text: &[u8],
-    table: &[u32],
-    from: usize,
-    end: usize,
-    o: u32,
-    words: &[u8],
-    at: usize,
-) -> bool
-    requires { ⌜ ((f : Forest) × StandsTo (now table) from end f) ⌝ }
-    requires { ⌜ (at + 6) * nameWidth ≤ length (now words) ⌝ }
-    ensures { λ r. ⌜ ((f : Forest) → StandsTo (now (table .entry)) from end f → r ≡ truthBroken o (membersOf (now (text .entry)) f) (now (words .entry)) at) ⌝ }
-{
-    if !counts(text, table, from, end, o, word_at(words, at)) {
-        return false;
-    }
-    !is_true(text, table, from, end, o, word_at(words, at + 1))
 }
 
 // The list of the first is badly separated, as the second is true or not.
 fn breaks_separators(
+    words: &[u8],
+    numbers: &[u32],
     text: &[u8],
     table: &[u32],
-    from: usize,
-    end: usize,
-    o: u32,
-    words: &[u8],
+    object: Object,
     at: usize,
 ) -> bool
-    requires { ⌜ ((f : Forest) × StandsTo (now table) from end f) ⌝ }
+    requires { ⌜ Lent (now words) (now numbers) ⌝ }
+    requires { ⌜ ((f : Forest) × MembersAt (now table) object f) ⌝ }
     requires { ⌜ (at + 6) * nameWidth ≤ length (now words) ⌝ }
-    ensures { λ r. ⌜ ((f : Forest) → StandsTo (now (table .entry)) from end f → r ≡ separatorsBroken o (membersOf (now (text .entry)) f) (now (words .entry)) at) ⌝ }
+    ensures { λ r. ⌜ ((f : Forest) → MembersAt (now (table .entry)) object f → r ≡ separatorsBroken (object .of) (membersOf (now (text .entry)) f) (now (words .entry)) at) ⌝ }
 {
-    let m = tally_in(text, table, from, end, o, word_at(words, at));
-    badly_separated(
-        m,
-        is_true(text, table, from, end, o, word_at(words, at + 1)),
-    )
-}
-
-// The list of the first is there, and has no entry that isn't a separator.
-fn breaks_only(
-    text: &[u8],
-    table: &[u32],
-    from: usize,
-    end: usize,
-    o: u32,
-    words: &[u8],
-    at: usize,
-) -> bool
-    requires { ⌜ ((f : Forest) × StandsTo (now table) from end f) ⌝ }
-    requires { ⌜ (at + 6) * nameWidth ≤ length (now words) ⌝ }
-    ensures { λ r. ⌜ ((f : Forest) → StandsTo (now (table .entry)) from end f → r ≡ onlyBroken o (membersOf (now (text .entry)) f) (now (words .entry)) at) ⌝ }
-{
-    if !counts(text, table, from, end, o, word_at(words, at)) {
-        return false;
-    }
-    let m = tally_in(text, table, from, end, o, word_at(words, at));
-    m.all
+    let m = tally_in(words, numbers, text, table, object, word_at(words, at));
+    let ordered = is_true(words, numbers, text, table, object, word_at(words, at + 1));
+    badly_separated(m, ordered)
 }
 
 // ---- rules
 
-// Do the members of the rows from .. end break a rule of that shape, whose words stand from a place on?
+// Do the members break a rule of that shape, whose words stand from a place on?
 fn breaks_shape(
+    words: &[u8],
+    numbers: &[u32],
     text: &[u8],
     table: &[u32],
-    from: usize,
-    end: usize,
-    o: u32,
+    object: Object,
     shape: u32,
-    words: &[u8],
     at: usize,
 ) -> bool
-    requires { ⌜ ((f : Forest) × StandsTo (now table) from end f) ⌝ }
+    requires { ⌜ Lent (now words) (now numbers) ⌝ }
+    requires { ⌜ ((f : Forest) × MembersAt (now table) object f) ⌝ }
     requires { ⌜ (at + 6) * nameWidth ≤ length (now words) ⌝ }
-    ensures { λ r. ⌜ ((f : Forest) → StandsTo (now (table .entry)) from end f → r ≡ byShape o (membersOf (now (text .entry)) f) shape (now (words .entry)) at) ⌝ }
+    ensures { λ r. ⌜ ((f : Forest) → MembersAt (now (table .entry)) object f → r ≡ byShape (object .of) (membersOf (now (text .entry)) f) shape (now (words .entry)) at) ⌝ }
 {
-    match shape {
-        ONE_OF => !any_of(text, table, from, end, o, words, at, at + EACH),
-        NEEDS => breaks_needs(text, table, from, end, o, words, at),
-        NEEDS_STRING => breaks_string(text, table, from, end, o, words, at),
-        NEEDS_TRUE => breaks_true(text, table, from, end, o, words, at),
-        SEPARATORS => breaks_separators(text, table, from, end, o, words, at),
-        _ => breaks_only(text, table, from, end, o, words, at),
+    if shape == ONE_OF {
+        return !any_of(words, numbers, text, table, object, at, at + EACH);
     }
-}
-
-// Is rule i one of the object type's, and broken?
-fn breaks_rule(text: &[u8], table: &[u32], from: usize, end: usize, o: u32, i: usize) -> bool
-    requires { ⌜ i < ruleCount ⌝ }
-    requires { ⌜ ((f : Forest) × StandsTo (now table) from end f) ⌝ }
-    ensures { λ r. ⌜ ((f : Forest) → StandsTo (now (table .entry)) from end f → r ≡ isBroken o (membersOf (now (text .entry)) f) (getD ruleLines i noRule)) ⌝ }
-{
-    let code = rule_at(i);
-    if code / OF != o {
+    if shape == SEPARATORS {
+        return breaks_separators(words, numbers, text, table, object, at);
+    }
+    if !counts(words, numbers, text, table, object, word_at(words, at)) {
         return false;
     }
-    breaks_shape(text, table, from, end, o, code % OF, &WORDS, i * EACH)
+    breaks_then(words, numbers, text, table, object, shape, at)
 }
 
-// Do the members of the rows from .. end break a rule of the object type?
-pub(crate) fn breaks(text: &[u8], table: &[u32], from: usize, end: usize, o: u32) -> bool
-    requires { ⌜ ((f : Forest) × StandsTo (now table) from end f) ⌝ }
-    ensures { λ r. ⌜ ((f : Forest) → StandsTo (now (table .entry)) from end f → r ≡ breaksOf o (membersOf (now (text .entry)) f)) ⌝ }
+// Is rule i broken by the members?
+fn breaks_rule(
+    words: &[u8],
+    numbers: &[u32],
+    text: &[u8],
+    table: &[u32],
+    object: Object,
+    i: usize,
+) -> bool
+    requires { ⌜ Lent (now words) (now numbers) ⌝ }
+    requires { ⌜ i < ruleCount ⌝ }
+    requires { ⌜ ((f : Forest) × MembersAt (now table) object f) ⌝ }
+    ensures { λ r. ⌜ ((f : Forest) → MembersAt (now (table .entry)) object f → r ≡ breaksOne (object .of) (membersOf (now (text .entry)) f) (getD allRules i noRule)) ⌝ }
 {
-    let mut i: usize = 0;
-    while i < RULE_COUNT {
-        if breaks_rule(text, table, from, end, o, i) {
+    let shape = numbers[SHAPES + i];
+    let at = RULE_WORDS + i * EACH;
+    breaks_shape(words, numbers, text, table, object, shape, at)
+}
+
+// Do the members of an object break a rule of its type?
+pub(crate) fn breaks(
+    words: &[u8],
+    numbers: &[u32],
+    text: &[u8],
+    table: &[u32],
+    object: Object,
+) -> bool
+    requires { ⌜ Lent (now words) (now numbers) ⌝ }
+    requires { ⌜ ((f : Forest) × MembersAt (now table) object f) ⌝ }
+    ensures { λ r. ⌜ ((f : Forest) → MembersAt (now (table .entry)) object f → r ≡ breaksOf (object .of) (membersOf (now (text .entry)) f)) ⌝ }
+{
+    let own = rules_of(numbers, object.of);
+    let last = own.last;
+    let mut i = own.first;
+    while i < last {
+        if breaks_rule(words, numbers, text, table, object, i) {
             return true;
         }
         i = i + 1;

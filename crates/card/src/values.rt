@@ -3,6 +3,8 @@ use json::decode::Next;
 use json::decode::next_byte;
 use json::decode::start;
 ghost use mathlib.Core.Path.{_≡_};
+ghost use mathlib.Core.Bool.{true, false, cond};
+ghost use lib.Dec.{ltb};
 ghost use Rattle.text.specs.Strings.{decode};
 ghost use Rattle.text.specs.Tokens.{isDigit};
 ghost use Rattle.contact.specs.Values.{idByte, isId, isCount};
@@ -14,35 +16,37 @@ const LARGEST: u64 = 9007199254740991;
 pub(crate) fn is_digit(b: u8) -> bool
     ensures { λ r. ⌜ r ≡ isDigit b ⌝ }
 {
-    if b < 48 {
-        return false;
+    match b {
+        b'0'..=b'9' => true,
+        _ => false,
     }
-    b < 58
+}
+
+// A letter, A-Z a-z.
+fn is_letter(b: u8) -> bool
+    ensures { λ r. ⌜ r ≡ cond (ltb b 65) false (cond (ltb b 91) true (cond (ltb b 97) false (ltb b 123))) ⌝ }
+{
+    match b {
+        b'A'..=b'Z' => true,
+        b'a'..=b'z' => true,
+        _ => false,
+    }
 }
 
 // A byte of an Id: A-Z a-z 0-9 - _
 fn id_byte(b: u8) -> bool
     ensures { λ r. ⌜ r ≡ idByte b ⌝ }
 {
-    if b == 45 {
+    if b == b'-' {
         return true;
     }
-    if b == 95 {
+    if b == b'_' {
         return true;
     }
     if is_digit(b) {
         return true;
     }
-    if b < 65 {
-        return false;
-    }
-    if b < 91 {
-        return true;
-    }
-    if b < 97 {
-        return false;
-    }
-    b < 123
+    is_letter(b)
 }
 
 // Do a name's inner bytes decode to an Id, 1 to 255 such bytes? No more than 256 decoded bytes are looked at.
@@ -81,7 +85,7 @@ pub(crate) fn is_count(token: &[u8], low: u64, high: u64) -> bool
         if !is_digit(b) {
             return false;
         }
-        value = 10 * value + (b - 48) as u64;
+        value = 10 * value + (b - b'0') as u64;
         if LARGEST < value {
             return false;
         }

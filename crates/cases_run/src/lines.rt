@@ -49,13 +49,13 @@ fn count_at(line: &[u8], from: usize) -> Count
     let mut value: usize = 0;
     while at < line.len() {
         let b = line[at];
-        if b < 48 {
+        if b < b'0' {
             break;
         }
-        if 57 < b {
+        if b'9' < b {
             break;
         }
-        value = value % 999999 * 10 + (b - 48) as usize;
+        value = value % 999999 * 10 + (b - b'0') as usize;
         at = at + 1;
     }
     if at < line.len() {
@@ -79,8 +79,8 @@ fn digit_at(line: &[u8], at: usize) -> u8
     }
     let b = line[at];
     match b {
-        48..=57 => b - 48,
-        97..=102 => b - 87,
+        b'0'..=b'9' => b - b'0',
+        b'a'..=b'f' => b - b'a' + 10,
         _ => 0,
     }
 }
@@ -151,8 +151,8 @@ fn special(line: &[u8], at: usize, base: &[u8], out: &mut [u8], size: usize) -> 
     ensures { λ r. ⌜ (at < r .next) × (r .size ≤ length (now (out .entry))) ⌝ }
 {
     let kind = if at < line.len() { line[at] } else { 0 };
-    if kind != 42 {
-        if kind != 61 {
+    if kind != b'*' {
+        if kind != b'=' {
             let byte = digit_at(line, at) * 16 + digit_at(line, at + 1);
             return Step {
                 next: at + 2,
@@ -162,7 +162,7 @@ fn special(line: &[u8], at: usize, base: &[u8], out: &mut [u8], size: usize) -> 
     }
     let one = count_at(line, at + 1);
     let two = count_at(line, one.at);
-    if kind == 42 {
+    if kind == b'*' {
         return Step {
             next: two.at,
             size: again(out, size, one.value, two.value),
@@ -182,7 +182,7 @@ pub fn unpack(line: &[u8], base: &[u8], out: &mut [u8]) -> usize
     let mut size: usize = 0;
     while at < line.len() {
         let byte = line[at];
-        if byte == 37 {
+        if byte == b'%' {
             let step = special(line, at + 1, base, out, size);
             at = step.next;
             size = step.size;

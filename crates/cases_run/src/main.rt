@@ -7,14 +7,12 @@ mod buffers;
 mod lines;
 mod localizing;
 mod reading;
-mod strings;
 
 // All lines, with some room.
 const INPUT: usize = 1200000;
 
 // What the cases are for; `Unknown` before the first name and after one that is none of these.
 enum Service {
-    Strings,
     Reading,
     Judging,
     Localizing,
@@ -28,7 +26,6 @@ fn named(name: &[u8]) -> Service {
     }
     let first = name[0];
     match first {
-        b's' => Service::Strings,
         b'r' => Service::Reading,
         b'j' => Service::Judging,
         b'l' => Service::Localizing,
@@ -38,7 +35,6 @@ fn named(name: &[u8]) -> Service {
 
 fn case_of(service: Service, line: &[u8], base: &[u8]) {
     match service {
-        Service::Strings => strings::case_of(line, base),
         Service::Reading => reading::case_of(false, line, base),
         Service::Judging => reading::case_of(true, line, base),
         Service::Localizing => localizing::case_of(line, base),

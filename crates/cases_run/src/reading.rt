@@ -10,7 +10,7 @@ use crate::lines::after;
 use crate::lines::number;
 use crate::lines::unpack;
 use card::judge::judge;
-use card::sheet::verdict_on_paper;
+use card::paper::verdict_on_paper;
 use json::read::read;
 use json::sheet::on_paper;
 use text::Paper;

@@ -1,12 +1,10 @@
 -- The three demands hold (specs/Demands.antt): `demands`, and with the limits of 01 `base-demands`.
 --     Sheet         the refusals and the lines of the sheet
---     Rows          the rows of a document and of its text
 --     Reading       demand 2
 --     Localizing    demand 3
 --     AnyOrder      judging, of the entries of a PatchObject in another order
 -- Assumes nothing.
 pub mod Sheet
-pub mod Rows
 pub mod Reading
 pub mod Localizing
 pub mod AnyOrder
@@ -37,18 +35,19 @@ use Rattle.contact.specs.Verdict.{Judged, passed, failed, judgedOf, shee
 use Rattle.contact.specs.Localize.{Outcome, done, denied, localizedOf, sheetOfOutcome, tableOfOutcome, outputOfOutcome, answerOfOutcome, paperOfLocalized}
 use Rattle.contact.specs.Services.{Call, read, judge, localize, wordsOf, roomOf, leaves, served}
 use Rattle.contact.specs.Demands.{Lines, Ends, acceptance, refusal, Demands}
-use Rattle.contact.proofs.Judging.{judging}
+use Rattle.contact.proofs.Judging.{judging, read-documents}
 use Rattle.contact.proofs.Judging.Signatures.{as-signed}
+use Rattle.contact.proofs.Judging.Shown.{value-seen}
 use Rattle.contact.proofs.Patching.Pointers.{key-iff}
 use Rattle.contact.proofs.Patching.Start.{patch-iff}
+use Rattle.contact.proofs.Patching.Ways.{find-iff}
 use Rattle.contact.proofs.Patching.Asked.{one-asking}
 use Rattle.contact.proofs.Patching.Refused.{accepted-iff}
 use Rattle.contact.proofs.Patching.Together.{order-of-texts}
 use Rattle.contact.proofs.Patching.Contract.{one-outcome, one-order, output-fits}
 use Rattle.contact.proofs.Patching.Readback.{passed-text}
 use Rattle.contact.proofs.Demands.Sheet.{OnLine, on-line, text-line, card-line, local-line}
-use Rattle.contact.proofs.Demands.Rows.{value-seen}
-use Rattle.contact.proofs.Demands.Reading.{read-documents, card-passed, passed-card, read-passes, read-rows, read-describes, read-words, read-long, read-fault, read-short, judge-unread, judge-passes, judge-rows, judge-offends}
+use Rattle.contact.proofs.Demands.Reading.{card-passed, passed-card, read-passes, read-rows, read-describes, read-words, read-long, read-fault, read-short, judge-unread, judge-passes, judge-rows, judge-offends}
 use Rattle.contact.proofs.Demands.AnyOrder.{reordered-only, order-card, order-number}
 use Rattle.contact.proofs.Demands.Localizing.{of-doc, localize-own, localize-patched, localize-accepted, localize-would, localize-refused, localize-key, refused-answer, localize-again, localize-room, localize-inner}
 
@@ -156,6 +155,7 @@ module _ (L : Limits) (unique : L .unique ≡ true) where
       language = patch-iff;
       keys = λ key. key-iff key;
       asking = λ ms es fs x y. one-asking x y;
+      finding = find-iff;
       byte-order = before-earlier;
       new-names = spelled-name;
       would-be = λ t lang words f c. localize-would L unique words t lang f (card-passed L words t f c);

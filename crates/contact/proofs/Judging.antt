@@ -3,6 +3,7 @@
 --     Signatures               the table of types is what the signatures say
 --     Table, BetweenMembers    kinds and types by the table; the rules between members
 --     Rows, Breaches    the number of one row; the first breach of a card
+--     Shown             the rows of a document and of its text
 -- Assumes nothing.
 pub mod SimpleValues
 pub mod Times
@@ -11,17 +12,25 @@ pub mod Signatures
 pub mod BetweenMembers
 pub mod Rows
 pub mod Breaches
+pub mod Shown
 use Prim.Native.Nat.{ℕ, _≤_, _<_}
 use mathlib.Core.Path.{_≡_, refl, sym, ap, ap₂, subst, subst₂, _∙_}
 use mathlib.Core.Bool.{cond}
 use mathlib.Core.List.{List}
+use mathlib.Core.Logic.{_↔_}
 use native.Mathlib.Omega.{arith}
-use lib.ListN.{getD}
+use lib.ListN.{length, getD}
 use lib.Dec.{eqb}
 use Rattle.laws.proofs.Decides.{iff}
 use Rattle.text.proofs.Promise.{promised, whole-good, count-root}
+use Rattle.text.proofs.Grammar.Accepted.{accepts}
+use Rattle.text.proofs.Readable.{readable-good, unreadable-bad, read-so, unread-so}
+use Rattle.text.proofs.Rows.{value-start}
+use Rattle.text.proofs.Telling.{tells-iff}
 use Rattle.text.specs.Limits.{Limits}
 use Rattle.text.specs.Tree.{Forest, size, startsOf}
+use Rattle.text.specs.Meaning.{Readable}
+use Rattle.text.specs.Telling.{Tells}
 use Rattle.text.specs.Reader.{Read, good, bad}
 use Rattle.text.specs.declared.Paper.{Paper}
 use Rattle.text.specs.Sheet.{numbers, refused}
@@ -33,7 +42,7 @@ use Rattle.contact.specs.Judge.{Breach, nothing, found, cardBreach}
 use Rattle.contact.specs.Verdict.{refusedFault, refusedCard, paperOfVerdict, Judged, passed, failed, faultOf, byBreach, judgedRead, judgedOf, sheetOfJudged, tableOfJudged}
 use Rattle.contact.specs.Breaches.{BreaksLine, RowBreaks, Keeps, FirstBreach}
 use Rattle.contact.specs.Breaches as B
-use Rattle.contact.specs.Judging.{Says, unread, passes, breaks-first, Judging}
+use Rattle.contact.specs.Judging.{CardText, Offends, CardAnswer, unread, passes, offends, Judging}
 use Rattle.contact.specs.declared.CardFault.the-variants.{Kind, Missing, Value, Rule}
 use Rattle.contact.specs.declared.CardRefusal.{CardRefusal}
 use Rattle.contact.specs.declared.CardRefusal.the-variants.{Text, Card}
@@ -43,6 +52,7 @@ use Rattle.contact.proofs.Judging.SimpleValues.{id-test, count-test}
 use Rattle.contact.proofs.Judging.Times.{leap-test, day-test, time-test}
 use Rattle.contact.proofs.Judging.BetweenMembers.{between-test}
 use Rattle.contact.proofs.Judging.Breaches.{broken-row, Least, unbroken, at-first, first-breach}
+use Rattle.contact.proofs.Judging.Shown.{value-shown}
 
 -- ---- what the search of a card finds
 
@@ -120,22 +130,62 @@ module _ (L : Limits) (words : ℕ) (t : List ℕ) where
   unfolding judgedOf judgedRead byBreach
   kept-passed {f} e k = rw (e, kept-none (first-breach (docOf t f)) k)
 
+  -- ---- what a text that is read says
+
+  pub read-documents : (f : Forest) → Readable L words t f → (d : Doc) → Tells t f d ↔ (d ≡ docOf t f)
+  read-documents f r = tells-iff L t f (length t) (accepts L t f .1 (r .accepts))
+
+  pub document-told : (f : Forest) → Readable L words t f → Tells t f (docOf t f)
+  document-told f r = read-documents f r (docOf t f) .1 refl
+
+  pub card-text : (f : Forest) → Readable L words t f → Keeps (docOf t f) → CardText L words t f
+  card-text f r k = record { readable = r; document = docOf t f; says = document-told f r; keeps = k }
+
+  pub card-keeps : (f : Forest) → CardText L words t f → Keeps (docOf t f)
+  card-keeps f c = subst Keeps (read-documents f (c .readable) (c .document) .0 (c .says)) (c .keeps)
+
+  -- the value on the row of the first breach, and where it starts
+  offending : (f : Forest) → Readable L words t f → {row n : ℕ} → FirstBreach (docOf t f) row n → Offends L words t n (getD (startsOf f) row 0)
+  offending f r {row} h =
+      let v = value-shown t f (document-told f r) (h .broken .stands) in
+      record {
+        tree = f;
+        readable = r;
+        document = docOf t f;
+        says = document-told f r;
+        row = row;
+        first = h;
+        seat = v .seat;
+        offender = v .head;
+        stands = v .there;
+        on-row = v .on-row;
+        shows = v .shows;
+        place = ap (λ (i : ℕ). getD (startsOf f) i 0) (sym (v .on-row)) ∙ value-start f (v .there);
+      }
+
   -- ---- the answer and the table
 
-  sayings : {r : Read} {j : Judged} → Judgement t r j → wholeOf L words t ≡ r → Says L words t (sheetOfJudged j) (tableOfJudged words j)
+  sayings : {r : Read} {j : Judged} → Judgement t r j → wholeOf L words t ≡ r → CardAnswer L words t (sheetOfJudged j) (tableOfJudged words j)
   unfolding sheetOfJudged paperOfVerdict tableOfJudged refusedCard
-  sayings not-read e = unread e
-  sayings (kept k) e = passes e k
-  sayings (broken {f = f} {row = row} h) e = rw (fault-number (getD (startsOf f) row 0) (h .broken .broken)) (breaks-first e h)
+  sayings not-read e = unread (unread-so L words t e)
+  sayings (kept {f = f} k) e = passes (card-text f (read-so L words t e) k)
+  sayings (broken {f = f} {row = row} h) e =
+      rw (fault-number (getD (startsOf f) row 0) (h .broken .broken)) (offends (offending f (read-so L words t e) h))
 
-  said : {p : Paper} {table : List ℕ} → Says L words t p table
+  said : {p : Paper} {table : List ℕ} → CardAnswer L words t p table
       → (p ≡ sheetOfJudged (judgedOf L words t)) × (table ≡ tableOfJudged words (judgedOf L words t))
   unfolding judgedOf judgedRead byBreach sheetOfJudged paperOfVerdict tableOfJudged refusedCard
-  said (unread e) = (rw e, rw e)
-  said (passes {f = f} e k) = let n = kept-none (first-breach (docOf t f)) k in (rw (e, n), rw (e, n))
-  said (breaks-first {f = f} {row = row} e h) =
-      let n = first-found (first-breach (docOf t f)) h in
-      (rw (e, n) (sym (fault-number (getD (startsOf f) row 0) (h .broken .broken))), rw (e, n))
+  said (unread u) = let e = unreadable-bad L words t u in (rw e, rw e)
+  said (passes {f = f} c) = let e = kept-passed (readable-good L words t f (c .readable)) (card-keeps f c) in (rw e, rw e)
+  said (offends {number = n} o) =
+      let f = o .tree in
+      let e = readable-good L words t f (o .readable) in
+      let h = subst (λ (d : Doc). FirstBreach d (o .row) n) (read-documents f (o .readable) (o .document) .0 (o .says)) (o .first) in
+      let b = first-found (first-breach (docOf t f)) h in
+      let at-place : getD (startsOf f) (o .row) 0 ≡ o .offender .from =
+      ap (λ (i : ℕ). getD (startsOf f) i 0) (sym (o .on-row)) ∙ value-start f (o .stands) in
+      let p = fault-number (getD (startsOf f) (o .row) 0) (h .broken .broken) in
+      (rw (e, b, p) (ap (λ (k : ℕ). numbers n k 0) (o .place ∙ sym at-place)), rw (e, b))
 
   -- ---- the row of a refusal
 
@@ -192,7 +242,7 @@ judging = record {
   first = λ d row n. (found-first (first-breach d), first-found (first-breach d));
   accepted = λ L words t f. (passed-kept L words t (judged L words t) refl, λ h. kept-passed L words t (h .1) (h .2));
   answer = λ L words t p table. (
-    λ h. subst₂ (Says L words t) (sym (h .0)) (sym (h .1)) (sayings L words t (judged L words t) refl),
+    λ h. subst₂ (CardAnswer L words t) (sym (h .0)) (sym (h .1)) (sayings L words t (judged L words t) refl),
     said L words t,
   );
   place = λ L words t f to row number e h. its-row L words t e h;

@@ -1,4 +1,4 @@
--- Which kind of JSON value each type asks (refusal 11), type by type and not by a test.
+-- Which kind of JSON value each type asks (refusal 11; docs/RULES.md, 5.3 and 5.4), type by type and not by a test.
 -- Kinds: 1 null, 2 false, 3 true, 4 number, 5 string, 6 array, 7 object. Null suits no listed type.
 -- Assumes nothing: these are definitions.
 use Prim.Native.Nat.{ℕ}
@@ -8,21 +8,34 @@ use mathlib.Core.List.{List·Memᴰ as In}
 use Rattle.laws.specs.Each.{Each}
 use Rattle.text.specs.Text.{bytes}
 use Rattle.text.specs.Doc.{Name}
-use Rattle.contact.specs.Schema.{ObjectType, anyString, exactly, flag, yes, count, time, Keys, Ty, any, simple, objectOf, listOf, mapOf, byType, Known, Rule, properties, namesIn, entriesIn}
+use Rattle.contact.specs.Schema.{ObjectType, SimpleType, anyString, exactly, flag, yes, count, time, Keys, Ty, any, simple, objectOf, listOf, mapOf, byType, Known, Rule, properties, namesIn, entriesIn}
+
+-- what a value may be in JSON that holds no others; null is asked for by no type
+pub data Single : Type 0 where
+  aString aNumber aBoolean : Single
+
+-- and of which kinds it is then
+pub data SingleKind : Single → (kind : ℕ) → Type 0 where
+  string : SingleKind aString 5
+  number : SingleKind aNumber 4
+  off : SingleKind aBoolean 2
+  on : SingleKind aBoolean 3
+
+-- a value of the simple type may be of that kind
+pub data SimpleKind : SimpleType → (kind : ℕ) → Type 0 where
+  any-string : {kind : ℕ} → SingleKind aString kind → SimpleKind anyString kind
+  fixed : {n : Name} {kind : ℕ} → SingleKind aString kind → SimpleKind (exactly n) kind
+  utc : {kind : ℕ} → SingleKind aString kind → SimpleKind time kind
+  integer : {low high kind : ℕ} → SingleKind aNumber kind → SimpleKind (count low high) kind
+  boolean : {kind : ℕ} → SingleKind aBoolean kind → SimpleKind flag kind
+  -- a value of a set, which false only breaks as a value
+  in-set : {kind : ℕ} → SingleKind aBoolean kind → SimpleKind yes kind
 
 -- a value of the type may be of that kind
 pub data Suits : Ty → (kind : ℕ) → Type 0 where
   -- of an unknown property nothing is asked
   unknown : {kind : ℕ} → Suits any kind
-  string : Suits (simple anyString) 5
-  fixed : {n : Name} → Suits (simple (exactly n)) 5
-  utc : Suits (simple time) 5
-  integer : {low high : ℕ} → Suits (simple (count low high)) 4
-  -- a Boolean, and a value of a set, which false only breaks as a value
-  off : Suits (simple flag) 2
-  on : Suits (simple flag) 3
-  left-out : Suits (simple yes) 2
-  taken-in : Suits (simple yes) 3
+  single : {l : SimpleType} {kind : ℕ} → SimpleKind l kind → Suits (simple l) kind
   list : {ty : Ty} → Suits (listOf ty) 6
   typed : {o : ObjectType} → Suits (objectOf o) 7
   map : {keys : Keys} {ty : Ty} → Suits (mapOf keys ty) 7

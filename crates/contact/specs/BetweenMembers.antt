@@ -1,4 +1,4 @@
--- The rules between members (refusal 14): how an object breaks one, by what the rule says and not by a test.
+-- The rules between members (refusal 14; docs/RULES.md, 5.6): how an object breaks one, by what the rule says and not by a test.
 -- Assumes nothing: these are definitions.
 use Prim.Native.Nat.{ℕ}
 use Prim.Native.String.{String}
@@ -7,17 +7,21 @@ use mathlib.Core.List.{List, [], _∷_, List·Memᴰ as In}
 use Rattle.laws.specs.Each.{Each, Some, Neighbours}
 use Rattle.text.specs.Text.{bytes}
 use Rattle.text.specs.Strings.{contentOf}
-use Rattle.text.specs.Doc.{Name, Doc, scalar, object, Members, empty, member, kindOf, below}
+use Rattle.text.specs.Doc.{Name, Doc, scalar, object, Members, empty, member, Property, property, kindOf, childrenOf}
 use Rattle.contact.specs.Schema.{ObjectType, Rule, oneOf, needs, needsString, needsTrue, rulesOf}
 use Rattle.contact.specs.Schema as S
 use Rattle.contact.specs.AskedKinds.{Tabled}
 
 -- ---- members
 
--- the member of a name; reading sees to it that no other has the name, and where one has, the first is meant
-pub data HasMember : Members → Name → Doc → Type 0 where
-  here : {n : Name} {label : List ℕ} {d : Doc} {ms : Members} → HasMember (member n label d ms) n d
-  later : {m n : Name} {label : List ℕ} {d e : Doc} {ms : Members} → ¬ (m ≡ n) → HasMember ms n d → HasMember (member m label e ms) n d
+-- the member of a name, by its name as written and its value; reading sees to it that no other has the name, and where one has, the first is meant
+pub data HasProperty : Members → Name → Property → Type 0 where
+  here : {n : Name} {label : List ℕ} {d : Doc} {ms : Members} → HasProperty (member n label d ms) n (property label d)
+  later : {m n : Name} {label : List ℕ} {d : Doc} {s : Property} {ms : Members} → ¬ (m ≡ n) → HasProperty ms n s → HasProperty (member m label d ms) n s
+
+-- the same by its value, however its name is written
+abbrev pub HasMember : Members → Name → Doc → Type 0
+HasMember ms n d = (label : List ℕ) × HasProperty ms n (property label d)
 
 -- a member that counts: the table has it, and its kind is the one that the table asks, for a member of the wrong kind counts as absent
 pub record Counts (o : ObjectType) (ms : Members) (n : String) (d : Doc) : Type 0 where
@@ -61,13 +65,13 @@ pub data Broken (o : ObjectType) (ms : Members) : Rule → Type 0 where
   -- the first is there, and the other isn't true
   not-so : {n m : String} {d : Doc} → Counts o ms n d → Untrue o ms m → Broken o ms (needsTrue n m)
   -- two separator entries stand in a row
-  in-a-row : {n order : String} {entry : ObjectType} {list : Doc} → Counts o ms n list → Neighbours (Separator entry) (elements (below list))
+  in-a-row : {n order : String} {entry : ObjectType} {list : Doc} → Counts o ms n list → Neighbours (Separator entry) (elements (childrenOf list))
       → Broken o ms (S.separators n order entry)
   -- there is a separator entry, and what orders the list isn't true
-  unordered : {n order : String} {entry : ObjectType} {list : Doc} → Counts o ms n list → Some (Separator entry) (elements (below list))
+  unordered : {n order : String} {entry : ObjectType} {list : Doc} → Counts o ms n list → Some (Separator entry) (elements (childrenOf list))
       → Untrue o ms order → Broken o ms (S.separators n order entry)
   -- a list is there, and has no entry that isn't a separator
-  only-separators : {n : String} {entry : ObjectType} {list : Doc} → Counts o ms n list → Each (Separator entry) (elements (below list))
+  only-separators : {n : String} {entry : ObjectType} {list : Doc} → Counts o ms n list → Each (Separator entry) (elements (childrenOf list))
       → Broken o ms (S.notOnly n entry)
 
 -- a rule of the type is broken

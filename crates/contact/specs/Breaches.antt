@@ -1,14 +1,14 @@
 -- What the refusal sheet says of a card, value by value: which values of a card stand where a type is asked, on which rows, and what each of them
 -- breaks by itself. No search and no order stands here but in `FirstBreach`, at the end.
--- Assumes nothing: these are definitions.
+-- docs/RULES.md, 5.1 and 5.2. Assumes nothing: these are definitions.
 use Prim.Native.Nat.{ℕ, _+_, _≤_}
 use mathlib.Core.Path.{_≡_}
 use mathlib.Core.Bool.{true}
 use mathlib.Core.List.{List, [], _∷_, List·Memᴰ as In}
 use Rattle.text.specs.Text.{bytes}
 use Rattle.text.specs.Strings.{contentOf}
-use Rattle.text.specs.Doc.{Name, Doc, scalar, array, object, Members, empty, member, kindOf, tokenOf, below, countOf}
-use Rattle.contact.specs.Schema.{ObjectType, exactly, yes, count, time, Keys, ids, Ty, simple, objectOf, any, listOf, mapOf, byType, SimpleType, card, Known, properties, ownName}
+use Rattle.text.specs.Doc.{Name, Doc, scalar, array, object, Members, empty, member, kindOf, tokenOf, childrenOf, countOf}
+use Rattle.contact.specs.Schema.{ObjectType, exactly, yes, count, time, Keys, ids, Key, Ty, simple, objectOf, any, listOf, mapOf, byType, SimpleType, card, Known, properties, ownName}
 use Rattle.contact.specs.SimpleValues.{Id, UnsignedInt, UTCDateTime}
 use Rattle.contact.specs.AskedKinds.{Suits}
 use Rattle.contact.specs.BetweenMembers.{HasMember, IsString, BreaksBetween}
@@ -23,10 +23,10 @@ pub data Sees : Doc → (kind : ℕ) → (token : List ℕ) → Members → Type
 
 -- ---- where types are asked
 
--- what a value stands under: in a map its key, with the keys before it, the nearest first; elsewhere nothing that is judged
+-- what a value stands under: in a map its key; elsewhere nothing that is judged
 pub data Under : Type 0 where
   unkeyed : Under
-  key : Keys → (earlier : List Name) → Name → Under
+  key : Keys → Key → Under
 
 -- an object whose `@type` is the own name of that type
 pub data IsOf (o : ObjectType) : Doc → Type 0 where
@@ -42,27 +42,27 @@ pub data Chooses : Ty → Doc → Ty → Type 0 where
   special-one : {usual special : ObjectType} {d : Doc} → IsOf special d → Chooses (byType usual special) d (objectOf special)
   usual-one : {usual special : ObjectType} {d : Doc} → ¬ IsOf special d → Chooses (byType usual special) d (objectOf usual)
 
--- the type of a value that stands below a value of a type, by its name there and by itself; unknown properties have none
-pub data Gives : Ty → (earlier : List Name) → Name → Doc → Ty → Under → Type 0 where
-  of-object : {k : Known} {earlier : List Name} {o : ObjectType} {d : Doc} {ty : Ty} → In k (properties o) → Chooses (k .type) d ty
-      → Gives (objectOf o) earlier (k .spelling) d ty unkeyed
-  of-list : {ty ty′ : Ty} {earlier : List Name} {n : Name} {d : Doc} → Chooses ty d ty′ → Gives (listOf ty) earlier n d ty′ unkeyed
-  of-map : {keys : Keys} {ty ty′ : Ty} {earlier : List Name} {n : Name} {d : Doc} → Chooses ty d ty′
-      → Gives (mapOf keys ty) earlier n d ty′ (key keys earlier n)
+-- the type of a value that stands below a value of a type, by its key there and by itself; unknown properties have none
+pub data Gives : Ty → Key → Doc → Ty → Under → Type 0 where
+  of-object : {known : Known} {k : Key} {o : ObjectType} {d : Doc} {ty : Ty} → In known (properties o) → known .spelling ≡ k .name
+      → Chooses (known .type) d ty → Gives (objectOf o) k d ty unkeyed
+  of-list : {ty ty′ : Ty} {k : Key} {d : Doc} → Chooses ty d ty′ → Gives (listOf ty) k d ty′ unkeyed
+  of-map : {keys : Keys} {ty ty′ : Ty} {k : Key} {d : Doc} → Chooses ty d ty′ → Gives (mapOf keys ty) k d ty′ (key keys k)
 
--- Among members, after some whose names are `passed`, stands a value under a name. So many values stand between the first of the members and it,
--- those inside others too; and `earlier` are all names before its own.
-pub data Among : (passed : List Name) → Members → (between : ℕ) → (earlier : List Name) → Name → Doc → Type 0 where
-  first : {passed : List Name} {n : Name} {label : List ℕ} {d : Doc} {ms : Members} → Among passed (member n label d ms) 0 passed n d
-  later : {passed earlier : List Name} {m n : Name} {label : List ℕ} {d e : Doc} {ms : Members} {k : ℕ}
-      → Among (m ∷ passed) ms k earlier n d → Among passed (member m label e ms) (countOf e + k) earlier n d
+-- Among members, after some whose names are `passed`, stands a value under a key. So many values stand between the first of the members and it,
+-- those inside others too.
+pub data Among : (passed : List Name) → Members → (between : ℕ) → Key → Doc → Type 0 where
+  first : {passed : List Name} {n : Name} {label : List ℕ} {d : Doc} {ms : Members}
+      → Among passed (member n label d ms) 0 (record { name = n; before = passed }) d
+  later : {passed : List Name} {m : Name} {k : Key} {label : List ℕ} {d e : Doc} {ms : Members} {between : ℕ}
+      → Among (m ∷ passed) ms between k d → Among passed (member m label e ms) (countOf e + between) k d
 
 -- In a card stands, on a row, a value of which a type is asked. Rows are counted parents first, in the order of the text. A value of the wrong kind
 -- isn't entered.
 pub data At (whole : Doc) : (row : ℕ) → Ty → Under → Doc → Type 0 where
   root : At whole 0 (objectOf card) unkeyed whole
-  inside : {row k : ℕ} {ty ty′ : Ty} {u u′ : Under} {v d : Doc} {earlier : List Name} {n : Name}
-      → At whole row ty u v → Suits ty (kindOf v) → Among [] (below v) k earlier n d → Gives ty earlier n d ty′ u′ → At whole (row + 1 + k) ty′ u′ d
+  inside : {row between : ℕ} {ty ty′ : Ty} {u u′ : Under} {v d : Doc} {k : Key}
+      → At whole row ty u v → Suits ty (kindOf v) → Among [] (childrenOf v) between k d → Gives ty k d ty′ u′ → At whole (row + 1 + between) ty′ u′ d
 
 -- ---- what a value breaks
 
@@ -80,7 +80,7 @@ pub data Unallowed : Ty → Doc → Type 0 where
 
 -- 13: a key that isn't allowed
 pub data UnallowedKey : Under → Type 0 where
-  no-id : {earlier : List Name} {n : Name} → ¬ Id n → UnallowedKey (key ids earlier n)
+  no-id : {k : Key} → ¬ Id (k .name) → UnallowedKey (key ids k)
 
 -- 14: a rule between its members is broken
 pub data Unruly : Ty → Members → Type 0 where
@@ -89,10 +89,10 @@ pub data Unruly : Ty → Members → Type 0 where
 -- the sheet's lines 11 to 14, of a value under a key, where a type is asked; a value of the wrong kind breaks 11 alone
 pub data BreaksLine : (number : ℕ) → Ty → Under → Doc → Type 0 where
   kind : {ty : Ty} {u : Under} {v : Doc} → ¬ Suits ty (kindOf v) → BreaksLine 11 ty u v
-  missing : {ty : Ty} {u : Under} {v : Doc} → Suits ty (kindOf v) → Lacks ty (below v) → BreaksLine 12 ty u v
+  missing : {ty : Ty} {u : Under} {v : Doc} → Suits ty (kindOf v) → Lacks ty (childrenOf v) → BreaksLine 12 ty u v
   value : {ty : Ty} {u : Under} {v : Doc} → Suits ty (kindOf v) → Unallowed ty v → BreaksLine 13 ty u v
   badly-keyed : {ty : Ty} {u : Under} {v : Doc} → Suits ty (kindOf v) → UnallowedKey u → BreaksLine 13 ty u v
-  rule : {ty : Ty} {u : Under} {v : Doc} → Suits ty (kindOf v) → Unruly ty (below v) → BreaksLine 14 ty u v
+  rule : {ty : Ty} {u : Under} {v : Doc} → Suits ty (kindOf v) → Unruly ty (childrenOf v) → BreaksLine 14 ty u v
 
 -- ---- what a card breaks
 

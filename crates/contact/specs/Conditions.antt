@@ -1,24 +1,24 @@
--- The conditions 21 to 28 of the refusal sheet, each by itself: 22 to 26 in words; 27 and 28 of the text that the definitions write (`applied`,
--- `written`), which fields `would-be` and `judged-again` of specs/Demands.antt tie to words. 22 to 28 are about a document and the members of a PatchObject that is to
+-- The conditions 21 to 28 of the refusal sheet, each by itself and in words. 22 to 28 are about a document and the members of a PatchObject that is to
 -- patch it (`BrokenPatch`). 22 to 26 name the key that breaks them (`BreaksWith`); a key counts by the pointer that it writes, so one with a loose `~`
--- breaks 22 alone. 27 and 28 speak of the text that would be written. Of a card and a language (`BrokenCondition`) the document is the card without its
--- localizations (`LeftOutOf`), and the PatchObject is the one that is found, which is the one that the card has (`PatchUnder`); if there is none, that
--- is 21. The answer is the broken condition of smallest number, of 22 to 26 for the smallest key (proofs/Patching/Refused.antt).
+-- breaks 22 alone. 27 and 28 speak of the text that would be written: which one that is the definitions say (`applied`, `written`), and field `would-be`
+-- of specs/Demands.antt ties it to words. Of a card and a language (`BrokenCondition`) the document is the card without its localizations (`LeftOutOf`),
+-- and the PatchObject is the one that is found, which is the one that the card has (`PatchUnder`); if there is none, that is 21. The answer is the
+-- broken condition of smallest number, of 22 to 26 for the smallest key (proofs/Patching/Refused.antt).
 -- Assumes nothing: these are definitions.
 use Prim.Native.Nat.{ℕ, _≤_, _<_}
 use mathlib.Core.Path.{_≡_}
 use mathlib.Core.Logic.{_⊎_, _≢_}
 use mathlib.Core.List.{List, [], _∷_, _++_}
-use mathlib.Core.Option.{none, some}
+use mathlib.Core.Option.{some}
 use lib.ListN.{length}
 use Rattle.laws.specs.Order.{Earlier}
 use Rattle.text.specs.Limits.{Limits}
 use Rattle.text.specs.Text.{bytes}
-use Rattle.text.specs.Doc.{Name, Doc, scalar, array, object, Members, empty, member, Property, property, seek}
+use Rattle.text.specs.Doc.{Name, Doc, scalar, array, object, Members, empty, member, Property, property}
 use Rattle.text.specs.Writing.{written}
-use Rattle.contact.specs.BetweenMembers.{HasMember}
+use Rattle.contact.specs.BetweenMembers.{HasProperty, HasMember}
 use Rattle.contact.specs.Verdict.{refusedCard}
-use Rattle.contact.specs.Judging.{Says}
+use Rattle.contact.specs.Judging.{CardAnswer}
 use Rattle.contact.specs.Pointer.{Pointer, last, parts, find}
 use Rattle.contact.specs.PointerText.{PointerText}
 use Rattle.contact.specs.Patch.{entriesOf, applied}
@@ -56,13 +56,17 @@ TwoKeys key other ms = HasKeys key other ms ⊎ HasKeys other key ms
 -- the names lead from the one value, through objects, to the other
 pub data Leads : List Name → Doc → Doc → Type 0 where
   here : {d : Doc} → Leads [] d d
-  into : {n : Name} {ns : List Name} {ms : Members} {s : Property} {x : Doc} → seek n ms ≡ some s → Leads ns (s .content) x → Leads (n ∷ ns) (object ms) x
+  into : {n : Name} {ns : List Name} {ms : Members} {d x : Doc} → HasMember ms n d → Leads ns d x → Leads (n ∷ ns) (object ms) x
 
 -- the pointer, from the value d, reaches the value x while the part n and then the parts `left` are left: so n is its last part if nothing is left
 pub record Reaches (p : Pointer) (d x : Doc) (n : Name) (left : List Name) : Type 0 where
   pub way : List Name
   pub split : parts p ≡ way ++ (n ∷ left)
   pub leads : Leads way d x
+
+-- it points at a property: it reaches an object with nothing left but its last part, and that is the property's name there
+pub data PointsAt (p : Pointer) (d : Doc) : Property → Type 0 where
+  at-last : {ms : Members} {n : Name} {s : Property} → Reaches p d (object ms) n [] → HasProperty ms n s → PointsAt p d s
 
 -- it goes inside an array: it reaches one, with a part left
 pub data EntersArray (p : Pointer) (d : Doc) : Type 0 where
@@ -72,7 +76,7 @@ pub data EntersArray (p : Pointer) (d : Doc) : Type 0 where
 -- part which is not the last
 pub data LosesWay (p : Pointer) (d : Doc) : Type 0 where
   atScalar : {kind : ℕ} {token : List ℕ} {n : Name} {left : List Name} → Reaches p d (scalar kind token) n left → LosesWay p d
-  noMember : {ms : Members} {n m : Name} {left : List Name} → Reaches p d (object ms) n (m ∷ left) → seek n ms ≡ none → LosesWay p d
+  noMember : {ms : Members} {n m : Name} {left : List Name} → Reaches p d (object ms) n (m ∷ left) → ((e : Doc) → ¬ HasMember ms n e) → LosesWay p d
 
 -- ---- 22 to 26: a document, and the members of the PatchObject that is to patch it
 
@@ -134,8 +138,8 @@ module _ (L : Limits) (words room : ℕ) where
   pub data BrokenPatch (d : Doc) (ms : Members) : ℕ → LocalRefusal → Type 0 where
     withKey : {number : ℕ} {key : Name} → BreaksWith d ms number key → BrokenPatch d ms number (keyRefusal number key)
     short : room < length (written (applied d (entriesOf ms))) → BrokenPatch d ms 27 (Short (length (written (applied d (entriesOf ms)))))
-    -- what would be written is no card: by reading's refusal, or by the first rule that it breaks (`Says`, specs/Judging.antt)
-    unfit : {r : CardRefusal} {table : List ℕ} → Says L words (written (applied d (entriesOf ms))) (refusedCard r) table → BrokenPatch d ms 28 (Inner r)
+    -- what would be written is no card: for its first fault as a text, or for the first rule that it breaks (`CardAnswer`, specs/Judging.antt)
+    unfit : {r : CardRefusal} {table : List ℕ} → CardAnswer L words (written (applied d (entriesOf ms))) (refusedCard r) table → BrokenPatch d ms 28 (Inner r)
 
   -- 21 to 28, of a card and a language
   pub data BrokenCondition (card : Doc) (lang : Name) : ℕ → LocalRefusal → Type 0 where

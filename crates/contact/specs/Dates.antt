@@ -1,4 +1,4 @@
--- UTCDateTime: RFC 3339 as 01 narrows it, over decoded bytes: 2010-10-10T10:10:10Z.
+-- UTCDateTime: RFC 3339 as docs/RULES.md, 5.3, narrows it, over decoded bytes: 2010-10-10T10:10:10Z.
 -- Assumes nothing: these are definitions.
 use Prim.Native.Nat.{ℕ, _+_, _-_, _*_, _%_}
 use mathlib.Core.List.{List, [], _∷_}

@@ -11,33 +11,34 @@ use mathlib.Core.Path.{_≡_}
 use mathlib.Core.Bool.{true}
 use mathlib.Core.Logic.{_⊎_, _↔_}
 use mathlib.Core.List.{List, [], _++_}
+use mathlib.Core.Option.{some}
 use lib.ListN.{length, replicate}
 use Rattle.laws.specs.Lists.{filled}
 use Rattle.laws.specs.Order.{before, Earlier}
 use Rattle.text.specs.Limits.{Limits, rowWords}
 use Rattle.text.specs.Text.{bytes, Codes}
 use Rattle.text.specs.Tree.{Forest, size, treeRows}
-use Rattle.text.specs.Seats.{Head, leafHead, Seat, top, Sits}
+use Rattle.text.specs.Seats.{Head, Seat, top, Sits}
 use Rattle.text.specs.Standing.{RowAt}
 use Rattle.text.specs.Sheet.{numbers}
 use Rattle.text.specs.Utf8.{utf8, Utf8}
 use Rattle.text.specs.Whole.{Reads}
-use Rattle.text.specs.Doc.{Name, Doc, scalar, array, object, Members, docOf, kindOf, tokenOf, below, countOf, countAll}
+use Rattle.text.specs.Doc.{Name, Doc, Members, Property, docOf, kindOf, tokenOf, childrenOf, countOf}
 use Rattle.text.specs.Grammar.{JsonText, rootOf}
-use Rattle.text.specs.Telling.{Stretch, Tells}
-use Rattle.text.specs.Meaning.{Accepts}
-use Rattle.text.specs.Fault.{FirstFault}
+use Rattle.text.specs.Telling.{Tells}
+use Rattle.text.specs.Meaning.{Accepts, Readable}
+use Rattle.text.specs.Fault.{FirstFault, RowsShort}
 use Rattle.text.specs.Promised.{Filled}
 use Rattle.text.specs.Writing.{written, spelled, SpelledName}
 use Rattle.text.specs.declared.Reading.{Reading}
-use Rattle.contact.specs.Pointer.{Pointer, pointerOf}
+use Rattle.contact.specs.Pointer.{Pointer, pointerOf, find}
 use Rattle.contact.specs.PointerText.{PointerText}
 use Rattle.contact.specs.Patch.{Entry}
 use Rattle.contact.specs.Localize.{start, patchedDoc}
 use Rattle.contact.specs.Signatures.{AsSigned}
-use Rattle.contact.specs.Breaches.{Sees, Keeps, FirstBreach}
-use Rattle.contact.specs.Judging.{Judges}
-use Rattle.contact.specs.Conditions.{LooseTilde, PatchOf, PatchUnder, SecondNumber, BrokenCondition, Applicable, FirstBroken, Smallest}
+use Rattle.contact.specs.Breaches.{Sees}
+use Rattle.contact.specs.Judging.{CardText, Offends, Judges}
+use Rattle.contact.specs.Conditions.{LooseTilde, PointsAt, PatchOf, PatchUnder, SecondNumber, BrokenCondition, Applicable, FirstBroken, Smallest}
 use Rattle.contact.specs.Entries.{Asked}
 use Rattle.contact.specs.Patching.{OrderOnly, PatchedCard, WrittenCard}
 use Rattle.contact.specs.Contract.{Localizes}
@@ -85,50 +86,6 @@ pub record EveryCall (L : Limits) (serve : Call → Left) : Type 0 where
 
 -- ---- demand 2: reading and judging
 
--- t is a JSON text that keeps I-JSON's rules within the limits, f is its tree, and a table of so many words has rows enough
-pub record Readable (L : Limits) (words : ℕ) (t : List ℕ) (f : Forest) : Type 0 where
-  pub accepts : Accepts L t f
-  pub enough : rowWords * size f ≤ words
-
--- the same, and the document that it says keeps the listed rules
-pub record CardText (L : Limits) (words : ℕ) (t : List ℕ) (f : Forest) : Type 0 where
-  pub readable : Readable L words t f
-  pub document : Doc
-  pub says : Tells t f document
-  pub keeps : Keeps document
-
--- t would be accepted, but it has n values, and a table of so many words has fewer whole rows
-pub record RowsShort (L : Limits) (words : ℕ) (t : List ℕ) (n : ℕ) : Type 0 where
-  pub tree : Forest
-  pub accepts : Accepts L t tree
-  pub short : words < rowWords * size tree
-  pub needed : n ≡ size tree
-
--- the value of a row is this one: the row's places hold its token and its kind is the token's, or the row is that of an array (6) or an object (7) of
--- so many values
-pub data Shows (t : List ℕ) : Head → Doc → Type 0 where
-  token : {kind ns ne from to : ℕ} {w : List ℕ} → Stretch t from to w → Shows t (leafHead kind ns ne from to) (scalar kind w)
-  list : {ns ne from to : ℕ} {ms : Members}
-      → Shows t (record { holds = true; kind = 6; ns = ns; ne = ne; from = from; to = to; below = countAll ms }) (array ms)
-  box : {ns ne from to : ℕ} {ms : Members}
-      → Shows t (record { holds = true; kind = 7; ns = ns; ne = ne; from = from; to = to; below = countAll ms }) (object ms)
-
--- t is read, the rule of number n is the first that the document that it says breaks, on some row; on that row of the text stands the value that breaks
--- it, and p is where that value starts
-pub record Offends (L : Limits) (words : ℕ) (t : List ℕ) (n p : ℕ) : Type 0 where
-  pub tree : Forest
-  pub readable : Readable L words t tree
-  pub document : Doc
-  pub says : Tells t tree document
-  pub row : ℕ
-  pub first : FirstBreach document row n
-  pub seat : Seat
-  pub offender : Head
-  pub stands : Sits top tree seat offender
-  pub on-row : seat .after ≡ row
-  pub shows : Shows t offender (first .broken .value)
-  pub place : p ≡ offender .from
-
 -- demand 2, of reading and judging a text
 pub record ReadingAndJudging (L : Limits) (serve : Call → Left) : Type 0 where
   -- reading accepts exactly the JSON texts that keep I-JSON's rules, within the limits and given rows enough
@@ -165,7 +122,7 @@ pub record ReadingAndJudging (L : Limits) (serve : Call → Left) : Type 0 where
   pub offends : (t : List ℕ) (words n p : ℕ) → Passes serve (read t words) → 0 < n
       → (serve (judge t words) .answer ≡ numbers n p 0) ↔ Offends L words t n p
   -- what the rules see of a value: its kind, its token and its members are what they are called
-  pub seen : (v : Doc) → Sees v (kindOf v) (tokenOf v) (below v)
+  pub seen : (v : Doc) → Sees v (kindOf v) (tokenOf v) (childrenOf v)
   -- a quoted text, as the fixed spellings are, stands for the codes of its characters
   pub letters : (s : String) → Codes s (bytes s)
   -- what types and properties the rules are about: the table is what the signatures of RFC 9553 say. Which rules between members a type has is data
@@ -253,6 +210,8 @@ pub record Localizing (L : Limits) (serve : Call → Left) : Type 0 where
   pub keys : (key : Name) (p : Pointer) → PointerText key p ↔ ((¬ LooseTilde key) × (p ≡ pointerOf key))
   -- so a PatchObject asks for one list of entries: those that a patched card (`Patched`) is about
   pub asking : (ms : Members) (es fs : List Entry) → Asked ms es → Asked ms fs → es ≡ fs
+  -- what a pointer finds, in the card and in the patched one, is the property that it points at: all parts but the last lead through objects
+  pub finding : (p : Pointer) (d : Doc) (s : Property) → (find p d ≡ some s) ↔ PointsAt p d s
   -- added members stand in the order of the bytes of their names, a name before those that it begins
   pub byte-order : (n m : Name) → (before n m ≡ true) ↔ Earlier n m
   -- the name of an added member is escaped only where RFC 8259 demands it, by the short escape if there is one, else by \u00 and two small digits

@@ -8,8 +8,9 @@ use mathlib.Core.Bool.{true}
 use mathlib.Core.List.{List, [], _∷_, _++_}
 use mathlib.Core.Option.{Option, none, some}
 use Rattle.laws.specs.Order.{before}
-use Rattle.text.specs.Doc.{Name, Doc, scalar, object, Members, empty, member, Property, property, seek, kindOf}
+use Rattle.text.specs.Doc.{Name, Doc, scalar, object, Members, empty, member, Property, property, kindOf}
 use Rattle.text.specs.Writing.{spelled}
+use Rattle.contact.specs.BetweenMembers.{HasMember}
 use Rattle.contact.specs.Pointer.{Pointer, last, down, parts, find}
 use Rattle.contact.specs.PointerText.{PointerText}
 use Rattle.contact.specs.Patch.{Change, remove, set, Entry, entry, arrives, walk}
@@ -100,21 +101,21 @@ pub data Shuffled : Members → Members → Type 0 where
 -- ---- ascending byte order of decoded names
 
 -- the name comes before each of these
-abbrev pub Above : Name → Members → Type 0
-Above n empty = Unit {0}
-Above n (member m label d ms) = (before n m ≡ true) × Above n ms
+abbrev pub BeforeAll : Name → Members → Type 0
+BeforeAll n empty = Unit {0}
+BeforeAll n (member m label d ms) = (before n m ≡ true) × BeforeAll n ms
 
 -- each name comes before those that follow it
 abbrev pub Ascending : Members → Type 0
 Ascending empty = Unit {0}
-Ascending (member n label d ms) = Above n ms × Ascending ms
+Ascending (member n label d ms) = BeforeAll n ms × Ascending ms
 
 -- ---- where members stand
 
 -- added members: none of them was in the object, and each has its shortest spelling
 abbrev pub New : Members → Members → Type 0
 New all empty = Unit {0}
-New all (member n label d ns) = (seek n all ≡ none) × (label ≡ spelled n) × New all ns
+New all (member n label d ns) = ((e : Doc) → ¬ HasMember all n e) × (label ≡ spelled n) × New all ns
 
 -- The members of an object as they were and as they are: one that stays keeps its place and its name as written, whatever its value; those that
 -- were added follow, in ascending order of name. `all` are the members of the object as it was.

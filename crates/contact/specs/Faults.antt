@@ -1,5 +1,5 @@
 -- What the conditions 22 to 26 find in a PatchObject on the document that it patches: the smallest number that is broken, and of the keys that break it
--- the smallest in byte order. In words: `FirstBroken` (specs/Conditions.antt).
+-- the smallest in byte order. In words: `FirstBroken` (specs/Conditions.antt); docs/RULES.md, 6.4.
 -- Assumes nothing: these are definitions.
 use Prim.Native.Nat.{ℕ}
 use mathlib.Core.Bool.{Bool, cond}
@@ -17,11 +17,11 @@ pub data PatchFault : Type 0 where
 
 -- ---- the smallest key
 
--- the key that comes first, of none, one or two
-abbrev pub earlier : Option Name → Option Name → Option Name
-earlier none b = b
-earlier (some a) none = some a
-earlier (some a) (some b) = cond (before b a) (some b) (some a)
+-- the key that is smaller in byte order, of none, one or two
+abbrev pub smallerKey : Option Name → Option Name → Option Name
+smallerKey none b = b
+smallerKey (some a) none = some a
+smallerKey (some a) (some b) = cond (before b a) (some b) (some a)
 
 -- the key, if the test is true
 abbrev pub keyIf : Bool → Name → Option Name
@@ -30,18 +30,18 @@ keyIf b key = cond b (some key) none
 -- of the keys of which the test is true
 abbrev pub leastKey : (Name → Bool) → Members → Option Name
 leastKey f empty = none
-leastKey f (member key label d ms) = earlier (keyIf (f key) key) (leastKey f ms)
+leastKey f (member key label d ms) = smallerKey (keyIf (f key) key) (leastKey f ms)
 
 -- of a key and those that clash with it, if there are any
 abbrev pub withOthers : Name → Option Name → Option Name
 withOthers key none = none
-withOthers key (some other) = earlier (some key) (some other)
+withOthers key (some other) = smallerKey (some key) (some other)
 
 -- of the keys that clash with another: the first and those that clash with it, and those that clash behind it
 abbrev pub leastClash : Members → Option Name
 leastClash empty = none
 leastClash (member key label d ms) =
-    earlier (withOthers key (leastKey (λ other. clash (pointerOf key) (pointerOf other)) ms)) (leastClash ms)
+    smallerKey (withOthers key (leastKey (λ other. clash (pointerOf key) (pointerOf other)) ms)) (leastClash ms)
 
 -- ---- the smallest number
 

@@ -1,4 +1,4 @@
--- The verdict on a document, by the one table of types: the first breach in the order of the rows, and on one row the smallest number.
+-- The verdict on a document (docs/RULES.md, 5.2), by the one table of types: the first breach in the order of the rows, and on one row the smallest number.
 -- Nothing here speaks of places, so a card that is written nowhere can be judged too.
 -- Assumes nothing: these are definitions.
 use Prim.Native.Nat.{ℕ, zero, suc, _+_}
@@ -8,8 +8,8 @@ use lib.Dec.{eqb}
 use Rattle.laws.specs.Order.{same}
 use Rattle.text.specs.Text.{bytes}
 use Rattle.text.specs.Strings.{contentOf}
-use Rattle.text.specs.Doc.{Name, Doc, scalar, array, object, Members, empty, member, kindOf, tokenOf, below, countOf, seek, isThere}
-use Rattle.contact.specs.Schema.{SimpleType, anyString, exactly, flag, yes, count, time, Keys, free, ids, Ty, any, simple, objectOf, listOf, mapOf, byType, ObjectType, card, Known, properties, ownName, typeIn, fits}
+use Rattle.text.specs.Doc.{Name, Doc, scalar, array, object, Members, empty, member, kindOf, tokenOf, childrenOf, countOf, seek, isThere}
+use Rattle.contact.specs.Schema.{SimpleType, anyString, exactly, flag, yes, count, time, Keys, free, ids, Key, Ty, any, simple, objectOf, listOf, mapOf, byType, ObjectType, card, Known, properties, ownName, typeIn, fits}
 use Rattle.contact.specs.Values.{isId, isCount}
 use Rattle.contact.specs.Dates.{isTime}
 use Rattle.contact.specs.Rules.{hasKind, breaks}
@@ -61,16 +61,16 @@ breaksRule (byType usual special) ms = false
 -- `key` is whether it stands under a key that its map allows: a key that is no Id is 13 on the value's row
 unfoldable pub rowNumber : Ty → (key : Bool) → Doc → ℕ
 rowNumber ty key d =
-    let fine : ℕ = cond (breaksRule ty (below d)) 14 0 in
+    let fine : ℕ = cond (breaksRule ty (childrenOf d)) 14 0 in
     let value : ℕ = cond (key && allowed ty d) fine 13 in
-    let whole : ℕ = cond (lacks ty (below d)) 12 value in
+    let whole : ℕ = cond (lacks ty (childrenOf d)) 12 value in
     cond (fits ty (kindOf d)) whole 11
 
 -- ---- what stands below
 
 -- is it an object whose `@type` is the own name of that type?
 unfoldable pub isOf : ObjectType → Doc → Bool
-isOf o d = let named = hasKind (bytes (ownName o)) (seek (bytes "@type") (below d)) in cond (eqb (kindOf d) 7) named false
+isOf o d = let named = hasKind (bytes (ownName o)) (seek (bytes "@type") (childrenOf d)) in cond (eqb (kindOf d) 7) named false
 
 -- the type that is asked of a value where a type stands: its `@type` may choose it
 abbrev pub chosen : Ty → Doc → Ty
@@ -94,19 +94,19 @@ typeBelow (byType usual special) n = any
 abbrev pub memberType : Ty → Name → Doc → Ty
 memberType ty n d = chosen (typeBelow ty n) d
 
--- is a key allowed? The test has the keys before it too, the nearest first
-abbrev pub keyIn : Keys → (earlier : List Name) → Name → Bool
-keyIn free earlier n = true
-keyIn ids earlier n = isId n
+-- is a key allowed?
+abbrev pub keyIn : Keys → Key → Bool
+keyIn free k = true
+keyIn ids k = isId (k .name)
 
 -- of an entry of a value of a type: only keys of maps are asked; a key that isn't allowed is 13 on the row of its value
-abbrev pub keyFits : Ty → (earlier : List Name) → Name → Bool
-keyFits any earlier n = true
-keyFits (simple l) earlier n = true
-keyFits (objectOf o) earlier n = true
-keyFits (listOf ty) earlier n = true
-keyFits (mapOf keys ty) earlier n = keyIn keys earlier n
-keyFits (byType usual special) earlier n = true
+abbrev pub keyFits : Ty → Key → Bool
+keyFits any k = true
+keyFits (simple l) k = true
+keyFits (objectOf o) k = true
+keyFits (listOf ty) k = true
+keyFits (mapOf keys ty) k = keyIn keys k
+keyFits (byType usual special) k = true
 
 -- ---- the first breach
 
@@ -132,12 +132,12 @@ unfoldable mutual
   breachOf ty key row (array ms) = let inside = breachAmong ty [] (row + 1) ms in onRow (rowNumber ty key (array ms)) row inside
   breachOf ty key row (object ms) = let inside = breachAmong ty [] (row + 1) ms in onRow (rowNumber ty key (object ms)) row inside
 
-  -- the members of a value of a type after those of the earlier names, the first of them on a row
-  pub breachAmong : Ty → (earlier : List Name) → (row : ℕ) → Members → Breach
-  breachAmong ty earlier row empty = nothing
-  breachAmong ty earlier row (member n label d ms) =
-      let after = breachAmong ty (n ∷ earlier) (row + countOf d) ms in
-      orElse (breachOf (memberType ty n d) (keyFits ty earlier n) row d) after
+  -- the members of a value of a type after those whose names are `passed`, the first of them on a row
+  pub breachAmong : Ty → (passed : List Name) → (row : ℕ) → Members → Breach
+  breachAmong ty passed row empty = nothing
+  breachAmong ty passed row (member n label d ms) =
+      let after = breachAmong ty (n ∷ passed) (row + countOf d) ms in
+      orElse (breachOf (memberType ty n d) (keyFits ty (record { name = n; before = passed })) row d) after
 
 -- a whole card
 abbrev pub cardBreach : Doc → Breach

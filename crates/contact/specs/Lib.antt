@@ -1,6 +1,5 @@
--- What a card must keep: the table of types, and each rule in words. In comments 01 is the rules paper.
+-- What a card must keep: the table of types, and each rule in words. In comments 01 is the rules paper, which docs/RULES.md restates.
 pub mod Schema
-pub mod Signatures
 pub mod AskedKinds
 pub mod SimpleValues
 pub mod BetweenMembers
@@ -12,6 +11,8 @@ pub mod Rules
 pub mod Judge
 pub mod Verdict
 pub mod Judging
+-- That the table is what the signatures of RFC 9553 say.
+pub mod Signatures
 -- How a localization is applied, and what localizing answers.
 pub mod Pointer
 pub mod PointerText

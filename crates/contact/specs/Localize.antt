@@ -1,4 +1,4 @@
--- Localizing: from a card text and a language to the localized card in the lent output and its rows in the lent table, or the refusal.
+-- Localizing (docs/RULES.md, 6): from a card text and a language to the localized card in the lent output and its rows in the lent table, or the refusal.
 -- Assumes nothing: these are definitions.
 use Prim.Native.Nat.{ℕ}
 use mathlib.Core.List.{List, []}

@@ -1,5 +1,5 @@
 -- How the entries of a PatchObject change a document: one at a time (`step`), and all at once, as the output is written (`applied`).
--- Assumes nothing: these are definitions.
+-- docs/RULES.md, 6.3, 6.5 and 6.6. Assumes nothing: these are definitions.
 use Prim.Native.Nat.{ℕ}
 use mathlib.Core.List.{List, [], _∷_}
 use mathlib.Core.Bool.{Bool, true, false, cond, _||_}

@@ -1,6 +1,6 @@
 -- What a patched document is, of the document, the members of the PatchObject and the result (`Patched`); what a patched card is (`PatchedCard`), and
 -- what judging makes of a document that is written (`WrittenCard`). proofs/Patching/Together.antt proves them where no key breaks 22 to 26.
--- Assumes nothing: these are definitions.
+-- docs/RULES.md, 6.5 and 6.6. Assumes nothing: these are definitions.
 use Prim.Native.Nat.{ℕ, _+_, _≤_, _<_}
 use mathlib.Core.Path.{_≡_}
 use mathlib.Core.Logic.{_≢_}

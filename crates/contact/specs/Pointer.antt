@@ -1,4 +1,4 @@
--- Pointers: the keys of a PatchObject, decoded (RFC 6901 and RFC 9553, section 1.4.3).
+-- Pointers: the keys of a PatchObject, decoded (RFC 6901 and RFC 9553, section 1.4.3; docs/RULES.md, 6.2).
 -- Assumes nothing: these are definitions.
 use Prim.Native.Nat.{ℕ}
 use mathlib.Core.List.{List, [], _∷_}

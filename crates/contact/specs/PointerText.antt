@@ -1,5 +1,5 @@
 -- How a pointer is written, by rules and not by a reader: its parts with a `/` (47) between two of them, and in a part `~0` (126 48) for `~` and
--- `~1` (126 49) for `/` (RFC 6901, section 3). There is no other way to write it, and `pointerOf` finds what is written
+-- `~1` (126 49) for `/` (RFC 6901, section 3; docs/RULES.md, 6.2). There is no other way to write it, and `pointerOf` finds what is written
 -- (proofs/Patching/Pointers.antt).
 -- Assumes nothing: these are definitions.
 use Prim.Native.Nat.{ℕ}

@@ -1,4 +1,4 @@
--- The rules between members (refusal 14) by tests, one for each shape of rule. A member of the wrong kind counts as absent.
+-- The rules between members (refusal 14; docs/RULES.md, 5.6) by tests, one for each shape of rule. A member of the wrong kind counts as absent.
 -- Assumes nothing: these are definitions.
 use Prim.Native.String.{String}
 use mathlib.Core.List.{List, [], _∷_}
@@ -9,7 +9,7 @@ use Rattle.text.specs.Text.{bytes}
 use Rattle.laws.specs.Order.{same}
 use Rattle.laws.specs.Tests.{anyMark, allMarks, adjacent}
 use Rattle.text.specs.Strings.{contentOf}
-use Rattle.text.specs.Doc.{Name, Doc, Members, empty, member, kindOf, tokenOf, below, Property, seek, isThere}
+use Rattle.text.specs.Doc.{Name, Doc, Members, empty, member, kindOf, tokenOf, childrenOf, Property, seek, isThere}
 use Rattle.contact.specs.Schema.{ObjectType, Ty, Rule, oneOf, needs, needsString, needsTrue, separators, notOnly, properties, rulesOf, typeIn, fits}
 
 -- ---- members that count
@@ -46,7 +46,7 @@ hasKind n (some p) = isString n (p .content)
 
 -- an entry whose `kind` is the String "separator"; an entry without a String `kind` isn't one
 unfoldable pub isSeparator : Doc → Bool
-isSeparator d = let found = hasKind (bytes "separator") (seek (bytes "kind") (below d)) in cond (eqb (kindOf d) 7) found false
+isSeparator d = let found = hasKind (bytes "separator") (seek (bytes "kind") (childrenOf d)) in cond (eqb (kindOf d) 7) found false
 
 -- one mark for each entry of a list: is it a separator?
 unfoldable pub marksOf : Members → List Bool
@@ -56,7 +56,7 @@ marksOf (member n label d ms) = isSeparator d ∷ marksOf ms
 -- the marks of a list; none where there is no list
 abbrev pub marks : Option Doc → List Bool
 marks none = []
-marks (some list) = marksOf (below list)
+marks (some list) = marksOf (childrenOf list)
 
 -- ---- the rules
 

@@ -1,4 +1,4 @@
--- The types of a card and the one table of their known properties and rules (RFC 9553, sections 1 and 2, as 01 lists them).
+-- The types of a card and the one table of their known properties and rules (RFC 9553, sections 1 and 2; docs/RULES.md, 5.4 to 5.6).
 -- A new property is a line here and its signature in Signatures.antt; a new object type is its number, its record in `types` and its signatures.
 -- Assumes nothing: these are definitions.
 use Prim.Native.Nat.{ℕ}
@@ -45,7 +45,8 @@ emailAddress = 5
 abbrev pub phone : ObjectType
 phone = 6
 
--- what a value may be that holds no others
+-- what a value may be that holds no others; a new one has its kinds and values by a test (below, and Judge.antt) and by what they are (AskedKinds.antt,
+-- Breaches.antt)
 pub data SimpleType : Type 0 where
   -- String
   anyString : SimpleType
@@ -63,6 +64,11 @@ pub data SimpleType : Type 0 where
 -- the keys of a map: any, or Ids
 pub data Keys : Type 0 where
   free ids : Keys
+
+-- a key as it stands in its object: its name, and the names before it there, the nearest first
+pub record Key : Type 0 where
+  pub name : Name
+  pub before : List Name
 
 -- what a value is asked to be
 pub data Ty : Type 0 where
@@ -110,8 +116,8 @@ abbrev pub may : String → Ty → Known
 may s ty = record { spelling = bytes s; type = ty; mandatory = false }
 
 -- `@type` of a nested type: if there, it is the type's own name
-abbrev pub own : String → Known
-own s = may "@type" (simple (exactly (bytes s)))
+abbrev pub typeLine : String → Known
+typeLine s = may "@type" (simple (exactly (bytes s)))
 
 -- what Name and Address share, but for the type of `components`
 abbrev pub naming : List Known
@@ -208,18 +214,18 @@ types =
     ∷ record {
       own = "Name";
       known =
-          own "Name"
+          typeLine "Name"
           ∷ may "components" (listOf (objectOf nameComponent))
           ∷ may "sortAs" (mapOf free string)
           ∷ naming;
       rules = oneOf ("full" ∷ "components" ∷ []) ∷ notOnly "components" nameComponent ∷ separated nameComponent;
     }
-    ∷ record { own = "NameComponent"; known = own "NameComponent" ∷ component; rules = [] }
+    ∷ record { own = "NameComponent"; known = typeLine "NameComponent" ∷ component; rules = [] }
     -- an Address may have neither `full` nor `components`, and the entry that isn't a separator isn't asked of it (house ruling)
     ∷ record {
       own = "Address";
       known =
-          own "Address"
+          typeLine "Address"
           ∷ may "components" (listOf (objectOf addressComponent))
           ∷ may "countryCode" string
           ∷ may "coordinates" string
@@ -229,9 +235,9 @@ types =
           ∷ naming;
       rules = separated addressComponent;
     }
-    ∷ record { own = "AddressComponent"; known = own "AddressComponent" ∷ component; rules = [] }
-    ∷ record { own = "EmailAddress"; known = own "EmailAddress" ∷ must "address" string ∷ contact; rules = [] }
-    ∷ record { own = "Phone"; known = own "Phone" ∷ must "number" string ∷ may "features" keySet ∷ contact; rules = [] }
+    ∷ record { own = "AddressComponent"; known = typeLine "AddressComponent" ∷ component; rules = [] }
+    ∷ record { own = "EmailAddress"; known = typeLine "EmailAddress" ∷ must "address" string ∷ contact; rules = [] }
+    ∷ record { own = "Phone"; known = typeLine "Phone" ∷ must "number" string ∷ may "features" keySet ∷ contact; rules = [] }
     ∷ []
 
 -- what stands behind the last one: nothing is known of it

@@ -1,5 +1,5 @@
 -- The known properties of each object type a second time: as signatures in the notation of RFC 9553 (1.3.2 and 1.3.3), written out type by type as its
--- sections 1.5 and 2 give them, of the properties that 01 lists and without their defaults, and a reader of that notation. `AsSigned` says that the table (Schema.antt) is what the signatures say;
+-- sections 1.5 and 2 give them, of the properties that docs/RULES.md, 5.5, lists and without their defaults, and a reader of that notation. `AsSigned` says that the table (Schema.antt) is what the signatures say;
 -- proofs/Judging/Signatures.antt proves it.
 -- Assumes nothing: these are definitions.
 use Prim.Native.Nat.{ℕ, suc}
@@ -86,47 +86,47 @@ signatures =
 -- ---- words
 
 -- a word, and what it stands for
-pub record Word (A : Type 0) : Type 0 where
+pub record WordFor (A : Type 0) : Type 0 where
   pub spelling : String
   pub means : A
 
 -- a word of that spelling
-abbrev pub stands : {A : Type 0} → String → A → Word A
+abbrev pub stands : {A : Type 0} → String → A → WordFor A
 stands s a = record { spelling = s; means = a }
 
 -- the names of the types from a number on, each for its number
-unfoldable pub namesFrom : ObjectType → List TypeRecord → List (Word ObjectType)
+unfoldable pub namesFrom : ObjectType → List TypeRecord → List (WordFor ObjectType)
 namesFrom o [] = []
 namesFrom o (r ∷ rs) = stands (r .own) o ∷ namesFrom (suc o) rs
 
 -- what each object type is called
-abbrev pub objectWords : List (Word ObjectType)
+abbrev pub objectWords : List (WordFor ObjectType)
 objectWords = namesFrom 0 types
 
 -- the types of values by themselves; a PatchObject is a String[*]
-unfoldable pub typeWords : List (Word Ty)
+unfoldable pub typeWords : List (WordFor Ty)
 typeWords =
     stands "String" (simple anyString)
     ∷ stands "Boolean" (simple flag)
     ∷ stands "UnsignedInt" (simple (count 0 9007199254740991))
     ∷ stands "UTCDateTime" (simple time)
     ∷ stands "PatchObject" (mapOf free any)
-    ∷ map (λ (w : Word ObjectType). stands (w .spelling) (objectOf (w .means))) objectWords
+    ∷ map (λ (w : WordFor ObjectType). stands (w .spelling) (objectOf (w .means))) objectWords
 
 -- those of the values of an object: a Boolean there is true, as the RFC says of each String[Boolean] above
-abbrev pub valueWords : List (Word Ty)
+abbrev pub valueWords : List (WordFor Ty)
 valueWords = stands "Boolean" (simple yes) ∷ typeWords
 
 -- the types of keys
-abbrev pub keyWords : List (Word Keys)
+abbrev pub keyWords : List (WordFor Keys)
 keyWords = stands "String" free ∷ stands "Id" ids ∷ []
 
 -- must the property be there?
-abbrev pub attributes : List (Word Bool)
+abbrev pub attributes : List (WordFor Bool)
 attributes = stands "mandatory" true ∷ stands "optional" false ∷ []
 
 -- what a text stands for, if it is a word of the list
-unfoldable pub meaning : {A : Type 0} → List (Word A) → List ℕ → Option A
+unfoldable pub meaning : {A : Type 0} → List (WordFor A) → List ℕ → Option A
 meaning [] t = none
 meaning (w ∷ ws) t = let more = meaning ws t in cond (same (bytes (w .spelling)) t) (some (w .means)) more
 
@@ -147,13 +147,13 @@ cut mark (b ∷ bs) =
     cond (same (take n (b ∷ bs)) (bytes mark)) here later
 
 -- a text up to the first such mark, which ends it
-unfoldable pub upTo : (mark : String) → List ℕ → Option (List ℕ)
-upTo mark t = bind (cut mark t) (λ h. cond (same (h .after) []) (some (h .before)) none)
+unfoldable pub untilMark : (mark : String) → List ℕ → Option (List ℕ)
+untilMark mark t = bind (cut mark t) (λ h. cond (same (h .after) []) (some (h .before)) none)
 
 -- A[] or A[B], cut at the first bracket
 unfoldable pub bracketed : Halves → Option Ty
 bracketed h =
-    bind (upTo "]" (h .after)) (λ inside.
+    bind (untilMark "]" (h .after)) (λ inside.
     cond (same inside [])
     (Option·map listOf (meaning typeWords (h .before)))
     (bind (meaning keyWords (h .before)) (λ keys. Option·map (mapOf keys) (meaning valueWords inside))))
@@ -163,8 +163,8 @@ unfoldable pub choice : Halves → Option Ty
 choice h = bind (meaning objectWords (h .before)) (λ usual. Option·map (byType usual) (meaning objectWords (h .after)))
 
 -- a type without a note
-unfoldable pub typeOf : List ℕ → Option Ty
-typeOf t =
+unfoldable pub plainType : List ℕ → Option Ty
+plainType t =
     let whole = Option·elim (cut "|" t) (meaning typeWords t) choice in
     Option·elim (cut "[" t) whole bracketed
 
@@ -172,7 +172,7 @@ typeOf t =
 unfoldable pub noted : (type note : List ℕ) → Option Ty
 noted type note =
     cond (same type (bytes "String"))
-    (bind (cut "\"" note) (λ h. Option·map (λ content. simple (exactly content)) (upTo "\"" (h .after))))
+    (bind (cut "\"" note) (λ h. Option·map (λ content. simple (exactly content)) (untilMark "\"" (h .after))))
     (cond (same type (bytes "UnsignedInt"))
     (Option·map (λ h. simple (count (valueFrom 0 (h .before)) (valueFrom 0 (h .after)))) (cut " to " note))
     none)
@@ -186,8 +186,8 @@ unfoldable pub parsed : String → Option Known
 parsed s =
     bind (cut ": " (bytes s)) (λ n.
     bind (cut " (" (n .after)) (λ t.
-    bind (upTo ")" (t .after)) (λ inside.
-    let plain = line (n .before) (typeOf (t .before)) inside in
+    bind (untilMark ")" (t .after)) (λ inside.
+    let plain = line (n .before) (plainType (t .before)) inside in
     Option·elim (cut "; " inside) plain (λ a. line (n .before) (noted (t .before) (a .after)) (a .before)))))
 
 -- ---- the statement

@@ -1,4 +1,4 @@
--- The values that hold no others, by what they are and not by a test: Ids, unsigned integers, and times. The tests of Values.antt and
+-- The values that hold no others, by what they are and not by a test: Ids, unsigned integers, and times (docs/RULES.md, 5.3). The tests of Values.antt and
 -- Dates.antt tell just these (specs/Judging.antt).
 -- Assumes nothing: these are definitions.
 use Prim.Native.Nat.{ℕ, _+_, _*_, _≤_, _<_}

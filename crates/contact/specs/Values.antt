@@ -1,4 +1,4 @@
--- Ids and unsigned integers.
+-- Ids and unsigned integers (docs/RULES.md, 5.3).
 -- Assumes nothing: these are definitions.
 use Prim.Native.Nat.{ℕ, _+_, _-_, _*_}
 use mathlib.Core.List.{List, [], _∷_}

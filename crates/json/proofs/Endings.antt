@@ -1,32 +1,39 @@
 -- Laws of whole texts, one for each way that the code goes:
 --     text-stop, text-more, text-good      a text within the limit of bytes, by its value and what follows it
 --     again-good, again-bad                a second reading's answer
+--     whole-none                           a table without a row
 --     whole-rows, whole-all, whole-again, whole-other      from a reading with as many values as the table has rows to the answer
---     paper-rows, paper-refused            the answer on paper
+--     rows-fit, read-left                  the rows that are used, and zeros behind them
 -- Assumes nothing.
-use Prim.Native.Nat.{ℕ, _≤_, _<_}
-use mathlib.Core.Path.{_≡_, refl, _∙_}
-use mathlib.Core.List.{List}
-use mathlib.Core.Bool.{true, false}
+use Prim.Native.Nat.{ℕ, zero, suc, _*_, _-_, _≤_, _<_}
+use mathlib.Core.Path.{_≡_, refl, subst, _∙_}
+use mathlib.Core.List.{List, _++_, append-assoc, append-nil}
+use mathlib.Core.Bool.{Bool, true, false, cond}
 use native.Mathlib.Nat.{sub-zero}
 use native.Mathlib.Omega.{arith}
-use lib.ListN.{length, replicate}
+use lib.ListN.{length, take, replicate}
+use lib.Seq.{sets, sets-eq, drop-length, take-append-seam}
+use borrow.Rule.Slice.PartMut.{midOf, putMid, mid-len, post-is}
+use borrow.Author.Needs.{needs}
 use borrow.Author.Tests.{lt-ltb, le-ltb}
-use Rattle.laws.proofs.Sets.{sets-cleared}
-use Rattle.text.specs.Limits.{base}
+use Rattle.laws.specs.Lists.{filled}
+use Rattle.text.specs.Limits.{Limits, rowWords, base}
 use Rattle.text.specs.Tokens.{skip}
-use Rattle.text.specs.Tree.{Forest, rowsOf}
-use Rattle.text.specs.Reader.{Read, good, bad, valueAt}
+use Rattle.text.specs.Tree.{Bracket, Forest, size, rowsOf}
+use Rattle.text.specs.Reader.{Read, good, bad, scalarWith, scalarAt, closeOf, container, deep, valueWith, valueAt, arrayAt, objectAt}
 use Rattle.text.specs.Whole.{endOf, readOf, wholeOf, sheetOf, tableOf, Reads}
-use Rattle.text.specs.Sheet.{paper}
+use Rattle.text.specs.Sheet as sheet
+use Rattle.text.specs.declared.Token.{Token}
+use Rattle.text.specs.declared.Token.the-variants.{End, No2, No3}
 use Rattle.text.specs.declared.Refusal.{Refusal}
 use Rattle.text.specs.declared.Refusal.the-variants.{TooLong, Grammar, Character, Repeated, Deep, Many, Small}
 use Rattle.text.specs.declared.Reading.{Reading}
 use Rattle.text.specs.declared.Reading.the-variants.{Rows, Refused}
+use Rattle.text.proofs.Laws.{value-parts}
 use Rattle.text.proofs.Standing.{rows-length}
-use Rattle.text.proofs.Fewer.{NotMany, whole-bad, first-size, first-good, first-bad, many-small}
+use Rattle.text.proofs.Fewer.{NotMany, whole-bad, small-whole, first-good, first-bad, many-small}
 use Rattle.json.specs.Parts.{upTo}
-use Rattle.json.specs.Answers.{Room, Ended, isMany, againOf, Whole}
+use Rattle.json.specs.Answers.{Room, Ended, rowsUsed, isMany, againOf}
 
 -- ---- a text by its value and what follows it ----
 
@@ -56,6 +63,51 @@ again-good R old new n s = rw (s .is, s .count)
 pub again-bad : (R : Read) (r : Refusal) → R ≡ bad r → Refused r ≡ againOf R
 again-bad R r e = rw e
 
+-- ---- a text that is accepted has a value ----
+
+abbrev Some : Read → Type 0
+Some (good f to) = 0 < size f
+Some (bad r) = Prim.Unit {0}
+
+some-cond : (b : Bool) (x y : Read) → Some x → Some y → Some (cond b x y)
+some-cond true x y p q = p
+some-cond false x y p q = q
+
+scalar-some : (kind ns ne at : ℕ) (k : Token) → Some (scalarWith kind ns ne at k)
+unfolding scalarWith size
+scalar-some kind ns ne at (End to) = omega arith
+scalar-some kind ns ne at (No2 p) = tt
+scalar-some kind ns ne at (No3 p) = tt
+
+close-some : (b : Bracket) (ns ne at : ℕ) (R : Read) → Some (closeOf b ns ne at R)
+unfolding closeOf size
+close-some b ns ne at (good f to) = omega arith
+close-some b ns ne at (bad r) = tt
+
+module _ (L : Limits) (t : List ℕ) (ns ne at n : ℕ) where
+  array-some : (depth : ℕ) → Some (arrayAt L t depth ns ne at n)
+  unfolding arrayAt deep container
+  array-some zero = tt
+  array-some (suc depth) = search (needs, some-cond, close-some, tt) depth 9
+
+  object-some : (depth : ℕ) → Some (objectAt L t depth ns ne at n)
+  unfolding objectAt deep container
+  object-some zero = tt
+  object-some (suc depth) = search (needs, some-cond, close-some, tt) depth 9
+
+  value-some : (depth : ℕ) → Some (valueAt L t depth ns ne at n)
+  unfolding valueWith scalarAt
+  value-some depth = rw (value-parts L t depth ns ne at n) (search (needs, some-cond, array-some, object-some, scalar-some, tt) depth 9)
+
+end-some : (t : List ℕ) (R : Read) → Some R → Some (endOf t R)
+unfolding endOf
+end-some t (good f to) h = search (needs, some-cond, h, tt) depth 9
+end-some t (bad r) h = tt
+
+read-some : (L : Limits) (t : List ℕ) → Some (readOf L t)
+unfolding readOf
+read-some L t = search (needs, some-cond, end-some, value-some, tt) depth 9
+
 -- ---- from a reading with as many values as the table has rows ----
 
 other : (r : Refusal) → isMany r ≡ false → NotMany r
@@ -67,48 +119,83 @@ other (Deep p) e = tt
 other (Many p) e = let z : _≡_ {A = ℕ} 0 1 = cc in absurd (omega arith)
 other (Small n) e = tt
 
-module _ (words limit : ℕ) (t new : List ℕ) (room : Room words limit) where
-  -- accepted: the rows fit, and the words after them are as they were, zero
-  pub whole-rows : (n : ℕ) → Ended (readOf (upTo limit) t) (replicate words 0) new (Rows n) → Whole (wholeOf base words t) words new (Rows n)
-  unfolding tableOf
-  whole-rows n s =
-      let f = s .trees in
-      let w = first-good words t limit (room .few) (room .fits) f (s .to) (s .is) in
-      let z = first-size words t limit (room .few) f (s .to) (s .is) in
-      (f, (s .to, (w, (s .count, s .table ∙ sets-cleared (rowsOf f) words (omega (arith, rows-length f, room .fits)) ∙ rw w))))
-
-  -- refused by a reading that takes as many values as 01 allows
-  pub whole-all : limit ≡ base .values → (r : Refusal) → readOf (upTo limit) t ≡ bad r → wholeOf base words t ≡ bad r
-  whole-all e r b = whole-bad base words t r (rw e at b)
-
-  -- refused for another reason than one value too many
-  pub whole-other : (r : Refusal) → isMany r ≡ false → readOf (upTo limit) t ≡ bad r → wholeOf base words t ≡ bad r
-  whole-other r m b = first-bad words t limit (room .few) r (other r m) b
-
-  -- one value too many for the table: the second reading decides
-  pub whole-again : (limit ≡ base .values → ⊥) → (r : Refusal) → isMany r ≡ true → readOf (upTo limit) t ≡ bad r → (a : Reading)
-      → a ≡ againOf (readOf base t) → Whole (wholeOf base words t) words new a
-  whole-again l (Many p) m b a e = go (readOf base t) refl
+module _ (words : ℕ) (t old new : List ℕ) where
+  -- a second reading of a text that the table has no room for
+  again : (a : Reading) → a ≡ againOf (readOf base t)
+      → ((f : Forest) (to : ℕ) → readOf base t ≡ good f to → wholeOf base words t ≡ bad (Small (size f))) → Ended (wholeOf base words t) old new a
+  again a e small = go (readOf base t) refl
     where
-      go : (R : Read) → readOf base t ≡ R → Whole (wholeOf base words t) words new a
-      go (good f to) q = rw (e, q) (many-small words t limit (room .few) (room .most l) p f to b q)
+      go : (R : Read) → readOf base t ≡ R → Ended (wholeOf base words t) old new a
+      go (good f to) q = rw (e, q) (small f to q)
       go (bad x) q = rw (e, q) (whole-bad base words t x q)
-  whole-again l TooLong m b a e = let z : _≡_ {A = ℕ} 0 1 = cc in absurd (omega arith)
-  whole-again l (Grammar p) m b a e = let z : _≡_ {A = ℕ} 0 1 = cc in absurd (omega arith)
-  whole-again l (Character p) m b a e = let z : _≡_ {A = ℕ} 0 1 = cc in absurd (omega arith)
-  whole-again l (Repeated p) m b a e = let z : _≡_ {A = ℕ} 0 1 = cc in absurd (omega arith)
-  whole-again l (Deep p) m b a e = let z : _≡_ {A = ℕ} 0 1 = cc in absurd (omega arith)
-  whole-again l (Small n) m b a e = let z : _≡_ {A = ℕ} 0 1 = cc in absurd (omega arith)
+
+  -- a table without a row
+  pub whole-none : words < rowWords → (a : Reading) → a ≡ againOf (readOf base t) → Ended (wholeOf base words t) old new a
+  whole-none h a e = again a e (λ f to q. small-whole words t f to (omega (arith, subst Some q (read-some base t))) q)
+
+  module _ (limit : ℕ) (room : Room words limit) where
+    -- accepted: the rows fit
+    pub whole-rows : (n : ℕ) → Ended (readOf (upTo limit) t) old new (Rows n) → Ended (wholeOf base words t) old new (Rows n)
+    whole-rows n s =
+        record {
+          trees = s .trees;
+          to = s .to;
+          is = first-good words t limit (room .few) (room .fits) (s .trees) (s .to) (s .is);
+          count = s .count;
+          table = s .table;
+          room = s .room;
+        }
+
+    -- refused by a reading that takes as many values as 01 allows
+    pub whole-all : limit ≡ base .values → (r : Refusal) → readOf (upTo limit) t ≡ bad r → wholeOf base words t ≡ bad r
+    whole-all e r b = whole-bad base words t r (rw e at b)
+
+    -- refused for another reason than one value too many
+    pub whole-other : (r : Refusal) → isMany r ≡ false → readOf (upTo limit) t ≡ bad r → wholeOf base words t ≡ bad r
+    whole-other r m b = first-bad words t limit (room .few) r (other r m) b
+
+    -- one value too many for the table: the second reading decides
+    pub whole-again : (limit ≡ base .values → ⊥) → (r : Refusal) → isMany r ≡ true → readOf (upTo limit) t ≡ bad r → (a : Reading)
+        → a ≡ againOf (readOf base t) → Ended (wholeOf base words t) old new a
+    whole-again l (Many p) m b a e = again a e (λ f to q. many-small words t limit (room .few) (room .most l) p f to b q)
+    whole-again l TooLong m b a e = let z : _≡_ {A = ℕ} 0 1 = cc in absurd (omega arith)
+    whole-again l (Grammar p) m b a e = let z : _≡_ {A = ℕ} 0 1 = cc in absurd (omega arith)
+    whole-again l (Character p) m b a e = let z : _≡_ {A = ℕ} 0 1 = cc in absurd (omega arith)
+    whole-again l (Repeated p) m b a e = let z : _≡_ {A = ℕ} 0 1 = cc in absurd (omega arith)
+    whole-again l (Deep p) m b a e = let z : _≡_ {A = ℕ} 0 1 = cc in absurd (omega arith)
+    whole-again l (Small n) m b a e = let z : _≡_ {A = ℕ} 0 1 = cc in absurd (omega arith)
 
 -- ---- the answer ----
 
--- what is accepted, on paper
-pub paper-rows : (words : ℕ) (t new : List ℕ) (n : ℕ) → Whole (wholeOf base words t) words new (Rows n) → Reads base words t (Rows n) new
-unfolding paper sheetOf
-paper-rows words t new n w = record { answered = rw (w .1 .1 .0, w .1 .1 .1 .0); left = w .1 .1 .1 .1 }
+take-sets : (vs l : List ℕ) → length vs ≤ length l → take (length vs) (sets l 0 vs) ++ replicate (length l - length vs) 0 ≡ filled (length l) vs
+take-sets vs l h = rw (sets-eq vs l 0 (omega arith), append-assoc, take-append-seam)
 
--- what is refused, on paper, with a cleared table
-pub paper-refused : (words : ℕ) (t new : List ℕ) (r : Refusal) → wholeOf base words t ≡ bad r → new ≡ replicate words 0
-    → Reads base words t (Refused r) new
-unfolding paper sheetOf tableOf
-paper-refused words t new r e c = record { answered = rw e; left = rw (e, c, sub-zero) }
+pub rows-fit : (R : Read) (old new : List ℕ) (a : Reading) → Ended R old new a → rowsUsed a * rowWords ≤ length old
+rows-fit R old new (Rows n) s = s .room
+rows-fit R old new (Refused r) s = omega arith
+
+-- behind what is used the table is cleared
+rest-cleared : (l : List ℕ) (n : ℕ) → n ≤ length l → {rest : List ℕ} → rest ≡ replicate (length (midOf n (length l - n) l)) 0
+    → putMid n (length l - n) l rest ≡ take n l ++ replicate (length l - n) 0
+rest-cleared l n h e = rw (e, mid-len n (length l) l (omega arith), post-is n (length l) l h, drop-length, append-nil)
+
+-- the rows, and zeros behind them
+left-of : (t old mid new : List ℕ) (a : Reading) → Ended (wholeOf base (length old) t) old mid a
+    → new ≡ take (rowsUsed a * rowWords) mid ++ replicate (length old - rowsUsed a * rowWords) 0 → Reads base (length old) t a new
+unfolding sheet.paper sheetOf tableOf
+left-of t old mid new (Rows n) s e =
+    let f = s .trees in
+    let h = rows-length f in
+    let u : n * rowWords ≡ length (rowsOf f) = omega (arith, s .count) in
+    record {
+      answered = rw (s .is, s .count);
+      left = e ∙ rw (s .is, u, s .table) (take-sets (rowsOf f) old (omega (arith, s .room)));
+    }
+left-of t old mid new (Refused r) s e = record { answered = rw s; left = e ∙ rw (s, sub-zero) }
+
+pub read-left : (t old mid : List ℕ) (a : Reading) (used : ℕ) {rest : List ℕ} → Ended (wholeOf base (length old) t) old mid a → length mid ≡ length old
+    → used ≡ rowsUsed a → rest ≡ replicate (length (midOf (used * rowWords) (length mid - used * rowWords) mid)) 0
+    → Reads base (length old) t a (putMid (used * rowWords) (length mid - used * rowWords) mid rest)
+read-left t old mid a used {rest} s long is clear =
+    let fit = rows-fit (wholeOf base (length old) t) old mid a s in
+    left-of t old mid _ a s (rest-cleared mid (used * rowWords) (omega arith) clear ∙ rw (is, long))

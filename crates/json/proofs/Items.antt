@@ -11,7 +11,7 @@ use Rattle.laws.proofs.Places.{inside}
 use Rattle.text.specs.Limits.{rowWords}
 use Rattle.text.specs.Text.{byteAt}
 use Rattle.text.specs.Tokens.{skip}
-use Rattle.text.specs.Tree.{Bracket, square, curly, Forest, none, size, rowsOf, join}
+use Rattle.text.specs.Tree.{Bracket, Forest, none, size, rowsOf, join}
 use Rattle.text.specs.Grammar.{closing}
 use Rattle.text.specs.Standing.{StandsTo}
 use Rattle.text.specs.Reader.{good, bad, ItemReader, afterItem, itemsFrom, insideOf}

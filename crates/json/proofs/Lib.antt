@@ -1,7 +1,12 @@
 -- What the proofs of several functions share.
 pub mod Handed
+pub mod Alike
+pub mod Marks
+pub mod PlainRuns
 pub mod Runs
 pub mod Ways
 pub mod Items
 pub mod Closing
 pub mod Endings
+pub mod Unread
+pub mod Seeking

@@ -19,8 +19,8 @@ use Rattle.text.specs.declared.Token.the-variants.{End, No2, No3}
 use Rattle.text.specs.declared.Refusal.the-variants.{Grammar, Character, Repeated, Deep, Many}
 use Rattle.text.proofs.Laws.{value-parts}
 use Rattle.json.specs.Parts.{bracketOf, containerAt, itemsAt}
-use Rattle.json.specs.declared.values.Container.{Container}
-use Rattle.json.specs.declared.values.Container.the-variants.{Array, Object}
+use Rattle.json.specs.declared.containers.Container.{Container}
+use Rattle.json.specs.declared.containers.Container.the-variants.{Array, Object}
 
 -- ---- values that hold no others ----
 

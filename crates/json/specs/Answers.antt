@@ -3,11 +3,11 @@ use Prim.Native.Nat.{ℕ, suc, _*_, _≤_, _<_}
 use mathlib.Core.Path.{_≡_}
 use mathlib.Core.List.{List}
 use mathlib.Core.Bool.{Bool, true, false}
+use lib.ListN.{length}
 use lib.Seq.{sets}
 use Rattle.text.specs.Limits.{rowWords, base}
 use Rattle.text.specs.Tree.{Forest, size, rowsOf}
 use Rattle.text.specs.Reader.{Read, good, bad}
-use Rattle.text.specs.Whole.{tableOf}
 use Rattle.text.specs.declared.Refusal.{Refusal}
 use Rattle.text.specs.declared.Refusal.the-variants.{TooLong, Grammar, Character, Repeated, Deep, Many, Small}
 use Rattle.text.specs.declared.Reading.{Reading}
@@ -26,11 +26,17 @@ pub record Stored (R : Read) (old new : List ℕ) (n : ℕ) : Type 0 where
   pub is : R ≡ good trees to
   pub count : n ≡ size trees
   pub table : new ≡ sets old 0 (rowsOf trees)
+  pub room : n * rowWords ≤ length old
 
 -- the answer of a reading of a whole text says what R is; on a refusal the table may hold anything
 abbrev pub Ended : Read → (old new : List ℕ) → Reading → Type 0
 Ended R old new (Rows n) = Stored R old new n
 Ended R old new (Refused r) = R ≡ bad r
+
+-- the rows that an answer uses of the table
+abbrev pub rowsUsed : Reading → ℕ
+rowsUsed (Rows n) = n
+rowsUsed (Refused r) = 0
 
 -- is it the refusal of one value too many?
 abbrev pub isMany : Refusal → Bool
@@ -46,8 +52,3 @@ isMany (Small n) = false
 abbrev pub againOf : Read → Reading
 againOf (good f to) = Refused (Small (size f))
 againOf (bad r) = Refused r
-
--- the answer, by the whole text's own definition, and the table that goes with it; on a refusal the table may hold anything
-abbrev pub Whole : Read → (words : ℕ) (new : List ℕ) → Reading → Type 0
-Whole R words new (Rows n) = (f : Forest) × ((to : ℕ) × ((R ≡ good f to) × ((n ≡ size f) × (new ≡ tableOf words R))))
-Whole R words new (Refused r) = R ≡ bad r

@@ -13,10 +13,12 @@ use Rattle.text.specs.Reader.{Read, good, bad, Reader, ItemReader, colonAt, mem
 use Rattle.json.specs.Rows.{Word}
 use Rattle.json.specs.declared.members.Key.{Key}
 use Rattle.json.specs.declared.members.Key.the-variants.{Value, Broken}
-use Rattle.json.specs.declared.values.Container.{Container}
-use Rattle.json.specs.declared.values.Container.the-variants.{Array, Object}
-use Rattle.json.specs.declared.values.Part.{Part}
-use Rattle.json.specs.declared.values.Part.the-variants.{Next, Stop}
+use Rattle.json.specs.declared.containers.Container.{Container}
+use Rattle.json.specs.declared.containers.Container.the-variants.{Array, Object}
+use Rattle.json.specs.declared.containers.Item.{Item}
+use Rattle.json.specs.declared.containers.Item.the-variants.{At, Wrong}
+use Rattle.json.specs.declared.values.Outcome.{Outcome}
+use Rattle.json.specs.declared.values.Outcome.the-variants.{Next, Stop}
 
 -- 01's limits, with so many values: a table that has fewer rows is filled by a reading that stops earlier
 abbrev pub upTo : ℕ → Limits
@@ -49,17 +51,17 @@ pub record Gone (R : Read) (t : List ℕ) (limit at n : ℕ) (old new : List ℕ
   pub few : after ≤ limit
 
 -- a reader's answer says what R is; on a refusal the table may hold anything
-abbrev pub Took : Read → (t : List ℕ) (limit at n : ℕ) (old new : List ℕ) → Part → Type 0
+abbrev pub Took : Read → (t : List ℕ) (limit at n : ℕ) (old new : List ℕ) → Outcome → Type 0
 Took R t limit at n old new (Next to after) = Gone R t limit at n old new to after
 Took R t limit at n old new (Stop r) = R ≡ bad r
 
 -- what closing a container asks of what was read inside it, as rows after row n
-abbrev pub Closable : (n : ℕ) → Part → Type 0
+abbrev pub Closable : (n : ℕ) → Outcome → Type 0
 Closable n (Next to after) = (n < after) × (Word after × Word to)
 Closable n (Stop r) = Prim.Unit {0}
 
 -- and what it does: it stores the container's row
-abbrev pub Closes : (kind ns ne at n : ℕ) → Part → (old new : List ℕ) → Part → Type 0
+abbrev pub Closes : (kind ns ne at n : ℕ) → Outcome → (old new : List ℕ) → Outcome → Type 0
 Closes kind ns ne at n (Next to after) old new r =
     (r ≡ Next to after) × (new ≡ sets old (n * rowWords) (rowOf kind ns ne at to (after - n - 1)))
 Closes kind ns ne at n (Stop x) old new r = r ≡ Stop x
@@ -113,3 +115,20 @@ Member t done at (Broken r) = (limit : ℕ) (value : Reader) (n : ℕ) → membe
 pub record KeyRead (t table : List ℕ) (first end at : ℕ) (r : Key) : Type 0 where
   pub inside : KeyIn t at r
   pub is : (done : Forest) → StandsTo table first end done → Member t done at r
+
+-- ---- items ----
+
+-- an item's value is at `from`, inside the text or at its end, and so is its name; or the refusal
+abbrev pub ItemIn : List ℕ → ℕ → Item → Type 0
+ItemIn t at (At ns ne from) = NamePlaces t ns ne × ((at ≤ from) × (from ≤ length t))
+ItemIn t at (Wrong r) = Prim.Unit {0}
+
+-- what an item's beginning says of the item
+abbrev pub Begun : Container → List ℕ → (done : Forest) (at : ℕ) → Item → Type 0
+Begun of t done at (At ns ne from) = (limit depth n : ℕ) → itemOf of (upTo limit) t depth done at n ≡ valueAt (upTo limit) t depth ns ne from n
+Begun of t done at (Wrong r) = (limit depth n : ℕ) → itemOf of (upTo limit) t depth done at n ≡ bad r
+
+-- The answer on an item at a place, where the container's earlier items are the rows from `first` up to `end`.
+pub record ItemRead (of : Container) (t table : List ℕ) (first end at : ℕ) (r : Item) : Type 0 where
+  pub inside : ItemIn t at r
+  pub is : (done : Forest) → StandsTo table first end done → Begun of t done at r

@@ -3,6 +3,51 @@ ghost use mathlib.Core.Path.{_≡_};
 ghost use Prim.Native.Nat.{_≤_};
 ghost use Rattle.text.specs.Text.{byteAt};
 
+// Bytes that reading tests for, as wide as what `peek` gives.
+pub(crate) const QUOTE: u16 = b'"' as u16;
+
+pub(crate) const BACKSLASH: u16 = b'\\' as u16;
+
+pub(crate) const COLON: u16 = b':' as u16;
+
+pub(crate) const COMMA: u16 = b',' as u16;
+
+pub(crate) const SPACE: u16 = b' ' as u16;
+
+pub(crate) const TAB: u16 = b'\t' as u16;
+
+pub(crate) const LINE_FEED: u16 = b'\n' as u16;
+
+pub(crate) const RETURN: u16 = b'\r' as u16;
+
+pub(crate) const MINUS: u16 = b'-' as u16;
+
+pub(crate) const PLUS: u16 = b'+' as u16;
+
+pub(crate) const POINT: u16 = b'.' as u16;
+
+pub(crate) const ZERO: u16 = b'0' as u16;
+
+pub(crate) const SMALL_E: u16 = b'e' as u16;
+
+pub(crate) const LARGE_E: u16 = b'E' as u16;
+
+pub(crate) const SMALL_F: u16 = b'f' as u16;
+
+pub(crate) const SMALL_N: u16 = b'n' as u16;
+
+pub(crate) const SMALL_T: u16 = b't' as u16;
+
+pub(crate) const SMALL_U: u16 = b'u' as u16;
+
+pub(crate) const OPEN_ARRAY: u16 = b'[' as u16;
+
+pub(crate) const CLOSE_ARRAY: u16 = b']' as u16;
+
+pub(crate) const OPEN_OBJECT: u16 = b'{' as u16;
+
+pub(crate) const CLOSE_OBJECT: u16 = b'}' as u16;
+
 // The byte at a place, or 256 at or past the end.
 pub fn peek(text: &[u8], at: usize) -> u16
     ensures { λ r. ⌜ r ≡ byteAt (now (text .entry)) at ⌝ }

@@ -1,4 +1,7 @@
 // What stands at a place inside a string: one step, used by reading and by decoding.
+use crate::bytes::BACKSLASH;
+use crate::bytes::QUOTE;
+use crate::bytes::SMALL_U;
 use crate::bytes::peek;
 use text::Hex;
 use text::Step;
@@ -50,21 +53,41 @@ fn hex4(text: &[u8], at: usize) -> Hex
     Hex::Unit(a % 16 * 4096 + b % 16 * 256 + c % 16 * 16 + d % 16)
 }
 
-// What the letter of a short escape stands for, or 0.
+// What the letter of a short escape stands for, or 0. No `match`: that becomes a jump through a table, which costs more than these tests.
 fn letter(b: u16) -> u32
     ensures { λ r. ⌜ r ≡ letterOf b ⌝ }
 {
-    match b {
-        34 => 34,
-        47 => 47,
-        92 => 92,
-        98 => 8,
-        102 => 12,
-        110 => 10,
-        114 => 13,
-        116 => 9,
-        _ => 0,
+    if b < 98 {
+        if b == 34 {
+            return 34;
+        }
+        if b == 47 {
+            return 47;
+        }
+        if b == 92 {
+            return 92;
+        }
+        return 0;
     }
+    if b < 111 {
+        if b == 98 {
+            return 8;
+        }
+        if b == 102 {
+            return 12;
+        }
+        if b == 110 {
+            return 10;
+        }
+        return 0;
+    }
+    if b == 114 {
+        return 13;
+    }
+    if b == 116 {
+        return 9;
+    }
+    0
 }
 
 // A character of `len` bytes at `at`, if its code point is allowed.
@@ -180,10 +203,10 @@ fn pair(text: &[u8], at: usize, high: u32) -> Step
     requires { ⌜ at < length (now text) ⌝ }
     ensures { λ r. ⌜ r ≡ pairAt (now (text .entry)) at high ⌝ }
 {
-    if peek(text, at + 6) != 92 {
+    if peek(text, at + 6) != BACKSLASH {
         return Step::Bad3(at);
     }
-    if peek(text, at + 7) != 117 {
+    if peek(text, at + 7) != SMALL_U {
         return Step::Bad3(at);
     }
     let Hex::Unit(low) = hex4(text, at + 8) else {
@@ -218,7 +241,7 @@ pub(crate) fn escape(text: &[u8], at: usize) -> Step
     ensures { λ r. ⌜ r ≡ escapeAt (now (text .entry)) at ⌝ }
 {
     let b = peek(text, at + 1);
-    if b == 117 {
+    if b == SMALL_U {
         return match hex4(text, at + 2) {
             Hex::Unit(u) => unit(text, at, u),
             Hex::Bad(p) => Step::Bad2(p),
@@ -236,10 +259,10 @@ pub(crate) fn step_at(text: &[u8], at: usize) -> Step
     ensures { λ r. ⌜ r ≡ stepAt (now (text .entry)) at ⌝ }
 {
     let b = peek(text, at);
-    if b == 34 {
+    if b == QUOTE {
         return Step::Close;
     }
-    if b == 92 {
+    if b == BACKSLASH {
         return escape(text, at);
     }
     if b < 32 {

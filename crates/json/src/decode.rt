@@ -1,4 +1,5 @@
 // A string's decoded bytes, handed out one at a time; nothing is copied.
+use crate::bytes::BACKSLASH;
 use crate::bytes::peek;
 use crate::chars::escape;
 use text::Step;
@@ -62,7 +63,7 @@ fn fresh_byte(name: &[u8], at: usize) -> Next
     if b == 256 {
         return Next::Over;
     }
-    if b != 92 {
+    if b != BACKSLASH {
         return Next::Byte(
             b as u8,
             Cursor {

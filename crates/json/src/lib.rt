@@ -1,22 +1,28 @@
 // Reading: a text becomes rows, or is refused.
-//   limits   the limits of reading
-//   bytes    the byte at a place
-//   chars    one step inside a string
-//   strings  where a string ends
-//   decode   a string's decoded bytes, one at a time
-//   names    names compared decoded
-//   sheet    an answer in the refusal sheet's numbers
-//   tokens   white space, literals and numbers
-//   rows     the words of a row, stored and read
-//   members  the names of an object's members
-//   values   values, arrays and objects
-//   read     whole texts
+//   limits      the limits of reading
+//   bytes       the byte at a place
+//   chars       one step inside a string
+//   plain       a string's bytes that stand for themselves, eight at a time
+//   strings     where a string ends
+//   decode      a string's decoded bytes, one at a time
+//   names       names compared decoded
+//   sheet       an answer in the refusal sheet's numbers
+//   tokens      white space, literals and numbers
+//   rows        the words of a row, stored and read
+//   lookup      rows found from other rows: the next one beside a value, and the member of a name
+//   members     the names of an object's members
+//   containers  the two containers, and how their items begin
+//   values      values, arrays and objects
+//   read        whole texts
 pub mod bytes;
 mod chars;
+mod containers;
 pub mod decode;
 pub mod limits;
+pub mod lookup;
 mod members;
 pub mod names;
+mod plain;
 pub mod read;
 pub mod rows;
 pub mod sheet;

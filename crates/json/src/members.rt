@@ -1,4 +1,6 @@
 // An object's members: their names, and whether a name is there already.
+use crate::bytes::COLON;
+use crate::bytes::QUOTE;
 use crate::bytes::peek;
 use crate::names::same_name;
 use crate::rows::below;
@@ -47,7 +49,7 @@ fn colon(text: &[u8], end: usize) -> Key
     ensures { λ r. ⌜ Colon (now (text .entry)) end r ⌝ }
 {
     let at = skip(text, end);
-    if peek(text, at) != 58 {
+    if peek(text, at) != COLON {
         return Key::Broken(Refusal::Grammar(at));
     }
     let from = skip(text, at + 1);
@@ -61,7 +63,7 @@ pub(crate) fn read_key(text: &[u8], table: &[u32], first: usize, end: usize, at:
     requires { ⌜ at ≤ length (now text) ⌝ }
     ensures { λ r. ⌜ KeyRead (now (text .entry)) (now (table .entry)) first end at r ⌝ }
 {
-    if peek(text, at) != 34 {
+    if peek(text, at) != QUOTE {
         return Key::Broken(Refusal::Grammar(at));
     }
     match string_end(text, at + 1) {

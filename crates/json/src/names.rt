@@ -1,20 +1,50 @@
-// Names compared decoded: with each other and with a byte string. A comparison stops at the first difference.
+// Names compared decoded: with each other and with a byte string. They are compared as written up to a backslash, and decoded from there on; a
+// comparison stops at the first difference.
+use crate::bytes::BACKSLASH;
 use crate::bytes::peek;
+use crate::decode::Cursor;
 use crate::decode::Next;
 use crate::decode::next_byte;
-use crate::decode::start;
 use laws::Order;
 ghost use mathlib.Core.Path.{_≡_};
+ghost use Prim.Native.Nat.{_≤_};
+ghost use lib.ListN.{length, drop};
 ghost use Rattle.laws.specs.Lists.{partOf};
-ghost use Rattle.laws.specs.Order.{orderOf, same};
-ghost use Rattle.text.specs.Strings.{decode, nameOf};
+ghost use Rattle.laws.specs.Order.{orderOf, isSame, same};
+ghost use Rattle.text.specs.Strings.{decodeFrom, decode, nameOf};
+ghost use Rattle.json.specs.Names.{Alike, orderAt};
 
-// The order of two strings' inner bytes, decoded.
-fn order_of(a: &[u8], b: &[u8]) -> Order
-    ensures { λ r. ⌜ r ≡ orderOf (decode (now (a .entry))) (decode (now (b .entry))) ⌝ }
+// How many bytes two byte strings have in common from their start, up to a backslash.
+fn alike(a: &[u8], b: &[u8]) -> usize
+    ensures { λ r. ⌜ Alike (now (a .entry)) (now (b .entry)) r ⌝ }
 {
-    let mut x = start();
-    let mut y = start();
+    let mut i: usize = 0;
+    loop {
+        let p = peek(a, i);
+        if p == BACKSLASH {
+            return i;
+        }
+        if p == 256 {
+            return i;
+        }
+        let q = peek(b, i);
+        if p != q {
+            return i;
+        }
+        i += 1;
+    }
+}
+
+// The order of two strings' inner bytes, decoded, from a place on that is the same in both.
+fn order_from(a: &[u8], b: &[u8], from: usize) -> Order
+    ensures { λ r. ⌜ r ≡ orderOf (decodeFrom (now (a .entry)) from) (decodeFrom (now (b .entry)) from) ⌝ }
+{
+    let mut x = Cursor {
+        at: from,
+        code: 0,
+        left: 0,
+    };
+    let mut y = x;
     loop {
         match next_byte(a, x) {
             Next::Over => {
@@ -42,12 +72,76 @@ fn order_of(a: &[u8], b: &[u8]) -> Order
     }
 }
 
-// Do a string's inner bytes decode to the literal?
-pub fn part_is(a: &[u8], lit: &[u8]) -> bool
-    ensures { λ r. ⌜ r ≡ same (decode (now (a .entry))) (now (lit .entry)) ⌝ }
+// The order by the bytes at the first difference, 256 where a string is over.
+fn order_at(p: u16, q: u16) -> Order
+    ensures { λ r. ⌜ r ≡ orderAt p q ⌝ }
 {
-    let mut x = start();
-    let mut i: usize = 0;
+    if p == q {
+        return Order::Same;
+    }
+    if p == 256 {
+        return Order::Less;
+    }
+    if q == 256 {
+        return Order::More;
+    }
+    if p < q { Order::Less } else { Order::More }
+}
+
+// The order of two strings' inner bytes, decoded.
+fn order_of(a: &[u8], b: &[u8]) -> Order
+    ensures { λ r. ⌜ r ≡ orderOf (decode (now (a .entry))) (decode (now (b .entry))) ⌝ }
+{
+    let i = alike(a, b);
+    let p = peek(a, i);
+    if p == BACKSLASH {
+        return order_from(a, b, i);
+    }
+    let q = peek(b, i);
+    if q == BACKSLASH {
+        return order_from(a, b, i);
+    }
+    order_at(p, q)
+}
+
+// Is the order that of two that are the same?
+fn is_same(o: Order) -> bool
+    ensures { λ r. ⌜ r ≡ isSame o ⌝ }
+{
+    match o {
+        Order::Same => true,
+        Order::Less => false,
+        Order::More => false,
+    }
+}
+
+// Are two strings' inner bytes the same, decoded?
+fn same_parts(a: &[u8], b: &[u8]) -> bool
+    ensures { λ r. ⌜ r ≡ same (decode (now (a .entry))) (decode (now (b .entry))) ⌝ }
+{
+    let i = alike(a, b);
+    let p = peek(a, i);
+    if p == BACKSLASH {
+        return is_same(order_from(a, b, i));
+    }
+    let q = peek(b, i);
+    if q == BACKSLASH {
+        return is_same(order_from(a, b, i));
+    }
+    p == q
+}
+
+// Do a string's inner bytes, decoded from a place on, go on as the literal does from there?
+fn goes_on(a: &[u8], lit: &[u8], from: usize) -> bool
+    requires { ⌜ from ≤ length (now lit) ⌝ }
+    ensures { λ r. ⌜ r ≡ same (decodeFrom (now (a .entry)) from) (drop from (now (lit .entry))) ⌝ }
+{
+    let mut x = Cursor {
+        at: from,
+        code: 0,
+        left: 0,
+    };
+    let mut i = from;
     loop {
         let want = peek(lit, i);
         match next_byte(a, x) {
@@ -63,6 +157,19 @@ pub fn part_is(a: &[u8], lit: &[u8]) -> bool
             }
         }
     }
+}
+
+// Do a string's inner bytes decode to the literal?
+pub fn part_is(a: &[u8], lit: &[u8]) -> bool
+    ensures { λ r. ⌜ r ≡ same (decode (now (a .entry))) (now (lit .entry)) ⌝ }
+{
+    let i = alike(a, lit);
+    let p = peek(a, i);
+    if p == BACKSLASH {
+        return goes_on(a, lit, i);
+    }
+    let want = peek(lit, i);
+    p == want
 }
 
 // The bytes of a text from s up to e, or none where they are not inside.
@@ -87,11 +194,7 @@ pub fn name_order(text: &[u8], s1: usize, e1: usize, s2: usize, e2: usize) -> Or
 pub fn same_name(text: &[u8], s1: usize, e1: usize, s2: usize, e2: usize) -> bool
     ensures { λ r. ⌜ r ≡ same (nameOf (now (text .entry)) s1 e1) (nameOf (now (text .entry)) s2 e2) ⌝ }
 {
-    match name_order(text, s1, e1, s2, e2) {
-        Order::Same => true,
-        Order::Less => false,
-        Order::More => false,
-    }
+    same_parts(part(text, s1, e1), part(text, s2, e2))
 }
 
 // Is a name of a text, decoded, the literal, as b"uid"?

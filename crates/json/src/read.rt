@@ -4,43 +4,53 @@ use crate::limits::DEPTH;
 use crate::limits::ROW_WORDS;
 use crate::limits::VALUES;
 use crate::tokens::skip;
-use crate::values::Part;
+use crate::values::Outcome;
 use crate::values::read_value;
 use laws::clear::clear_words;
 use text::Reading;
 use text::Refusal;
 ghost use mathlib.Core.Path.{_≡_};
-ghost use Prim.Native.Nat.{_≤_};
-ghost use lib.ListN.{length, replicate};
-ghost use Rattle.text.specs.Limits.{base};
+ghost use Prim.Native.Nat.{_*_, _≤_};
+ghost use lib.ListN.{length};
+ghost use Rattle.text.specs.Limits.{rowWords, base};
 ghost use Rattle.text.specs.Whole.{readOf, wholeOf, Reads};
-ghost use Rattle.json.specs.Parts.{upTo, ItemAsks};
-ghost use Rattle.json.specs.Answers.{Room, Ended, isMany, againOf, Whole};
+ghost use Rattle.json.specs.Parts.{upTo};
+ghost use Rattle.json.specs.Answers.{Room, Ended, rowsUsed, isMany, againOf};
 
 // Reads a text: its rows and zeros after them, or the refusal and zeros alone.
 pub fn read(text: &[u8], table: &mut [u32]) -> Reading
     ensures { λ r. ⌜ Reads base (length (now (table .entry))) (now (text .entry)) r (now (table .exit)) ⌝ }
 {
-    clear_words(table);
-    if BYTES < text.len() {
-        return Reading::Refused(Refusal::TooLong);
-    }
-    let answer = read_short(text, table);
+    let answer = read_rows(text, table);
+    let used = rows_used(answer) * ROW_WORDS;
+    clear_words(&mut table[used..]);
+    answer
+}
+
+// How many rows of the table are used.
+fn rows_used(answer: Reading) -> usize
+    ensures { λ r. ⌜ r ≡ rowsUsed answer ⌝ }
+{
     match answer {
-        Reading::Rows(n) => Reading::Rows(n),
-        Reading::Refused(r) => {
-            clear_words(table);
-            Reading::Refused(r)
-        }
+        Reading::Rows(n) => n,
+        Reading::Refused(_) => 0,
     }
 }
 
-// A text within the limit of bytes, on a cleared table, which a refusal leaves as it is then. The table takes as many values as it has rows; where
-// these are too few, the text is read again, for its other faults and for the number of its values.
-fn read_short(text: &[u8], table: &mut [u32]) -> Reading
-    requires { ⌜ length (now text) ≤ base .bytes ⌝ }
-    requires { ⌜ now table ≡ replicate (length (now table)) 0 ⌝ }
-    ensures { λ r. ⌜ Whole (wholeOf base (length (now (table .entry))) (now (text .entry))) (length (now (table .entry))) (now (table .exit)) r ⌝ }
+// The answer, and the rows in the table, which may hold anything after a refusal. A table without a row is too small for any text.
+fn read_rows(text: &[u8], table: &mut [u32]) -> Reading
+    ensures { λ r. ⌜ Ended (wholeOf base (length (now (table .entry))) (now (text .entry))) (now (table .entry)) (now (table .exit)) r ⌝ }
+{
+    if table.len() < ROW_WORDS {
+        return read_again(text);
+    }
+    read_lent(text, table)
+}
+
+// The same, by a reading that takes as many values as the table has rows; where these are too few, the text is read again, for its other faults and
+// for the number of its values.
+fn read_lent(text: &[u8], table: &mut [u32]) -> Reading
+    ensures { λ r. ⌜ Ended (wholeOf base (length (now (table .entry))) (now (text .entry))) (now (table .entry)) (now (table .exit)) r ⌝ }
 {
     let limit = values_in(table.len());
     let answer = read_whole(text, table, limit);
@@ -82,8 +92,8 @@ fn is_many(r: Refusal) -> bool
 }
 
 // A text that has more values than the lent table has rows, read on rows of our own: another refusal, or the rows that it needs.
+// Two functions call it: a function with one caller becomes part of it, and then each call of `read` would pay for these rows.
 fn read_again(text: &[u8]) -> Reading
-    requires { ⌜ length (now text) ≤ base .bytes ⌝ }
     ensures { λ r. ⌜ r ≡ againOf (readOf base (now (text .entry))) ⌝ }
 {
     let mut own = [0u32; VALUES * ROW_WORDS];
@@ -94,17 +104,19 @@ fn read_again(text: &[u8]) -> Reading
     }
 }
 
-// A value with white space around it, of at most `limit` values.
+// A text within the limit of bytes: a value with white space around it, of at most `limit` values.
 fn read_whole(text: &[u8], table: &mut [u32], limit: usize) -> Reading
-    requires { ⌜ length (now text) ≤ base .bytes ⌝ }
-    requires { ⌜ ItemAsks (now text) (now table) limit 0 0 ⌝ }
+    requires { ⌜ (limit ≤ base .values) × (limit * rowWords ≤ length (now table)) ⌝ }
     ensures { λ r. ⌜ Ended (readOf (upTo limit) (now (text .entry))) (now (table .entry)) (now (table .exit)) r ⌝ }
 {
+    if BYTES < text.len() {
+        return Reading::Refused(Refusal::TooLong);
+    }
     let from = skip(text, 0);
     let v = read_value(text, table, limit, DEPTH, 0, 0, from, 0);
     match v {
-        Part::Stop(r) => Reading::Refused(r),
-        Part::Next(to, count) => {
+        Outcome::Stop(r) => Reading::Refused(r),
+        Outcome::Next(to, count) => {
             let end = skip(text, to);
             if end < text.len() {
                 return Reading::Refused(Refusal::Grammar(end));

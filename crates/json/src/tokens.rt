@@ -1,4 +1,20 @@
 // White space, and the tokens of the values that hold no others: literals, numbers, strings.
+use crate::bytes::LARGE_E;
+use crate::bytes::LINE_FEED;
+use crate::bytes::MINUS;
+use crate::bytes::OPEN_ARRAY;
+use crate::bytes::OPEN_OBJECT;
+use crate::bytes::PLUS;
+use crate::bytes::POINT;
+use crate::bytes::QUOTE;
+use crate::bytes::RETURN;
+use crate::bytes::SMALL_E;
+use crate::bytes::SMALL_F;
+use crate::bytes::SMALL_N;
+use crate::bytes::SMALL_T;
+use crate::bytes::SPACE;
+use crate::bytes::TAB;
+use crate::bytes::ZERO;
 use crate::bytes::peek;
 use crate::rows::ARRAY;
 use crate::rows::FALSE;
@@ -20,16 +36,16 @@ fn space_at(text: &[u8], at: usize) -> bool
     ensures { λ r. ⌜ r ≡ tokens.isSpace (byteAt (now (text .entry)) at) ⌝ }
 {
     let b = peek(text, at);
-    if b == 32 {
+    if b == SPACE {
         return true;
     }
-    if b == 9 {
+    if b == TAB {
         return true;
     }
-    if b == 10 {
+    if b == LINE_FEED {
         return true;
     }
-    b == 13
+    b == RETURN
 }
 
 // Does a digit stand at a place?
@@ -99,14 +115,14 @@ fn digits(text: &[u8], at: usize) -> Token
 fn minus_end(text: &[u8], at: usize) -> usize
     ensures { λ r. ⌜ r ≡ tokens.minusEnd (now (text .entry)) at ⌝ }
 {
-    if peek(text, at) == 45 { at + 1 } else { at }
+    if peek(text, at) == MINUS { at + 1 } else { at }
 }
 
 // A number's whole part: a zero, or digits that start with no zero.
 fn int(text: &[u8], at: usize) -> Token
     ensures { λ r. ⌜ r ≡ tokens.intAt (now (text .entry)) at ⌝ }
 {
-    if peek(text, at) == 48 {
+    if peek(text, at) == ZERO {
         return Token::End(at + 1);
     }
     digits(text, at)
@@ -116,7 +132,7 @@ fn int(text: &[u8], at: usize) -> Token
 fn frac(text: &[u8], at: usize) -> Token
     ensures { λ r. ⌜ r ≡ tokens.fracAt (now (text .entry)) at ⌝ }
 {
-    if peek(text, at) == 46 {
+    if peek(text, at) == POINT {
         return digits(text, at + 1);
     }
     Token::End(at)
@@ -127,10 +143,10 @@ fn sign_end(text: &[u8], at: usize) -> usize
     ensures { λ r. ⌜ r ≡ tokens.signEnd (now (text .entry)) at ⌝ }
 {
     let b = peek(text, at);
-    if b == 45 {
+    if b == MINUS {
         return at + 1;
     }
-    if b == 43 {
+    if b == PLUS {
         return at + 1;
     }
     at
@@ -141,10 +157,10 @@ fn exp(text: &[u8], at: usize) -> Token
     ensures { λ r. ⌜ r ≡ tokens.expAt (now (text .entry)) at ⌝ }
 {
     let b = peek(text, at);
-    if b == 101 {
+    if b == SMALL_E {
         return digits(text, sign_end(text, at + 1));
     }
-    if b == 69 {
+    if b == LARGE_E {
         return digits(text, sign_end(text, at + 1));
     }
     Token::End(at)
@@ -170,13 +186,13 @@ pub(crate) fn kind_of(b: u16) -> usize
     ensures { λ r. ⌜ r ≡ tokens.kindBy b ⌝ }
 {
     match b {
-        110 => NULL,
-        102 => FALSE,
-        116 => TRUE,
-        45 => NUMBER,
-        34 => STRING,
-        91 => ARRAY,
-        123 => OBJECT,
+        SMALL_N => NULL,
+        SMALL_F => FALSE,
+        SMALL_T => TRUE,
+        MINUS => NUMBER,
+        QUOTE => STRING,
+        OPEN_ARRAY => ARRAY,
+        OPEN_OBJECT => OBJECT,
         48..=57 => NUMBER,
         _ => 0,
     }

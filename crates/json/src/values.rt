@@ -1,7 +1,11 @@
 // Values, arrays and objects, whose readers call each other. Each call has one container less to open, or stands further on in the text.
+use crate::bytes::COMMA;
 use crate::bytes::peek;
-use crate::members::Key;
-use crate::members::read_key;
+use crate::containers::Container;
+use crate::containers::Item;
+use crate::containers::closing;
+use crate::containers::item_at;
+use crate::containers::kind_in;
 use crate::rows::ARRAY;
 use crate::rows::OBJECT;
 use crate::rows::put_row;
@@ -15,24 +19,16 @@ ghost use Prim.Native.Nat.{_+_, _<_};
 ghost use lib.ListN.{length};
 ghost use Rattle.text.specs.Text.{byteAt};
 ghost use Rattle.text.specs.Tokens as tokens;
-ghost use Rattle.text.specs.Grammar as grammar;
-ghost use Rattle.text.specs.Tree as tree;
 ghost use Rattle.text.specs.Tree.{Forest};
 ghost use Rattle.text.specs.Standing.{StandsTo};
-ghost use Rattle.text.specs.Reader.{scalarAt, arrayAt, objectAt, memberOf, valueAt};
+ghost use Rattle.text.specs.Reader.{scalarAt, arrayAt, objectAt, valueAt};
 ghost use Rattle.json.specs.Rows.{Row};
-ghost use Rattle.json.specs.Parts.{upTo, ItemAsks, NamePlaces, Took, Closable, Closes, bracketOf, containerAt, itemsAt, itemOf};
+ghost use Rattle.json.specs.Parts.{upTo, ItemAsks, NamePlaces, Took, Closable, Closes, containerAt, itemsAt, itemOf};
 
 // What reading a part of a text gives: the place after it and the number of values so far, or the refusal.
-pub enum Part {
+pub enum Outcome {
     Next(usize, usize),
     Stop(Refusal),
-}
-
-// The two containers: they differ in their kind, their closing byte and their items.
-pub enum Container {
-    Array,
-    Object,
 }
 
 // The kind that the byte at a place begins, or 0.
@@ -52,66 +48,46 @@ fn read_scalar(
     ne: usize,
     at: usize,
     count: usize,
-) -> Part
+) -> Outcome
     requires { ⌜ ItemAsks (now text) (now table) limit at count ⌝ }
     requires { ⌜ NamePlaces (now text) ns ne ⌝ }
     requires { ⌜ kind < 8 ⌝ }
     ensures { λ r. ⌜ Took (scalarAt (upTo limit) (now (text .entry)) kind ns ne at count) (now (text .entry)) limit at count (now (table .entry)) (now (table .exit)) r ⌝ }
 {
     if limit <= count {
-        return Part::Stop(Refusal::Many(at));
+        return Outcome::Stop(Refusal::Many(at));
     }
     match token_end(text, kind, at) {
         Token::End(to) => {
             put_row(table, count, kind, ns, ne, at, to, 0);
             let after = count + 1;
-            Part::Next(to, after)
+            Outcome::Next(to, after)
         }
-        Token::No2(p) => Part::Stop(Refusal::Grammar(p)),
-        Token::No3(p) => Part::Stop(Refusal::Character(p)),
-    }
-}
-
-// The kind in a container's row.
-fn kind_in(of: Container) -> usize
-    ensures { λ r. ⌜ r ≡ tree.bracketKind (bracketOf of) ⌝ }
-{
-    match of {
-        Container::Array => ARRAY,
-        Container::Object => OBJECT,
-    }
-}
-
-// The byte that closes a container.
-fn closing(of: Container) -> u16
-    ensures { λ r. ⌜ r ≡ grammar.closing (bracketOf of) ⌝ }
-{
-    match of {
-        Container::Array => 93,
-        Container::Object => 125,
+        Token::No2(p) => Outcome::Stop(Refusal::Grammar(p)),
+        Token::No3(p) => Outcome::Stop(Refusal::Character(p)),
     }
 }
 
 // Closes a container: its row, once what is inside is read.
 fn close(
     table: &mut [u32],
-    inside: Part,
+    inside: Outcome,
     kind: usize,
     ns: usize,
     ne: usize,
     at: usize,
     count: usize,
-) -> Part
+) -> Outcome
     requires { ⌜ Closable count inside ⌝ }
     requires { ⌜ Row (length (now table)) count kind ns ne at 0 0 ⌝ }
     ensures { λ r. ⌜ Closes kind ns ne at count inside (now (table .entry)) (now (table .exit)) r ⌝ }
 {
     match inside {
-        Part::Next(to, after) => {
+        Outcome::Next(to, after) => {
             put_row(table, count, kind, ns, ne, at, to, after - count - 1);
-            Part::Next(to, after)
+            Outcome::Next(to, after)
         }
-        Part::Stop(r) => Part::Stop(r),
+        Outcome::Stop(r) => Outcome::Stop(r),
     }
 }
 
@@ -125,14 +101,14 @@ pub(crate) fn read_value(
     ne: usize,
     at: usize,
     count: usize,
-) -> Part
+) -> Outcome
     requires { ⌜ ItemAsks (now text) (now table) limit at count ⌝ }
     requires { ⌜ NamePlaces (now text) ns ne ⌝ }
     ensures { λ r. ⌜ Took (valueAt (upTo limit) (now (text .entry)) depth ns ne at count) (now (text .entry)) limit at count (now (table .entry)) (now (table .exit)) r ⌝ }
 {
     let kind = kind_at(text, at);
     if kind == 0 {
-        return Part::Stop(Refusal::Grammar(at));
+        return Outcome::Stop(Refusal::Grammar(at));
     }
     if kind == ARRAY {
         return read_array(text, table, limit, depth, ns, ne, at, count);
@@ -153,7 +129,7 @@ fn read_array(
     ne: usize,
     at: usize,
     count: usize,
-) -> Part
+) -> Outcome
     requires { ⌜ ItemAsks (now text) (now table) limit (at + 1) count ⌝ }
     requires { ⌜ NamePlaces (now text) ns ne ⌝ }
     ensures { λ r. ⌜ Took (arrayAt (upTo limit) (now (text .entry)) depth ns ne at count) (now (text .entry)) limit at count (now (table .entry)) (now (table .exit)) r ⌝ }
@@ -181,7 +157,7 @@ fn read_object(
     ne: usize,
     at: usize,
     count: usize,
-) -> Part
+) -> Outcome
     requires { ⌜ ItemAsks (now text) (now table) limit (at + 1) count ⌝ }
     requires { ⌜ NamePlaces (now text) ns ne ⌝ }
     ensures { λ r. ⌜ Took (objectAt (upTo limit) (now (text .entry)) depth ns ne at count) (now (text .entry)) limit at count (now (table .entry)) (now (table .exit)) r ⌝ }
@@ -210,16 +186,16 @@ fn read_container(
     ne: usize,
     at: usize,
     count: usize,
-) -> Part
+) -> Outcome
     requires { ⌜ ItemAsks (now text) (now table) limit (at + 1) count ⌝ }
     requires { ⌜ NamePlaces (now text) ns ne ⌝ }
     ensures { λ r. ⌜ Took (containerAt of (upTo limit) (now (text .entry)) depth ns ne at count) (now (text .entry)) limit at count (now (table .entry)) (now (table .exit)) r ⌝ }
 {
     if depth == 0 {
-        return Part::Stop(Refusal::Deep(at));
+        return Outcome::Stop(Refusal::Deep(at));
     }
     if limit <= count {
-        return Part::Stop(Refusal::Many(at));
+        return Outcome::Stop(Refusal::Many(at));
     }
     let inside = read_items(text, table, limit, depth - 1, of, at + 1, count + 1);
     close(table, inside, kind_in(of), ns, ne, at, count)
@@ -234,7 +210,7 @@ fn read_items(
     of: Container,
     from: usize,
     first: usize,
-) -> Part
+) -> Outcome
     requires { ⌜ ItemAsks (now text) (now table) limit from first ⌝ }
     ensures { λ r. ⌜ Took (itemsAt of (upTo limit) (now (text .entry)) depth from first) (now (text .entry)) limit from first (now (table .entry)) (now (table .exit)) r ⌝ }
 {
@@ -243,23 +219,23 @@ fn read_items(
     let b = peek(text, start);
     if b == z {
         let next = start + 1;
-        return Part::Next(next, first);
+        return Outcome::Next(next, first);
     }
     let mut at = start;
     let mut count = first;
     loop {
         let v = read_item(text, table, limit, depth, of, first, at, count);
-        let Part::Next(to, after) = v else {
+        let Outcome::Next(to, after) = v else {
             return v;
         };
         let x = skip(text, to);
         let b = peek(text, x);
         if b == z {
             let next = x + 1;
-            return Part::Next(next, after);
+            return Outcome::Next(next, after);
         }
-        if b != 44 {
-            return Part::Stop(Refusal::Grammar(x));
+        if b != COMMA {
+            return Outcome::Stop(Refusal::Grammar(x));
         }
         at = skip(text, x + 1);
         count = after;
@@ -276,32 +252,12 @@ fn read_item(
     first: usize,
     at: usize,
     count: usize,
-) -> Part
+) -> Outcome
     requires { ⌜ ItemAsks (now text) (now table) limit at count ⌝ }
     ensures { λ r. ⌜ ((done : Forest) → StandsTo (now (table .entry)) first count done → Took (itemOf of (upTo limit) (now (text .entry)) depth done at count) (now (text .entry)) limit at count (now (table .entry)) (now (table .exit)) r) ⌝ }
 {
-    match of {
-        Container::Array => read_value(text, table, limit, depth, 0, 0, at, count),
-        Container::Object => read_member(text, table, limit, depth, first, at, count),
-    }
-}
-
-// One member of the object whose members so far stand from row `first` up to row `count`.
-fn read_member(
-    text: &[u8],
-    table: &mut [u32],
-    limit: usize,
-    depth: usize,
-    first: usize,
-    at: usize,
-    count: usize,
-) -> Part
-    requires { ⌜ ItemAsks (now text) (now table) limit at count ⌝ }
-    ensures { λ r. ⌜ ((done : Forest) → StandsTo (now (table .entry)) first count done → Took (memberOf (upTo limit) (now (text .entry)) (valueAt (upTo limit) (now (text .entry)) depth) done at count) (now (text .entry)) limit at count (now (table .entry)) (now (table .exit)) r) ⌝ }
-{
-    let k = read_key(text, table, first, count, at);
-    match k {
-        Key::Value(ne, from) => { read_value(text, table, limit, depth, at + 1, ne, from, count) }
-        Key::Broken(r) => Part::Stop(r),
+    match item_at(text, table, of, first, count, at) {
+        Item::At(ns, ne, from) => { read_value(text, table, limit, depth, ns, ne, from, count) }
+        Item::Wrong(r) => Outcome::Stop(r),
     }
 }

@@ -5,7 +5,11 @@ use mathlib.Core.List.{List, [], _∷_}
 use Prim.Native.Nat.{ℕ, zero, suc, _<_}
 use native.Mathlib.Omega.{arith}
 use lib.ListN.{length, getD}
-use Rattle.laws.specs.Bounds.{AllBelow}
+
+-- every element is below n; a text of bytes has all below 256
+abbrev pub AllBelow : ℕ → List ℕ → Type 0
+AllBelow n [] = Prim.Unit {0}
+AllBelow n (x ∷ xs) = (x < n) × AllBelow n xs
 
 pub below-at : (n : ℕ) (xs : List ℕ) → AllBelow n xs → (i d : ℕ) → i < length xs → getD xs i d < n
 below-at n [] p i d h = absurd (omega arith)

@@ -1,7 +1,6 @@
--- What speaks of no format: walks over places, parts of lists, bounds, byte order, what holds of each element, tests, multiples, sorting.
+-- What speaks of no format: walks over places, parts of lists, byte order, what holds of each element, tests, multiples, sorting.
 pub mod Scan
 pub mod Lists
-pub mod Bounds
 pub mod Order
 pub mod Each
 pub mod Tests

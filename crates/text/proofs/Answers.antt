@@ -1,4 +1,4 @@
--- What reading answers of a text of the grammar that says a document, white space or not, for any limits: `told-answers` (`Answers`,
+-- What reading answers of a text of the grammar that says a document, white space or not, for any limits: `told-answers` (`AnswerOn`,
 -- specs/Writable.antt). It is read exactly if it is within them (`read-iff`); and if only the depth is too much, that is all that it is refused for
 -- (`only-deep`). Assumes nothing.
 use mathlib.Core.Path.{_≡_, refl, sym, ap, subst}
@@ -19,7 +19,7 @@ use Rattle.text.specs.Meaning.{Accepts}
 use Rattle.text.specs.Doc.{Doc, countOf}
 use Rattle.text.specs.Distinct.{Distinct}
 use Rattle.text.specs.Telling.{Tells}
-use Rattle.text.specs.Writable.{depthIn, FitsLimits, Exceeds, Answers}
+use Rattle.text.specs.Writable.{depthIn, FitsLimits, Exceeds, AnswerOn}
 use Rattle.text.specs.declared.Refusal.{Refusal}
 use Rattle.text.specs.declared.Refusal.the-variants.{Deep}
 use Rattle.text.proofs.Promise.{promised}
@@ -58,12 +58,12 @@ module _ (L : Limits) (t : List ℕ) (j : JsonText t) (d : Doc) (s : Tells t (ro
   exceeds l i (deep o k) fifth = Exceeds.deep l (omega (arith, in-deep i o, told-depth s))
   exceeds l i (many k) sixth = Exceeds.many l (omega (arith, in-few i, told-size s))
 
-  pub told-answers : Answers L t d (rootOf j) (readOf L t)
-  told-answers = by-order (L .bytes) (length t) (λ l. rw (too-long L t .1 l) (Answers.refused (Exceeds.long l))) (λ l. go (readOf L t) refl l (told L t l j))
+  pub told-answers : AnswerOn L t d (rootOf j) (readOf L t)
+  told-answers = by-order (L .bytes) (length t) (λ l. rw (too-long L t .1 l) (AnswerOn.refused (Exceeds.long l))) (λ l. go (readOf L t) refl l (told L t l j))
     where
-      go : (R : Read) → readOf L t ≡ R → (l : length t ≤ L .bytes) → Told L t l j R → Answers L t d (rootOf j) R
-      go R e l whole = Answers.read (kept e)
-      go R e l (wrong i w n f) = Answers.refused (exceeds l i w n)
+      go : (R : Read) → readOf L t ≡ R → (l : length t ≤ L .bytes) → Told L t l j R → AnswerOn L t d (rootOf j) R
+      go R e l whole = AnswerOn.read (kept e)
+      go R e l (wrong i w n f) = AnswerOn.refused (exceeds l i w n)
 
 -- ---- what follows ----
 
@@ -74,16 +74,16 @@ module _ {L : Limits} {t : List ℕ} {d : Doc} where
   exceeds-not (Exceeds.deep l m) k = omega (arith, k .shallow)
   exceeds-not (Exceeds.many l m) k = omega (arith, k .few)
 
-  pub keeps-read : {f : Forest} {R : Read} → Answers L t d f R → FitsLimits L t d → R ≡ good f (length t)
-  keeps-read (Answers.read k) h = refl
-  keeps-read (Answers.refused x) h = absurd (exceeds-not x h)
+  pub keeps-read : {f : Forest} {R : Read} → AnswerOn L t d f R → FitsLimits L t d → R ≡ good f (length t)
+  keeps-read (AnswerOn.read k) h = refl
+  keeps-read (AnswerOn.refused x) h = absurd (exceeds-not x h)
 
-  pub read-iff : {f : Forest} {R : Read} → Answers L t d f R → (R ≡ good f (length t)) ↔ FitsLimits L t d
+  pub read-iff : {f : Forest} {R : Read} → AnswerOn L t d f R → (R ≡ good f (length t)) ↔ FitsLimits L t d
   read-iff a = (go a, keeps-read a)
     where
-      go : {f : Forest} {R : Read} → Answers L t d f R → R ≡ good f (length t) → FitsLimits L t d
-      go (Answers.read k) e = k
-      go (Answers.refused x) e = let z : _≡_ {A = ℕ} 0 1 = cc in absurd (omega arith)
+      go : {f : Forest} {R : Read} → AnswerOn L t d f R → R ≡ good f (length t) → FitsLimits L t d
+      go (AnswerOn.read k) e = k
+      go (AnswerOn.refused x) e = let z : _≡_ {A = ℕ} 0 1 = cc in absurd (omega arith)
 
   deep-alone : {r : Refusal} → Exceeds L t d r → length t ≤ L .bytes → countOf d ≤ L .values → Distinct d → (p : ℕ) × (r ≡ Deep p)
   deep-alone (Exceeds.long l) short few o = absurd (omega arith)
@@ -91,7 +91,7 @@ module _ {L : Limits} {t : List ℕ} {d : Doc} where
   deep-alone (Exceeds.deep {p = p} l m) short few o = (p, refl)
   deep-alone (Exceeds.many l m) short few o = absurd (omega arith)
 
-  pub only-deep : {f : Forest} {R : Read} → Answers L t d f R → length t ≤ L .bytes → countOf d ≤ L .values → Distinct d → L .depth < depthIn d
+  pub only-deep : {f : Forest} {R : Read} → AnswerOn L t d f R → length t ≤ L .bytes → countOf d ≤ L .values → Distinct d → L .depth < depthIn d
       → (p : ℕ) × (R ≡ bad (Deep p))
-  only-deep (Answers.read k) short few o l = absurd (omega (arith, k .shallow))
-  only-deep (Answers.refused x) short few o l = let (p, e) = deep-alone x short few o in (p, ap bad e)
+  only-deep (AnswerOn.read k) short few o l = absurd (omega (arith, k .shallow))
+  only-deep (AnswerOn.refused x) short few o l = let (p, e) = deep-alone x short few o in (p, ap bad e)

@@ -25,7 +25,7 @@ use Rattle.text.specs.Firsts.{HasFirst, kindAt, nameStart, nameEnd, star
 use Rattle.text.specs.Reader.{good, named, valueAt}
 use Rattle.text.specs.Tokens.{skip}
 use Rattle.text.specs.Whole.{readOf}
-use Rattle.text.specs.Doc.{Name, Doc, scalar, array, object, Members, empty, member, boxed, labelAt, membersOf, docOf, kindOf, tokenOf, below, countOf, countAll, property, seek}
+use Rattle.text.specs.Doc.{Name, Doc, scalar, array, object, Members, empty, member, boxed, labelAt, membersOf, docOf, kindOf, tokenOf, childrenOf, countOf, countAll, property, seek}
 use Rattle.text.specs.Distinct.{Distinct, DistinctEntries, DistinctMembers}
 use Rattle.text.proofs.Standing.{first-and-rest}
 use Rattle.text.proofs.Induction.{Rules, value-induction, read-accepted}
@@ -57,7 +57,7 @@ module _ (t : List ℕ) where
   doc-scalar (node curly ns ne from to inside rest) s k = absurd (omega arith)
 
   -- what stands right below it is what is inside
-  pub doc-below : (f : Forest) → below (docOf t f) ≡ membersOf t (insideAt f)
+  pub doc-below : (f : Forest) → childrenOf (docOf t f) ≡ membersOf t (insideAt f)
   unfolding docOf membersOf
   doc-below T.none = refl
   doc-below (leaf kind ns ne from to rest) = refl

@@ -17,6 +17,7 @@ pub mod Outcomes
 pub mod Promise
 pub mod Stores
 pub mod Grammar
+pub mod Readable
 pub mod Rows
 pub mod NewNames
 pub mod Labels

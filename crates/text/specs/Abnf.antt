@@ -1,4 +1,4 @@
--- The ways in which ABNF (RFC 5234) puts rules together, as languages: which lists of bytes a rule describes.
+-- The ways in which ABNF (RFC 5234) puts rules together, as languages: which lists of bytes a rule describes (docs/RULES.md, 3.2).
 -- Assumes nothing: these are definitions.
 use Prim.Native.Nat.{ℕ, _≤_}
 use mathlib.Core.Path.{_≡_}

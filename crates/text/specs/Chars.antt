@@ -1,4 +1,4 @@
--- What stands at a place inside a string: RFC 8259, section 7, and the refusals 2 and 3.
+-- What stands at a place inside a string: RFC 8259, section 7, and the refusals 2 and 3 (docs/RULES.md, 3.3 and 3.4).
 -- Every test is on one number, the byte at a place or 256 at and past the end.
 -- Assumes nothing: these are definitions.
 use Prim.Native.Nat.{ℕ, _+_, _-_, _*_, _%_}

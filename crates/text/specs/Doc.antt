@@ -8,7 +8,7 @@ use Rattle.laws.specs.Lists.{partOf}
 use Rattle.text.specs.Strings.{nameOf}
 use Rattle.text.specs.Tree.{Bracket, square, curly, Forest, leaf, node}
 use Rattle.text.specs.Tree as T
-pub use Rattle.text.specs.Document.{Name, Doc, scalar, array, object, Members, empty, member, kindOf, tokenOf, below, Property, property, seek, isThere}
+pub use Rattle.text.specs.Document.{Name, Doc, scalar, array, object, Members, empty, member, kindOf, tokenOf, childrenOf, Property, property, seek, isThere}
 unfoldable pub use Rattle.text.specs.Document.{countOf, countAll}
 
 -- an array or an object of what stands inside it

@@ -39,10 +39,10 @@ tokenOf (array ms) = []
 tokenOf (object ms) = []
 
 -- what stands right below a value
-abbrev pub below : Doc → Members
-below (scalar kind token) = empty
-below (array ms) = ms
-below (object ms) = ms
+abbrev pub childrenOf : Doc → Members
+childrenOf (scalar kind token) = empty
+childrenOf (array ms) = ms
+childrenOf (object ms) = ms
 
 unfoldable mutual
   -- the values of a document, itself included

@@ -1,20 +1,25 @@
 -- What it means that a text has a fault of a number at a place: each of 2 to 6 by itself, over texts of the grammar that begin as the text does,
--- limits, names and the rules of spelling aside. The refusal is the fault of the smallest place, then of the smaller number (`FirstFault`).
+-- limits, names and the rules of spelling aside. The refusal is the fault of the smallest place, then of the smaller number (`FirstFault`). At the end
+-- how a text is refused for a lent table, 1 and 7 too (`Unreadable`).
 -- Assumes nothing: these are definitions.
-use Prim.Native.Nat.{ℕ, _+_, _≤_, _<_}
+use Prim.Native.Nat.{ℕ, _+_, _*_, _≤_, _<_}
 use mathlib.Core.Path.{_≡_}
 use mathlib.Core.List.{List, _++_}
 use mathlib.Core.Bool.{true}
 use lib.ListN.{length, take, drop}
 use Rattle.laws.specs.Lists.{partOf}
-use Rattle.text.specs.Limits.{Limits}
+use Rattle.text.specs.Limits.{Limits, rowWords}
 use Rattle.text.specs.Text.{byteAt}
 use Rattle.text.specs.Spelling.{Spells}
 use Rattle.text.specs.Broken.{Ill}
-use Rattle.text.specs.Forest.{Forest}
+use Rattle.text.specs.Forest.{Forest, size}
 use Rattle.text.specs.Placed.{Quoted}
 use Rattle.text.specs.Grammar.{JsonText, rootOf}
 use Rattle.text.specs.Seats.{Head, Seat, top, Sits, Named}
+use Rattle.text.specs.Meaning.{Accepts}
+use Rattle.text.specs.Sheet.{numbers, refused}
+use Rattle.text.specs.declared.Refusal.{Refusal}
+use Rattle.text.specs.declared.Refusal.the-variants.{TooLong, Small}
 
 -- some text of the grammar begins with the first p bytes
 pub record Begins (t : List ℕ) (p : ℕ) : Type 0 where
@@ -85,3 +90,19 @@ FirstFault L t = First (FaultAt L t)
 -- the first one of a text of the grammar with the tree f: there each fault is a rule that a value of the tree breaks
 abbrev pub FirstBreak : Limits → List ℕ → Forest → (number place : ℕ) → Type 0
 FirstBreak L t f = First (TreeBreaks L t f)
+
+-- 7: t would be accepted, but it has n values, and a table of so many words has fewer whole rows
+pub record RowsShort (L : Limits) (words : ℕ) (t : List ℕ) (n : ℕ) : Type 0 where
+  pub tree : Forest
+  pub accepts : Accepts L t tree
+  pub short : words < rowWords * size tree
+  pub needed : n ≡ size tree
+
+-- a text is refused, for a table of so many words, with this refusal
+pub data Unreadable (L : Limits) (words : ℕ) (t : List ℕ) : Refusal → Type 0 where
+  -- 1 comes first: it has more bytes than a text may have
+  long : L .bytes < length t → Unreadable L words t TooLong
+  -- then 2 to 6: its first fault, by the refusal that has its numbers on the sheet
+  faulty : {r : Refusal} {n p : ℕ} → length t ≤ L .bytes → FirstFault L t n p → refused r ≡ numbers n p 0 → Unreadable L words t r
+  -- then 7
+  short : {n : ℕ} → RowsShort L words t n → Unreadable L words t (Small n)

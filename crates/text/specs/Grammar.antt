@@ -5,7 +5,7 @@
 --     array     = "[" ws [ value ws *( "," ws value ws ) ] "]"
 --     object    = "{" ws [ member ws *( "," ws member ws ) ] "}"
 --     member    = string ws ":" ws value
--- Assumes nothing: these are definitions.
+-- docs/RULES.md, 3.2. Assumes nothing: these are definitions.
 use Prim.Native.Nat.{ℕ, suc, _+_, _-_, max}
 use mathlib.Core.List.{List, [], _∷_, _++_}
 use lib.ListN.{length}
@@ -85,7 +85,7 @@ pub data JsonString : List ℕ → Type 0 where
 
 -- null, false, true, a number, a string
 pub data Simple : Type 0 where
-  nothing falsity truth numeral text : Simple
+  nothing falsity truth numeral string : Simple
 
 -- their kinds in a row
 abbrev pub simpleKind : Simple → ℕ
@@ -93,7 +93,7 @@ simpleKind nothing = 1
 simpleKind falsity = 2
 simpleKind truth = 3
 simpleKind numeral = 4
-simpleKind text = 5
+simpleKind string = 5
 
 -- the bytes are such a value
 abbrev pub IsSimple : Simple → List ℕ → Type 0
@@ -101,7 +101,7 @@ IsSimple nothing = Exactly (bytes "null")
 IsSimple falsity = Exactly (bytes "false")
 IsSimple truth = Exactly (bytes "true")
 IsSimple numeral = Number
-IsSimple text = JsonString
+IsSimple string = JsonString
 
 -- ---- sections 2 to 5: values, arrays and objects
 
@@ -116,12 +116,12 @@ closing square = 0x5D
 closing curly = 0x7D
 
 -- an item of an array is a value, one of an object is a member; items have commas between them
-pub data Part : Type 0 where
-  value : Part
-  item items : Bracket → Part
+pub data Phrase : Type 0 where
+  value : Phrase
+  item items : Bracket → Phrase
 
 -- the bytes are such a part
-pub data Is : Part → List ℕ → Type 0 where
+pub data Is : Phrase → List ℕ → Type 0 where
   simple : {w : List ℕ} (k : Simple) → IsSimple k w → Is value w
   empty : {s : List ℕ} (b : Bracket) → Ws s → Is value (opening b ∷ s ++ closing b ∷ [])
   full : {s w : List ℕ} (b : Bracket) → Ws s → Is (items b) w → Is value (opening b ∷ s ++ (w ++ closing b ∷ []))
@@ -138,7 +138,7 @@ pub data JsonText : List ℕ → Type 0 where
 
 -- The values of a part whose first byte is at a place, each from its own first byte up to the place after its last. A value has the name whose places
 -- are handed in: for a member those of its name, for an element 0 and 0.
-unfoldable pub treeOf : {a : Part} {w : List ℕ} → Is a w → (ns ne at : ℕ) → Forest
+unfoldable pub treeOf : {a : Phrase} {w : List ℕ} → Is a w → (ns ne at : ℕ) → Forest
 treeOf (simple {w} k l) ns ne at = leaf (simpleKind k) ns ne at (at + length w) none
 treeOf (empty {s} b p) ns ne at = node b ns ne at (at + length s + 2) none none
 treeOf (full {s} {w} b p d) ns ne at = node b ns ne at (at + length s + length w + 2) (treeOf d 0 0 (at + 1 + length s)) none

@@ -1,5 +1,5 @@
--- What a JSON text means, and then how that is computed. No file uses a later one, but for Telling, which says of `contentOf` (Strings) that it is what
--- a string spells. In comments 01 is the rules paper.
+-- What a JSON text means, and then how that is computed. No file uses a later one. In comments 01 is the rules paper, which docs/RULES.md restates;
+-- sections 3 and 4 are of texts.
 --
 -- One text walked through: {"a":[1]}, nine bytes; places count from 0.
 --     spelling    the name's inside, from place 2 up to 3, spells one code point, U+0061
@@ -29,14 +29,15 @@ pub mod Placed
 pub mod Meaning
 pub mod Broken
 pub mod Fault
--- what a text says
+-- documents, and what their names spell
 pub mod Document
 pub mod Distinct
 pub mod Labels
-pub mod Telling
--- how it is computed: characters, strings, tokens, the rows of a tree, values, whole texts, limits with fewer values, the document of a text
+-- how strings are computed, and what document a text says: a string's content is what is computed of it
 pub mod Chars
 pub mod Strings
+pub mod Telling
+-- how the rest is computed: tokens, the rows of a tree, values, whole texts, limits with fewer values, the document of a text
 pub mod Tokens
 pub mod Tree
 pub mod Reader

@@ -1,12 +1,13 @@
--- What it means that a text is accepted with a tree, in the words of the grammar, of spelling and of the limits. No reader is named here.
+-- What it means that a text is accepted with a tree, in the words of the grammar, of spelling and of the limits, and that a lent table has rows for it.
+-- No reader is named here.
 -- Assumes nothing: these are definitions.
-use Prim.Native.Nat.{ℕ, _+_, _-_, _≤_, _<_}
+use Prim.Native.Nat.{ℕ, _+_, _-_, _*_, _≤_, _<_}
 use mathlib.Core.Path.{_≡_}
 use mathlib.Core.List.{List}
 use mathlib.Core.Bool.{true}
 use lib.ListN.{length}
 use Rattle.laws.specs.Lists.{partOf}
-use Rattle.text.specs.Limits.{Limits}
+use Rattle.text.specs.Limits.{Limits, rowWords}
 use Rattle.text.specs.Spelling.{Spells}
 use Rattle.text.specs.Forest.{Forest, size}
 use Rattle.text.specs.Placed.{Quoted}
@@ -32,3 +33,8 @@ pub record Accepts (L : Limits) (t : List ℕ) (f : Forest) : Type 0 where
   pub short : length t ≤ L .bytes
   pub shallow : depthOf f ≤ L .depth
   pub few : size f ≤ L .values
+
+-- t is a JSON text that keeps I-JSON's rules within the limits, f is its tree, and a table of so many words has rows enough
+pub record Readable (L : Limits) (words : ℕ) (t : List ℕ) (f : Forest) : Type 0 where
+  pub accepts : Accepts L t f
+  pub enough : rowWords * size f ≤ words

@@ -1,4 +1,4 @@
--- What stands at a place of a text: values and the place after them, or the first refusal of 2 to 6 (RFC 8259, sections 2 to 5, and the sheet).
+-- What stands at a place of a text: values and the place after them, or the first refusal of 2 to 6 (RFC 8259, sections 2 to 5; docs/RULES.md, 3).
 -- A text is read from left to right and the first refusal ends it, so the smallest place wins; at one bracket 5 is asked before 6.
 -- A value's definition goes by the containers that may still be opened, and a run of items by a number of turns, of which there are always enough.
 -- Assumes nothing: these are definitions.

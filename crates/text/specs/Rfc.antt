@@ -4,18 +4,18 @@
 --     array  = begin-array [ value *( value-separator value ) ] end-array
 --     object = begin-object [ member *( value-separator member ) ] end-object
 --     member = string name-separator value
--- Assumes nothing: these are definitions.
+-- docs/RULES.md, 3.2. Assumes nothing: these are definitions.
 use Prim.Native.Nat.{ℕ}
 use mathlib.Core.List.{List, [], _∷_, _++_}
 use Rattle.text.specs.Forest.{Bracket, square, curly}
-use Rattle.text.specs.Grammar.{Ws, JsonString, Simple, IsSimple, opening, Part, value, item, items, closing}
+use Rattle.text.specs.Grammar.{Ws, JsonString, Simple, IsSimple, opening, Phrase, value, item, items, closing}
 
 -- a structural character c with the white space a before it and b after it, and then w
 abbrev pub mark : ℕ → List ℕ → List ℕ → List ℕ → List ℕ
 mark c a b w = a ++ c ∷ (b ++ w)
 
 -- the bytes are such a part
-pub data Rfc : Part → List ℕ → Type 0 where
+pub data Rfc : Phrase → List ℕ → Type 0 where
   simple : {w : List ℕ} (k : Simple) → IsSimple k w → Rfc value w
   empty : {a b c d : List ℕ} (k : Bracket) → Ws a → Ws b → Ws c → Ws d → Rfc value (mark (opening k) a b (mark (closing k) c d []))
   full : {a b c d w : List ℕ} (k : Bracket) → Ws a → Ws b → Rfc (items k) w → Ws c → Ws d → Rfc value (mark (opening k) a b (w ++ mark (closing k) c d []))

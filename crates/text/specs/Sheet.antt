@@ -1,4 +1,4 @@
--- The refusal sheet: the paper's numbers for each case of reading's answer. Assumes nothing: these are definitions.
+-- The refusal sheet (docs/RULES.md, 2.1): the paper's numbers for each case of reading's answer. Assumes nothing: these are definitions.
 use Prim.Native.Nat.{ℕ}
 use Rattle.text.specs.declared.Paper.{Paper}
 use Rattle.text.specs.declared.Refusal.{Refusal}

@@ -1,5 +1,5 @@
 -- What a good string is, by rules and not by a reader: its inside spells a list of code points, one character after the other
--- (RFC 8259, section 7; RFC 3629; RFC 7493, section 2.1). No place, no step and no refusal is named here.
+-- (RFC 8259, section 7; RFC 3629; RFC 7493, section 2.1; docs/RULES.md, 3.4). No place, no step and no refusal is named here.
 -- Assumes nothing: these are definitions.
 use Prim.Native.Nat.{ℕ, _+_, _*_, _%_, _≤_, _<_}
 use mathlib.Core.Path.{_≡_}

@@ -1,6 +1,6 @@
 -- White space, literals and numbers: RFC 8259, sections 2, 3 and 6; at the end the token of any kind, strings (specs/Strings.antt) too. A token gives
 -- the place after it, or 2 at the first byte that can't continue it (a string also 3).
--- Assumes nothing: these are definitions.
+-- docs/RULES.md, 3.2. Assumes nothing: these are definitions.
 use Prim.Native.Nat.{ℕ, _+_}
 use mathlib.Core.List.{List, [], _∷_}
 use mathlib.Core.Bool.{Bool, true, false, cond}

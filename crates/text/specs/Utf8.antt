@@ -1,6 +1,6 @@
 -- UTF-8 (RFC 3629): the bytes of a code point, by the shapes of the RFC's table and as they are computed; up to U+10FFFF what is computed is what the
 -- shapes say: `utf8-table` (proofs/Spelling/Codes.antt).
--- Assumes nothing: these are definitions.
+-- docs/RULES.md, 3.4. Assumes nothing: these are definitions.
 use Prim.Native.Nat.{ℕ, _+_, _*_, _/_, _%_, _≤_, _<_}
 use mathlib.Core.List.{List, [], _∷_}
 use mathlib.Core.Bool.{cond}

@@ -1,5 +1,5 @@
 -- What reading a whole text answers, and what it leaves in a lent table of so many words; at the end reading's contract, `Reads`.
--- Assumes nothing: these are definitions.
+-- docs/RULES.md, 2.2, 3.6 and 7. Assumes nothing: these are definitions.
 use Prim.Native.Nat.{ℕ, _*_}
 use mathlib.Core.Path.{_≡_}
 use mathlib.Core.List.{List, []}

@@ -67,9 +67,9 @@ pub data Exceeds (L : Limits) (t : List ℕ) (d : Doc) : Refusal → Type 0 wher
   many : {p : ℕ} → length t ≤ L .bytes → L .values < countOf d → Exceeds L t d (Many p)
 
 -- so it is read as the tree f, to its end, or refused for that
-pub data Answers (L : Limits) (t : List ℕ) (d : Doc) (f : Forest) : Read → Type 0 where
-  read : FitsLimits L t d → Answers L t d f (good f (length t))
-  refused : {r : Refusal} → Exceeds L t d r → Answers L t d f (bad r)
+pub data AnswerOn (L : Limits) (t : List ℕ) (d : Doc) (f : Forest) : Read → Type 0 where
+  read : FitsLimits L t d → AnswerOn L t d f (good f (length t))
+  refused : {r : Refusal} → Exceeds L t d r → AnswerOn L t d f (bad r)
 
 -- The text of the document d is one of the grammar, and its tree says d again: as many values, as deep. It is read so exactly if it is within the
 -- limits, whatever they are; and if it is not too long, it is refused for the first value of the tree that breaks one.
@@ -78,5 +78,5 @@ pub record ReadsBack (L : Limits) (d : Doc) : Type 0 where
   pub says : docOf (written d) (rootOf derives) ≡ d
   pub count : size (rootOf derives) ≡ countOf d
   pub depth : depthOf (rootOf derives) ≡ depthIn d
-  pub answer : Answers L (written d) d (rootOf derives) (readOf L (written d))
+  pub answer : AnswerOn L (written d) d (rootOf derives) (readOf L (written d))
   pub first : length (written d) ≤ L .bytes → (n p : ℕ) → Refuses L (written d) n p ↔ FirstBreak L (written d) (rootOf derives) n p

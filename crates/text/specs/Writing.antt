@@ -1,4 +1,4 @@
--- The text of a document: no white space outside strings, every token as it is; and how a name that was in no text is spelled.
+-- The text of a document (docs/RULES.md, 6.6): no white space outside strings, every token as it is; and how a name that was in no text is spelled.
 -- Assumes nothing: these are definitions.
 use Prim.Native.Nat.{ℕ, _+_, _*_, _/_, _%_, _≤_, _<_}
 use mathlib.Core.List.{List, [], _∷_, _++_}

@@ -10,28 +10,13 @@ use Rattle.cases_run.proofs.main.Tie as tie
 slice-aggregate-read-full : tie.Need-slice-aggregate-read-full
 slice-aggregate-read-full c = sym (length-replicate {0} {A = ℕ} 1200000 0)
 
-read-full-requires : tie.Need-read-full-requires
-read-full-requires c κs = search needs
-
 array-share-prefix-buf : tie.Need-array-share-prefix-buf
 array-share-prefix-buf c = c .before .read-full .ensures .0
 
 slice-aggregate-run : tie.Need-slice-aggregate-run
 slice-aggregate-run c = c .before .before .read-full .ensures .1
 
-run-requires : tie.Need-run-requires
-run-requires c κs = search needs
-
-returns : tie.Need-returns
-returns c = search needs
-
 pub main-spec : {M : Type 1} → statement M
 main-spec =
     tie.close
-    (tie.spec
-    slice-aggregate-read-full
-    read-full-requires
-    array-share-prefix-buf
-    slice-aggregate-run
-    run-requires
-    returns)
+    (tie.spec slice-aggregate-read-full (λ c κs. search needs) array-share-prefix-buf slice-aggregate-run (λ c κs. search needs) (λ c. search needs))

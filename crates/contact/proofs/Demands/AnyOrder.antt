@@ -16,19 +16,20 @@ use Rattle.text.specs.Whole.{readOf}
 use Rattle.text.specs.Grammar.{rootOf}
 use Rattle.text.specs.Doc.{Name, docOf}
 use Rattle.text.specs.Telling.{Tells}
-use Rattle.text.specs.Meaning.{Accepts}
+use Rattle.text.specs.Meaning.{Accepts, Readable}
 use Rattle.text.proofs.Promise.{promised}
 use Rattle.text.proofs.Grammar.Accepted.{accepts}
+use Rattle.text.proofs.Readable.{readable-good}
 use Rattle.text.proofs.Telling.{told-size, told-depth, told-accepted}
 use Rattle.contact.specs.Judge.{Breach, nothing, found, cardBreach}
 use Rattle.contact.specs.Verdict.{refusedFault, refusedCard, paperOfVerdict, faultOf, byBreach, judgedRead, judgedOf, sheetOfJudged}
 use Rattle.contact.specs.Patching.{OrderOnly}
+use Rattle.contact.specs.Judging.{CardText}
 use Rattle.contact.specs.Services.{judge, served}
-use Rattle.contact.specs.Demands.{Readable, CardText, Reordering}
-use Rattle.contact.proofs.Judging.{judging}
+use Rattle.contact.specs.Demands.{Reordering}
+use Rattle.contact.proofs.Judging.{judging, read-documents, document-told, card-text, card-keeps}
 use Rattle.contact.proofs.Patching.SameBreach.{order-breach}
 use Rattle.contact.proofs.Patching.Rearranged.{order-count, order-depth, order-distinct}
-use Rattle.contact.proofs.Demands.Reading.{readable-good, read-documents, document-told, card-text, card-keeps}
 
 -- the number of a fault doesn't depend on its place
 fault-number : (n p q : ℕ) → refusedFault (faultOf n p) .number ≡ refusedFault (faultOf n q) .number

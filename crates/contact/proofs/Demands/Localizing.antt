@@ -18,7 +18,8 @@ use Rattle.contact.specs.Verdict.{refusedCard, Judged, passed, failed, j
 use Rattle.contact.specs.Localize.{refusedLocal, keyRefusal, Outcome, done, denied, start, patchedDoc, localizedDoc, localizedOf, sheetOfOutcome, tableOfOutcome, outputOfOutcome, answerOfOutcome, paperOfLocalized}
 use Rattle.contact.specs.Conditions.{PatchOf, SecondNumber, inside, BrokenCondition, withKey, Applicable, FirstBroken, Smallest}
 use Rattle.contact.specs.Services.{judge, localize, served}
-use Rattle.contact.specs.Demands.{Passes, Within, CardText, WouldBe, Localization}
+use Rattle.contact.specs.Judging.{CardText}
+use Rattle.contact.specs.Demands.{Passes, Within, WouldBe, Localization}
 use Rattle.contact.specs.Contract.{Localizes}
 use Rattle.contact.specs.declared.CardRefusal.{CardRefusal}
 use Rattle.contact.specs.declared.LocalRefusal.{LocalRefusal}
@@ -31,7 +32,8 @@ use Rattle.contact.proofs.Patching.Refused.{AcceptedCard, accepted-iff,
 use Rattle.contact.proofs.Patching.Fine.{fine}
 use Rattle.contact.proofs.Patching.Together.{patched-card}
 use Rattle.contact.proofs.Patching.Readback.{passed-tree, card-writable, card-written, card-shorter, card-fewer, never-longer, inner-number}
-use Rattle.contact.proofs.Demands.Reading.{read-documents, passed-card}
+use Rattle.contact.proofs.Judging.{read-documents}
+use Rattle.contact.proofs.Demands.Reading.{passed-card}
 use Rattle.contact.proofs.Demands.Sheet.{line-of, local-line, local-some, Late, early, late-short, late-inner, late, second-sheet, same-number, same-second}
 
 -- the card that the conditions speak of

@@ -5,23 +5,24 @@
 -- Assumes nothing.
 use Prim.Native.Nat.{ℕ}
 use Prim.Native.String.{String}
-use mathlib.Core.Path.{_≡_, refl, sym, subst}
+use mathlib.Core.Path.{_≡_, refl, sym, ap, subst, _∙_}
 use mathlib.Core.Bool.{Bool, false, not, cond, _&&_, _||_, true≢false}
 use mathlib.Core.List.{List, [], _∷_, List·Memᴰ as In, List·Memᴰ·head as head, List·Memᴰ·tail as tail, List·Memᴰ·not-nil as not-nil, List·Memᴰ·cases-cons as cases}
 use mathlib.Core.Logic.{_⊎_, inl, inr, ⊎-elim}
-use mathlib.Core.Option.{Option, none, some}
+use mathlib.Core.Option.{Option, none, some, Option·some-injective}
 use Rattle.laws.specs.Tests.{anyMark, allMarks, adjacent}
 use Rattle.laws.specs.Each.{Each, Some, Neighbours}
 use Rattle.laws.specs.Each as E
 use Rattle.laws.proofs.Decides.{Decides, holds, fails, itself, swap, equal, bytes-same, both, either, unless, lets, grants}
 use Rattle.text.specs.Text.{bytes}
 use Rattle.text.specs.Strings.{contentOf}
-use Rattle.text.specs.Doc.{Name, Doc, scalar, array, object, Members, empty, member, kindOf, tokenOf, below, Property, property, seek, isThere}
+use Rattle.text.specs.Doc.{Name, Doc, scalar, array, object, Members, empty, member, kindOf, tokenOf, childrenOf, Property, property, seek, isThere}
 use Rattle.contact.specs.Schema.{ObjectType, Rule, oneOf, needs, needsString, needsTrue, properties, rulesOf, typeIn}
 use Rattle.contact.specs.Schema as S
 use Rattle.contact.specs.Rules.{ifFits, present, isTrue, isString, isThisString, hasKind, isSeparator, marksOf, marks, anyCounts, badlySeparated, breaksOne, breaksAny, breaks}
 use Rattle.contact.specs.AskedKinds.{Tabled, HasLine, Sound}
-use Rattle.contact.specs.BetweenMembers.{HasMember, here, later, Counts, Absent, IsString, string, Separator, separator, elements, Broken, none-there, alone, other-content, not-so, in-a-row, unordered, only-separators, BreaksBetween}
+use Rattle.contact.specs.BetweenMembers.{HasMember, Counts, Absent, IsString, string, Separator, separator, elements, Broken, none-there, alone, other-content, not-so, in-a-row, unordered, only-separators, BreaksBetween}
+use Rattle.contact.proofs.Members.{has-seek, seek-has, seek-lacks}
 use Rattle.contact.proofs.Judging.Table.{table-test, rules-sound}
 
 -- ---- members
@@ -31,25 +32,14 @@ data Sought (ms : Members) (n : Name) : Option Property → Type 0 where
   got : (p : Property) → HasMember ms n (p .content) → ((e : Doc) → HasMember ms n e → e ≡ p .content) → Sought ms n (some p)
   lost : ((e : Doc) → ¬ HasMember ms n e) → Sought ms n none
 
-first-has : {m n : Name} {label : List ℕ} {d e : Doc} {ms : Members} → HasMember (member m label d ms) n e → (m ≡ n × (e ≡ d)) ⊎ (¬ (m ≡ n) × HasMember ms n e)
-first-has here = inl (refl, refl)
-first-has (later f h) = inr (f, h)
-
 sought : (n : Name) (ms : Members) → Sought ms n (seek n ms)
-sought n empty = lost none-here
+sought n ms = go (seek n ms) refl
   where
-    none-here : (e : Doc) → ¬ HasMember empty n e
-    none-here e h = elim h [ ]
-sought n (member m label d ms) = next (bytes-same m n) (sought n ms)
-  where
-    next : {b : Bool} {o : Option Property} → Decides (m ≡ n) b → Sought ms n o → Sought (member m label d ms) n (cond b (some (property label d)) o)
-    next (holds e) s =
-        got (property label d) (subst (λ (k : Name). HasMember (member m label d ms) k d) e here)
-        (λ x h. ⊎-elim (λ (q : m ≡ n × (x ≡ d)). q .1) (λ (q : ¬ (m ≡ n) × HasMember ms n x). absurd (q .0 e)) (first-has h))
-    next (fails f) (got p h u) =
-        got p (later f h) (λ x k. ⊎-elim (λ (q : m ≡ n × (x ≡ d)). absurd (f (q .0))) (λ (q : ¬ (m ≡ n) × HasMember ms n x). u x (q .1)) (first-has k))
-    next (fails f) (lost g) =
-        lost (λ x k. ⊎-elim (λ (q : m ≡ n × (x ≡ d)). f (q .0)) (λ (q : ¬ (m ≡ n) × HasMember ms n x). g x (q .1)) (first-has k))
+    go : (o : Option Property) → seek n ms ≡ o → Sought ms n o
+    go none e = lost (seek-lacks n ms e)
+    go (some p) e =
+        got p (p .label, seek-has n ms p e)
+        (λ d (label, h). ap (λ (s : Property). s .content) (Option·some-injective (property label d) p (sym (has-seek h) ∙ e)))
 
 pub there-test : (n : Name) (ms : Members) → Decides ((d : Doc) × HasMember ms n d) (isThere (seek n ms))
 there-test n ms = go (sought n ms)
@@ -185,8 +175,8 @@ module _ (o : ObjectType) (ms : Members) where
 
   -- a test on the marks of a list that counts
   marked : {Q : Members → Type 0} (f : List Bool → Bool) → f [] ≡ false → ((es : Members) → Decides (Q es) (f (marksOf es)))
-      → (n : String) → HasLine o n → Decides ((d : Doc) × Counts o ms n d × Q (below d)) (f (marks (present o (bytes n) ms)))
-  marked f empty-fails test n known = such (λ x. f (marks x)) empty-fails (λ d. test (below d)) (present-is o n known ms)
+      → (n : String) → HasLine o n → Decides ((d : Doc) × Counts o ms n d × Q (childrenOf d)) (f (marks (present o (bytes n) ms)))
+  marked f empty-fails test n known = such (λ x. f (marks x)) empty-fails (λ d. test (childrenOf d)) (present-is o n known ms)
 
   one-of-test : (ns : List String) → Each (HasLine o) ns → Decides (Broken o ms (oneOf ns)) (breaksOne o ms (oneOf ns))
   one-of-test ns known = swap none-there (λ h. elim h [ none-there e ↦ e ]) (absent-test ns known)
@@ -211,11 +201,11 @@ module _ (o : ObjectType) (ms : Members) where
     not-only-test : Decides (Broken o ms (S.notOnly n entry)) (breaksOne o ms (S.notOnly n entry))
     not-only-test =
         swap (λ h. only-separators (h .1) (h .2)) (λ h. elim h [ only-separators c e ↦ (_, c, e) ])
-        (such (λ x. isThere x && allMarks (marks x)) refl (λ d. each-separator entry kind-string (below d)) (present-is o n known ms))
+        (such (λ x. isThere x && allMarks (marks x)) refl (λ d. each-separator entry kind-string (childrenOf d)) (present-is o n known ms))
 
     -- a list that counts, whose entries are so
     abbrev Listed : (List Doc → Type 0) → Type 0
-    Listed Q = (d : Doc) × Counts o ms n d × Q (elements (below d))
+    Listed Q = (d : Doc) × Counts o ms n d × Q (elements (childrenOf d))
 
     -- the two ways of the test
     abbrev Ways : (order : String) → Type 0

@@ -9,8 +9,8 @@ use mathlib.Core.Logic.{_⊎_, inl, inr, ⊎-elim}
 use native.Mathlib.Omega.{arith}
 use Rattle.laws.proofs.Decides.{Decides, holds, fails, test-true, test-false, swap, unless, lets, equal, itself}
 use Rattle.text.specs.Text.{bytes}
-use Rattle.text.specs.Doc.{Name, Doc, scalar, array, object, Members, empty, member, kindOf, below, countOf, countAll}
-use Rattle.contact.specs.Schema.{ObjectType, Known, Keys, free, ids, Ty, any, simple, objectOf, listOf, mapOf, byType, card, properties, ownName}
+use Rattle.text.specs.Doc.{Name, Doc, scalar, array, object, Members, empty, member, kindOf, childrenOf, countOf, countAll}
+use Rattle.contact.specs.Schema.{ObjectType, Known, Keys, free, ids, Key, Ty, any, simple, objectOf, listOf, mapOf, byType, card, properties, ownName}
 use Rattle.contact.specs.Judge.{isOf, chosen, memberType, keyIn, keyFits, Breach, nothing, found, onRow, orElse, breachOf, breachAmong, cardBreach}
 use Rattle.contact.specs.AskedKinds.{Suits, unknown}
 use Rattle.contact.specs.Breaches.{Under, key, IsOf, named, Chooses, Gives, of-object, of-list, of-map, Among, first, later, At, root, inside, UnallowedKey, no-id, BreaksLine, RowBreaks}
@@ -25,14 +25,14 @@ use Rattle.contact.proofs.Judging.Rows.{RowSays, clean, worst, row-says
 -- inside a value d of a type, which stands on a row, stands a value of a type on a later row, or it is d itself
 data Inside (r : ℕ) (ty′ : Ty) (u′ : Under) (v : Doc) : Ty → Under → (row : ℕ) → Doc → Type 0 where
   self : Inside r ty′ u′ v ty′ u′ r v
-  down : {ty ty₁ : Ty} {u u₁ : Under} {row k : ℕ} {d e : Doc} {earlier : List Name} {n : Name}
-      → Suits ty (kindOf d) → Among [] (below d) k earlier n e → Gives ty earlier n e ty₁ u₁ → Inside r ty′ u′ v ty₁ u₁ (row + 1 + k) e
+  down : {ty ty₁ : Ty} {u u₁ : Under} {row between : ℕ} {d e : Doc} {k : Key}
+      → Suits ty (kindOf d) → Among [] (childrenOf d) between k e → Gives ty k e ty₁ u₁ → Inside r ty′ u′ v ty₁ u₁ (row + 1 + between) e
       → Inside r ty′ u′ v ty u row d
 
 -- one step further in
-deeper : {ty ty₁ ty₂ : Ty} {u u₁ u₂ : Under} {row r k : ℕ} {d v e : Doc} {earlier : List Name} {n : Name}
-    → Inside r ty₁ u₁ v ty u row d → Suits ty₁ (kindOf v) → Among [] (below v) k earlier n e → Gives ty₁ earlier n e ty₂ u₂
-    → Inside (r + 1 + k) ty₂ u₂ e ty u row d
+deeper : {ty ty₁ ty₂ : Ty} {u u₁ u₂ : Under} {row r between : ℕ} {d v e : Doc} {k : Key}
+    → Inside r ty₁ u₁ v ty u row d → Suits ty₁ (kindOf v) → Among [] (childrenOf v) between k e → Gives ty₁ k e ty₂ u₂
+    → Inside (r + 1 + between) ty₂ u₂ e ty u row d
 deeper self s a g = down s a g self
 deeper (down s₁ a₁ g₁ i) s a g = down s₁ a₁ g₁ (deeper i s a g)
 
@@ -46,13 +46,13 @@ inside-at (down s b g i) a = inside-at i (inside a s b g)
 
 -- ---- rows
 
-count-below : (d : Doc) → countOf d ≡ suc (countAll (below d))
+count-below : (d : Doc) → countOf d ≡ suc (countAll (childrenOf d))
 unfolding countOf countAll
 count-below (scalar kind token) = refl
 count-below (array ms) = refl
 count-below (object ms) = refl
 
-among-rows : {passed earlier : List Name} {ms : Members} {k : ℕ} {n : Name} {d : Doc} → Among passed ms k earlier n d → k + countOf d ≤ countAll ms
+among-rows : {passed : List Name} {ms : Members} {between : ℕ} {k : Key} {d : Doc} → Among passed ms between k d → between + countOf d ≤ countAll ms
 unfolding countAll
 among-rows first = omega arith
 among-rows (later a) = let h = among-rows a in omega arith
@@ -91,55 +91,52 @@ record Broken (ty : Ty) (u : Under) (row : ℕ) (d : Doc) (r m : ℕ) : Type 0 w
   within : Inside r type under value ty u row d
   breaks : BreaksLine m type under value
 
-record HeadBroken (ty : Ty) (passed : List Name) (n : Name) (row : ℕ) (d : Doc) (r m : ℕ) : Type 0 where
+record HeadBroken (ty : Ty) (k : Key) (row : ℕ) (d : Doc) (r m : ℕ) : Type 0 where
   type : Ty
   under : Under
-  gives : Gives ty passed n d type under
+  gives : Gives ty k d type under
   broken : Broken type under row d r m
 
 record AmongBroken (ty : Ty) (passed : List Name) (row : ℕ) (ms : Members) (r m : ℕ) : Type 0 where
   between : ℕ
-  earlier : List Name
-  name : Name
+  key : Key
   value : Doc
-  among : Among passed ms between earlier name value
-  broken : HeadBroken ty earlier name (row + between) value r m
+  among : Among passed ms between key value
+  broken : HeadBroken ty key (row + between) value r m
 
 broken-rows : {ty : Ty} {u : Under} {row r m : ℕ} {d : Doc} → Broken ty u row d r m → (row ≤ r) × (r < row + countOf d)
 broken-rows b = inside-rows (b .within)
 
-at-row : {ty : Ty} {passed : List Name} {row row′ r m : ℕ} {n : Name} {d : Doc} → row ≡ row′ → HeadBroken ty passed n row d r m
-    → HeadBroken ty passed n row′ d r m
-at-row {ty} {passed} {r = r} {m = m} {n = n} {d = d} e h = subst (λ (k : ℕ). HeadBroken ty passed n k d r m) e h
+at-row : {ty : Ty} {k : Key} {row row′ r m : ℕ} {d : Doc} → row ≡ row′ → HeadBroken ty k row d r m → HeadBroken ty k row′ d r m
+at-row {ty} {k} {r = r} {m = m} {d = d} e h = subst (λ (x : ℕ). HeadBroken ty k x d r m) e h
 
 -- the first of some members, or one of the others
 module _ {ty : Ty} {row r m : ℕ} where
   head-or : {passed : List Name} {n : Name} {label : List ℕ} {d : Doc} {ms : Members}
-      → HeadBroken ty passed n row d r m ⊎ AmongBroken ty (n ∷ passed) (row + countOf d) ms r m → AmongBroken ty passed row (member n label d ms) r m
+      → HeadBroken ty (record { name = n; before = passed }) row d r m ⊎ AmongBroken ty (n ∷ passed) (row + countOf d) ms r m → AmongBroken ty passed row (member n label d ms) r m
   head-or (inl h) =
       let e : row ≡ row + 0 = omega arith in
-      record { between = 0; earlier = _; name = _; value = _; among = first; broken = at-row e h }
+      record { between = 0; key = _; value = _; among = first; broken = at-row e h }
   head-or {d = d} (inr b) =
       let e : row + countOf d + b .between ≡ row + (countOf d + b .between) = omega arith in
       record {
         between = countOf d + b .between;
-        earlier = b .earlier;
-        name = b .name;
+        key = b .key;
         value = b .value;
         among = later (b .among);
         broken = at-row e (b .broken);
       }
 
-  split : {passed earlier : List Name} {n x : Name} {label : List ℕ} {d v : Doc} {ms : Members} {k : ℕ}
-      → Among passed (member n label d ms) k earlier x v → HeadBroken ty earlier x (row + k) v r m
-      → HeadBroken ty passed n row d r m ⊎ AmongBroken ty (n ∷ passed) (row + countOf d) ms r m
+  split : {passed : List Name} {n : Name} {k : Key} {label : List ℕ} {d v : Doc} {ms : Members} {between : ℕ}
+      → Among passed (member n label d ms) between k v → HeadBroken ty k (row + between) v r m
+      → HeadBroken ty (record { name = n; before = passed }) row d r m ⊎ AmongBroken ty (n ∷ passed) (row + countOf d) ms r m
   split first h = let e : row + 0 ≡ row = omega arith in inl (at-row e h)
-  split {d = d} (later {k = k} a) h =
-      let e : row + (countOf d + k) ≡ row + countOf d + k = omega arith in
-      inr (record { between = k; earlier = _; name = _; value = _; among = a; broken = at-row e h })
+  split {d = d} (later {between = between} a) h =
+      let e : row + (countOf d + between) ≡ row + countOf d + between = omega arith in
+      inr (record { between = between; key = _; value = _; among = a; broken = at-row e h })
 
   or-head : {passed : List Name} {n : Name} {label : List ℕ} {d : Doc} {ms : Members}
-      → AmongBroken ty passed row (member n label d ms) r m → HeadBroken ty passed n row d r m ⊎ AmongBroken ty (n ∷ passed) (row + countOf d) ms r m
+      → AmongBroken ty passed row (member n label d ms) r m → HeadBroken ty (record { name = n; before = passed }) row d r m ⊎ AmongBroken ty (n ∷ passed) (row + countOf d) ms r m
   or-head b = split (b .among) (b .broken)
 
 -- ---- the type and the key of a member
@@ -177,45 +174,42 @@ chose (B.usual-one {usual = usual} {special = special} {d = d} f) =
     ap (λ (b : Bool). objectOf (cond b special usual)) (sym (test-false (of-test special d) f))
 
 -- the definition's type and key of a member are those that the table gives; of an unknown property nothing is asked
-data Given (ty : Ty) (passed : List Name) (n : Name) (d : Doc) : Ty → (key : Bool) → Type 0 where
-  given : {ty₁ : Ty} {u₁ : Under} {k : Bool} → Gives ty passed n d ty₁ u₁ → Decides (UnallowedKey u₁) (not k)
-      → ((ty₂ : Ty) (u₂ : Under) → Gives ty passed n d ty₂ u₂ → (ty₂ ≡ ty₁) × (u₂ ≡ u₁)) → Given ty passed n d ty₁ k
-  not-given : ((ty₂ : Ty) (u₂ : Under) → ¬ Gives ty passed n d ty₂ u₂) → Given ty passed n d any true
+data Given (ty : Ty) (k : Key) (d : Doc) : Ty → (fits : Bool) → Type 0 where
+  given : {ty₁ : Ty} {u₁ : Under} {fits : Bool} → Gives ty k d ty₁ u₁ → Decides (UnallowedKey u₁) (not fits)
+      → ((ty₂ : Ty) (u₂ : Under) → Gives ty k d ty₂ u₂ → (ty₂ ≡ ty₁) × (u₂ ≡ u₁)) → Given ty k d ty₁ fits
+  not-given : ((ty₂ : Ty) (u₂ : Under) → ¬ Gives ty k d ty₂ u₂) → Given ty k d any true
 
-gives-line : {o : ObjectType} {passed : List Name} {n : Name} {d : Doc} {ty : Ty} {u : Under} → Gives (objectOf o) passed n d ty u
-    → (k : Known) × In k (properties o) × (k .spelling ≡ n) × Chooses (k .type) d ty × (u ≡ B.unkeyed)
-gives-line (of-object {k = k} i c) = (k, i, refl, c, refl)
+gives-line : {o : ObjectType} {k : Key} {d : Doc} {ty : Ty} {u : Under} → Gives (objectOf o) k d ty u
+    → (l : Known) × In l (properties o) × (l .spelling ≡ k .name) × Chooses (l .type) d ty × (u ≡ B.unkeyed)
+gives-line (of-object {known = known} i e c) = (known, i, e, c, refl)
 
-property-given : (o : ObjectType) (passed : List Name) (n : Name) (d : Doc) {ty : Ty} → Typed (properties o) n ty
-    → Given (objectOf o) passed n d (chosen ty d) true
-property-given o passed n d (line k i e) =
+property-given : (o : ObjectType) (k : Key) (d : Doc) {ty : Ty} → Typed (properties o) (k .name) ty → Given (objectOf o) k d (chosen ty d) true
+property-given o k d (line x i e) =
     given
-    (subst (λ (x : Name). Gives (objectOf o) passed x d (chosen (k .type) d) B.unkeyed) e (of-object i (chooses (k .type) d)))
+    (of-object i e (chooses (x .type) d))
     (fails (λ h. elim h [ ]))
     (λ ty₂ u₂ g.
     let l = gives-line g in
-    (chose (l .3) ∙ ap (λ (t : Ty). chosen t d) (sym (line-of o (line k i e) (l .0) (l .1) (l .2))), l .4))
-property-given o passed n d (no-line f) = not-given (λ ty₂ u₂ g. let l = gives-line g in f (l .0) (l .1) (l .2))
+    (chose (l .3) ∙ ap (λ (t : Ty). chosen t d) (sym (line-of o (line x i e) (l .0) (l .1) (l .2))), l .4))
+property-given o k d (no-line f) = not-given (λ ty₂ u₂ g. let l = gives-line g in f (l .0) (l .1) (l .2))
 
-key-test : (keys : Keys) (passed : List Name) (n : Name) → Decides (UnallowedKey (key keys passed n)) (not (keyIn keys passed n))
-key-test free passed n = fails (λ h. elim h [ ])
-key-test ids passed n = swap no-id (λ h. elim h [ no-id f ↦ f ]) (unless (id-test n))
+key-test : (keys : Keys) (k : Key) → Decides (UnallowedKey (key keys k)) (not (keyIn keys k))
+key-test free k = fails (λ h. elim h [ ])
+key-test ids k = swap no-id (λ h. elim h [ no-id f ↦ f ]) (unless (id-test (k .name)))
 
-gives-element : {ty ty₂ : Ty} {passed : List Name} {n : Name} {d : Doc} {u : Under} → Gives (listOf ty) passed n d ty₂ u
-    → (ty₂ ≡ chosen ty d) × (u ≡ B.unkeyed)
+gives-element : {ty ty₂ : Ty} {k : Key} {d : Doc} {u : Under} → Gives (listOf ty) k d ty₂ u → (ty₂ ≡ chosen ty d) × (u ≡ B.unkeyed)
 gives-element (of-list c) = (chose c, refl)
 
-gives-entry : {keys : Keys} {ty ty₂ : Ty} {passed : List Name} {n : Name} {d : Doc} {u : Under} → Gives (mapOf keys ty) passed n d ty₂ u
-    → (ty₂ ≡ chosen ty d) × (u ≡ key keys passed n)
+gives-entry : {keys : Keys} {ty ty₂ : Ty} {k : Key} {d : Doc} {u : Under} → Gives (mapOf keys ty) k d ty₂ u → (ty₂ ≡ chosen ty d) × (u ≡ key keys k)
 gives-entry (of-map c) = (chose c, refl)
 
-given-by : (ty : Ty) (passed : List Name) (n : Name) (d : Doc) → Given ty passed n d (memberType ty n d) (keyFits ty passed n)
-given-by any passed n d = not-given (λ ty₂ u₂ g. elim g [ ])
-given-by (simple l) passed n d = not-given (λ ty₂ u₂ g. elim g [ ])
-given-by (objectOf o) passed n d = property-given o passed n d (type-in (properties o) n)
-given-by (listOf ty) passed n d = given (of-list (chooses ty d)) (fails (λ h. elim h [ ])) (λ ty₂ u₂ g. gives-element g)
-given-by (mapOf keys ty) passed n d = given (of-map (chooses ty d)) (key-test keys passed n) (λ ty₂ u₂ g. gives-entry g)
-given-by (byType usual special) passed n d = not-given (λ ty₂ u₂ g. elim g [ ])
+given-by : (ty : Ty) (k : Key) (d : Doc) → Given ty k d (memberType ty (k .name) d) (keyFits ty k)
+given-by any k d = not-given (λ ty₂ u₂ g. elim g [ ])
+given-by (simple l) k d = not-given (λ ty₂ u₂ g. elim g [ ])
+given-by (objectOf o) k d = property-given o k d (type-in (properties o) (k .name))
+given-by (listOf ty) k d = given (of-list (chooses ty d)) (fails (λ h. elim h [ ])) (λ ty₂ u₂ g. gives-element g)
+given-by (mapOf keys ty) k d = given (of-map (chooses ty d)) (key-test keys k) (λ ty₂ u₂ g. gives-entry g)
+given-by (byType usual special) k d = not-given (λ ty₂ u₂ g. elim g [ ])
 
 -- ---- the search
 
@@ -235,8 +229,8 @@ nothing-asked b = go (b .within) (b .breaks)
     go (down s a g i) h = elim g [ ]
 
 -- a member's breach is that of the type that is asked of it
-head-least : {ty ty₁ : Ty} {passed : List Name} {n : Name} {k : Bool} {row : ℕ} {d : Doc} {b : Breach} → Given ty passed n d ty₁ k
-    → ((u : Under) → Decides (UnallowedKey u) (not k) → Least (Broken ty₁ u row d) b) → Least (HeadBroken ty passed n row d) b
+head-least : {ty ty₁ : Ty} {k : Key} {fits : Bool} {row : ℕ} {d : Doc} {b : Breach} → Given ty k d ty₁ fits
+    → ((u : Under) → Decides (UnallowedKey u) (not fits) → Least (Broken ty₁ u row d) b) → Least (HeadBroken ty k row d) b
 head-least {ty₁ = ty₁} {row = row} {d = d} (given {u₁ = u₁} g bk same) least =
     least-as
     (λ r m h. record { type = _; under = _; gives = g; broken = h })
@@ -261,29 +255,28 @@ own-row least self h e = least _ h
 own-row least (down s a g i) h e = absurd (omega (arith, inside-rows i .0))
 
 -- a value's own lines, and what is broken below it
-row-least : {ty : Ty} {u : Under} {row n : ℕ} {d : Doc} {b : Breach} → RowSays ty u d n → Least (AmongBroken ty [] (row + 1) (below d)) b
+row-least : {ty : Ty} {u : Under} {row n : ℕ} {d : Doc} {b : Breach} → RowSays ty u d n → Least (AmongBroken ty [] (row + 1) (childrenOf d)) b
     → Least (Broken ty u row d) (onRow n row b)
 row-least {ty} {u} {row} {d = d} (clean s f) least = least-as enter leave least
   where
-    enter : (r m : ℕ) → AmongBroken ty [] (row + 1) (below d) r m → Broken ty u row d r m
+    enter : (r m : ℕ) → AmongBroken ty [] (row + 1) (childrenOf d) r m → Broken ty u row d r m
     enter r m a =
         let h = a .broken in
         let x = h .broken in
         record { type = x .type; under = x .under; value = x .value; within = down s (a .among) (h .gives) (x .within); breaks = x .breaks }
 
-    go : {r m : ℕ} {ty₁ : Ty} {u₁ : Under} {v : Doc} → Inside r ty₁ u₁ v ty u row d → BreaksLine m ty₁ u₁ v → AmongBroken ty [] (row + 1) (below d) r m
+    go : {r m : ℕ} {ty₁ : Ty} {u₁ : Under} {v : Doc} → Inside r ty₁ u₁ v ty u row d → BreaksLine m ty₁ u₁ v → AmongBroken ty [] (row + 1) (childrenOf d) r m
     go self h = absurd (f _ h)
     go (down _ a g i) h =
         record {
           between = _;
-          earlier = _;
-          name = _;
+          key = _;
           value = _;
           among = a;
           broken = record { type = _; under = _; gives = g; broken = record { type = _; under = _; value = _; within = i; breaks = h } };
         }
 
-    leave : (r m : ℕ) → Broken ty u row d r m → AmongBroken ty [] (row + 1) (below d) r m
+    leave : (r m : ℕ) → Broken ty u row d r m → AmongBroken ty [] (row + 1) (childrenOf d) r m
     leave r m x = go (x .within) (x .breaks)
 row-least {row = row} {b = b} (worst {n = n} positive h least) _ =
     rw (on-row n row b positive)
@@ -293,8 +286,8 @@ none-among : {ty : Ty} {passed : List Name} {row : ℕ} → Least (AmongBroken t
 none-among = unbroken (λ r m b. elim (b .among) [ ])
 
 -- the rows of a member stand before those of the members after it
-rows-rise : {ty ty₁ : Ty} {passed passed₁ : List Name} {n : Name} {row r m q l : ℕ} {d : Doc} {ms : Members} → HeadBroken ty passed n row d r m
-    → AmongBroken ty₁ passed₁ (row + countOf d) ms q l → r < q
+rows-rise : {ty ty₁ : Ty} {k : Key} {passed : List Name} {row r m q l : ℕ} {d : Doc} {ms : Members} → HeadBroken ty k row d r m
+    → AmongBroken ty₁ passed (row + countOf d) ms q l → r < q
 rows-rise h b = let x = broken-rows (h .broken) in let y = broken-rows (b .broken .broken) in omega arith
 
 mutual
@@ -308,9 +301,10 @@ mutual
   members-least : (ty : Ty) (passed : List Name) (row : ℕ) (ms : Members) → Least (AmongBroken ty passed row ms) (breachAmong ty passed row ms)
   members-least ty passed row empty = none-among
   members-least ty passed row (member n label d ms) =
+      let k : Key = record { name = n; before = passed } in
       least-as (λ r m. head-or) (λ r m. or-head)
       (least-or (λ r m q l. rows-rise)
-      (head-least (given-by ty passed n d) (λ u bk. value-least (memberType ty n d) u (keyFits ty passed n) row d bk))
+      (head-least (given-by ty k d) (λ u bk. value-least (memberType ty n d) u (keyFits ty k) row d bk))
       (members-least ty (n ∷ passed) (row + countOf d) ms))
 
 -- ---- whole cards

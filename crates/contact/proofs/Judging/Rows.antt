@@ -10,7 +10,7 @@ use native.Mathlib.Omega.{arith}
 use lib.Dec.{lit≤}
 use Rattle.laws.proofs.Decides.{Decides, holds, fails, told, denied, itself, swap, equal, bytes-same, both, unless, grants}
 use Rattle.text.specs.Strings.{contentOf}
-use Rattle.text.specs.Doc.{Doc, Members, kindOf, tokenOf, below}
+use Rattle.text.specs.Doc.{Doc, Members, kindOf, tokenOf, childrenOf}
 use Rattle.contact.specs.Schema.{anyString, exactly, flag, yes, count, time, Ty, any, simple, objectOf, listOf, mapOf, byType, Known, properties}
 use Rattle.contact.specs.Judge.{lacking, lacks, allowed, breaksRule, rowNumber}
 use Rattle.contact.specs.AskedKinds.{Suits}
@@ -113,22 +113,22 @@ module _ {ty : Ty} {u : Under} {v : Doc} where
   from-12 s m (badly-keyed _ _) = lit≤ tt
   from-12 s m (rule _ _) = lit≤ tt
 
-  from-13 : Suits ty (kindOf v) → ¬ Lacks ty (below v) → (m : ℕ) → BreaksLine m ty u v → 13 ≤ m
+  from-13 : Suits ty (kindOf v) → ¬ Lacks ty (childrenOf v) → (m : ℕ) → BreaksLine m ty u v → 13 ≤ m
   from-13 s l m (kind f) = absurd (f s)
   from-13 s l m (missing _ h) = absurd (l h)
   from-13 s l m (value _ _) = lit≤ tt
   from-13 s l m (badly-keyed _ _) = lit≤ tt
   from-13 s l m (rule _ _) = lit≤ tt
 
-  rule-only : Suits ty (kindOf v) → ¬ Lacks ty (below v) → ¬ UnallowedKey u → ¬ Unallowed ty v → (m : ℕ) → BreaksLine m ty u v → (m ≡ 14) × Unruly ty (below v)
+  rule-only : Suits ty (kindOf v) → ¬ Lacks ty (childrenOf v) → ¬ UnallowedKey u → ¬ Unallowed ty v → (m : ℕ) → BreaksLine m ty u v → (m ≡ 14) × Unruly ty (childrenOf v)
   rule-only s l k a m (kind f) = absurd (f s)
   rule-only s l k a m (missing _ h) = absurd (l h)
   rule-only s l k a m (value _ h) = absurd (a h)
   rule-only s l k a m (badly-keyed _ h) = absurd (k h)
   rule-only s l k a m (rule _ h) = (refl, h)
 
-  says : {f l r : Bool} (k a : Bool) → Decides (Suits ty (kindOf v)) f → Decides (Lacks ty (below v)) l → Decides (UnallowedKey u) (not k)
-      → Decides (Unallowed ty v) (not a) → Decides (Unruly ty (below v)) r → RowSays ty u v (cond f (cond l 12 (cond (k && a) (cond r 14 0) 13)) 11)
+  says : {f l r : Bool} (k a : Bool) → Decides (Suits ty (kindOf v)) f → Decides (Lacks ty (childrenOf v)) l → Decides (UnallowedKey u) (not k)
+      → Decides (Unallowed ty v) (not a) → Decides (Unruly ty (childrenOf v)) r → RowSays ty u v (cond f (cond l 12 (cond (k && a) (cond r 14 0) 13)) 11)
   says k a (fails f) l bk ua r = worst (lit≤ tt) (kind f) (λ m b. omega (arith, kind-only f m b))
   says k a (holds s) (holds l) bk ua r = worst (lit≤ tt) (missing s l) (from-12 s)
   says false a (holds s) (fails l) bk ua r = worst (lit≤ tt) (badly-keyed s (told bk refl)) (from-13 s l)
@@ -141,4 +141,4 @@ module _ {ty : Ty} {u : Under} {v : Doc} where
 pub row-says : (ty : Ty) (u : Under) (key : Bool) (v : Doc) → Decides (UnallowedKey u) (not key) → RowSays ty u v (rowNumber ty key v)
 unfolding rowNumber
 row-says ty u key v k =
-    says key (allowed ty v) (fits-test ty (kindOf v)) (lacks-test ty (below v)) k (unallowed-test ty v) (unruly-test ty (below v))
+    says key (allowed ty v) (fits-test ty (kindOf v)) (lacks-test ty (childrenOf v)) k (unallowed-test ty v) (unruly-test ty (childrenOf v))

@@ -8,11 +8,11 @@ use Rattle.laws.specs.Order.{orderOf}
 use Rattle.text.specs.Text.{bytes}
 use Rattle.contact.specs.Schema.{exactly, simple, TypeRecord, types, typeIn}
 use Rattle.contact.specs.Values.{valueFrom}
-use Rattle.contact.specs.Signatures.{signatures, typeWords, namesFrom, meaning, cut, upTo, bracketed, choice, typeOf, noted, line, parsed, AsSigned}
+use Rattle.contact.specs.Signatures.{signatures, typeWords, namesFrom, meaning, cut, untilMark, bracketed, choice, plainType, noted, line, parsed, AsSigned}
 use Rattle.contact.proofs.Judging.Table.{one-line, rules-sound}
 
 lines : map (map parsed) signatures ≡ map (λ (r : TypeRecord). map some (r .known)) types
-unfolding signatures types parsed line noted typeOf choice bracketed upTo cut meaning typeWords namesFrom valueFrom bind Option·elim orderOf
+unfolding signatures types parsed line noted plainType choice bracketed untilMark cut meaning typeWords namesFrom valueFrom bind Option·elim orderOf
 lines = refl
 
 own-name : map (λ (r : TypeRecord). typeIn (r .known) (bytes "@type")) types ≡ map (λ (r : TypeRecord). simple (exactly (bytes (r .own)))) types

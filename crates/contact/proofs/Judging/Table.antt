@@ -1,5 +1,6 @@
 -- The kinds of types, and the one table:
 --     fits-test     the test of a kind decides `Suits`
+--     simple-low    a simple type asks for no array and no object
 --     typed         the type that the table gives to a name is that of the one line with the name, or `any` where there is none
 --     one-line      each line of a type's table has its own name
 --     line-of       .. and so the type of a line is the one that the table gives to its name
@@ -7,14 +8,15 @@
 --     table-test    the test of a kind against the type of a name that the table has
 --     rules-sound   the rules between members count names of the table
 -- Assumes nothing.
-use Prim.Native.Nat.{ℕ}
+use Prim.Native.Nat.{ℕ, _<_}
 use Prim.Native.String.{String}
 use mathlib.Core.Path.{_≡_, refl, sym, ap, subst, _∙_}
 use mathlib.Core.Bool.{Bool, true, false, cond, not, _&&_, true≢false}
 use mathlib.Core.List.{List, [], _∷_, List·Memᴰ as In, List·Memᴰ·head as head, List·Memᴰ·tail as tail, List·Memᴰ·not-nil as not-nil, List·Memᴰ·cases-cons as cases}
 use mathlib.Core.Logic.{_⊎_, inl, inr, ⊎-elim}
 use lib.ListN.{length, List·getD-eq-default}
-use lib.Dec.{ltb}
+use lib.Dec.{ltb, eqb}
+use native.Mathlib.Omega.{arith}
 use borrow.Author.Tests.{ltb-true, ltb-false}
 use Rattle.laws.specs.Order.{orderOf, same}
 use Rattle.laws.specs.Each.{Each}
@@ -25,20 +27,69 @@ use Rattle.laws.proofs.Tests.{each-test}
 use Rattle.laws.proofs.Decides.{Decides, holds, fails, told, itself, swap, equal, bytes-same, both, unless, grants}
 use Rattle.text.specs.Text.{bytes}
 use Rattle.text.specs.Doc.{Name}
-use Rattle.contact.specs.Schema.{ObjectType, anyString, exactly, flag, yes, count, time, Ty, any, simple, objectOf, listOf, mapOf, byType, Known, Rule, namesIn, entriesIn, TypeRecord, types, noType, recordOf, properties, rulesOf, typeIn, fits}
-use Rattle.contact.specs.AskedKinds.{Suits, Tabled, HasLine, Sound, unknown, string, fixed, utc, integer, off, on, left-out, taken-in, list, typed, map, one-of}
+use Rattle.contact.specs.Schema.{ObjectType, SimpleType, anyString, exactly, flag, yes, count, time, Ty, any, simple, objectOf, listOf, mapOf, byType, Known, Rule, namesIn, entriesIn, TypeRecord, types, noType, recordOf, properties, rulesOf, typeIn, fitsSimple, fits}
+use Rattle.contact.specs.AskedKinds.{Single, aString, aNumber, aBoolean, SingleKind, string, number, off, on, SimpleKind, any-string, fixed, utc, integer, boolean, in-set, Suits, unknown, single, list, typed, map, one-of, Tabled, HasLine, Sound}
 
 -- ---- kinds
+
+-- kinds of what holds no others, by tests
+abbrev isSingle : Single → ℕ → Bool
+isSingle aString k = eqb k 5
+isSingle aNumber k = eqb k 4
+isSingle aBoolean k = cond (eqb k 2) true (eqb k 3)
+
+-- the same as `SingleKind`, by cases
+abbrev Kinds : Single → ℕ → Type 0
+Kinds aString k = k ≡ 5
+Kinds aNumber k = k ≡ 4
+Kinds aBoolean k = (k ≡ 2) ⊎ (k ≡ 3)
+
+kinds : {s : Single} {k : ℕ} → SingleKind s k → Kinds s k
+kinds string = refl
+kinds number = refl
+kinds off = inl refl
+kinds on = inr refl
+
+of-kind : {j k : ℕ} (s : Single) → SingleKind s j → k ≡ j → SingleKind s k
+of-kind s h e = subst (SingleKind s) (sym e) h
+
+single-test : (s : Single) (k : ℕ) → Decides (SingleKind s k) (isSingle s k)
+single-test aString k = swap (of-kind aString string) kinds (equal k 5)
+single-test aNumber k = swap (of-kind aNumber number) kinds (equal k 4)
+single-test aBoolean k = swap (⊎-elim (of-kind aBoolean off) (of-kind aBoolean on)) kinds (grants (equal k 2) (equal k 3))
+
+single-low : {s : Single} {k : ℕ} → SingleKind s k → k < 6
+single-low string = omega arith
+single-low number = omega arith
+single-low off = omega arith
+single-low on = omega arith
+
+-- what a simple type asks for, in its meaning and in its test
+record Law (l : SimpleType) : Type 0 where
+  asks : Single
+  enter : (k : ℕ) → SingleKind asks k → SimpleKind l k
+  leave : (k : ℕ) → SimpleKind l k → SingleKind asks k
+  test : (k : ℕ) → isSingle asks k ≡ fitsSimple l k
+
+-- so for each
+law : (l : SimpleType) → Law l
+law anyString = record { asks = aString; enter = λ k h. any-string h; leave = λ k h. elim h [ any-string x ↦ x ]; test = λ k. refl }
+law (exactly n) = record { asks = aString; enter = λ k h. fixed h; leave = λ k h. elim h [ fixed x ↦ x ]; test = λ k. refl }
+law flag = record { asks = aBoolean; enter = λ k h. boolean h; leave = λ k h. elim h [ boolean x ↦ x ]; test = λ k. refl }
+law yes = record { asks = aBoolean; enter = λ k h. in-set h; leave = λ k h. elim h [ in-set x ↦ x ]; test = λ k. refl }
+law (count low high) = record { asks = aNumber; enter = λ k h. integer h; leave = λ k h. elim h [ integer x ↦ x ]; test = λ k. refl }
+law time = record { asks = aString; enter = λ k h. utc h; leave = λ k h. elim h [ utc x ↦ x ]; test = λ k. refl }
+
+simple-test : (l : SimpleType) (k : ℕ) → Decides (SimpleKind l k) (fitsSimple l k)
+simple-test l k = let a = law l in subst (Decides (SimpleKind l k)) (a .test k) (swap (a .enter k) (a .leave k) (single-test (a .asks) k))
+
+pub simple-low : (l : SimpleType) (k : ℕ) → fitsSimple l k ≡ true → k < 6
+simple-low l k e = single-low (law l .leave k (told (simple-test l k) e))
 
 -- the same as `Suits`, by cases of the type
 abbrev Asks : Ty → ℕ → Type 0
 Asks any k = Unit {0}
-Asks (simple anyString) k = k ≡ 5
-Asks (simple (exactly n)) k = k ≡ 5
-Asks (simple flag) k = (k ≡ 2) ⊎ (k ≡ 3)
-Asks (simple yes) k = (k ≡ 2) ⊎ (k ≡ 3)
-Asks (simple (count low high)) k = k ≡ 4
-Asks (simple time) k = k ≡ 5
+Asks (simple l) k = SimpleKind l k
 Asks (objectOf o) k = k ≡ 7
 Asks (listOf ty) k = k ≡ 6
 Asks (mapOf keys ty) k = k ≡ 7
@@ -46,14 +97,7 @@ Asks (byType usual special) k = k ≡ 7
 
 asked : {ty : Ty} {k : ℕ} → Suits ty k → Asks ty k
 asked unknown = tt
-asked string = refl
-asked fixed = refl
-asked utc = refl
-asked integer = refl
-asked off = inl refl
-asked on = inr refl
-asked left-out = inl refl
-asked taken-in = inr refl
+asked (single h) = h
 asked list = refl
 asked typed = refl
 asked map = refl
@@ -65,12 +109,7 @@ at-kind ty s e = subst (Suits ty) (sym e) s
 
 suits : (ty : Ty) (k : ℕ) → Asks ty k → Suits ty k
 suits any k e = unknown
-suits (simple anyString) k e = at-kind (simple anyString) string e
-suits (simple (exactly n)) k e = at-kind (simple (exactly n)) fixed e
-suits (simple flag) k e = ⊎-elim (at-kind (simple flag) off) (at-kind (simple flag) on) e
-suits (simple yes) k e = ⊎-elim (at-kind (simple yes) left-out) (at-kind (simple yes) taken-in) e
-suits (simple (count low high)) k e = at-kind (simple (count low high)) integer e
-suits (simple time) k e = at-kind (simple time) utc e
+suits (simple l) k h = single h
 suits (objectOf o) k e = at-kind (objectOf o) typed e
 suits (listOf ty) k e = at-kind (listOf ty) list e
 suits (mapOf keys ty) k e = at-kind (mapOf keys ty) map e
@@ -78,12 +117,7 @@ suits (byType usual special) k e = at-kind (byType usual special) one-of e
 
 asks-test : (ty : Ty) (k : ℕ) → Decides (Asks ty k) (fits ty k)
 asks-test any k = holds tt
-asks-test (simple anyString) k = equal k 5
-asks-test (simple (exactly n)) k = equal k 5
-asks-test (simple flag) k = grants (equal k 2) (equal k 3)
-asks-test (simple yes) k = grants (equal k 2) (equal k 3)
-asks-test (simple (count low high)) k = equal k 4
-asks-test (simple time) k = equal k 5
+asks-test (simple l) k = simple-test l k
 asks-test (objectOf o) k = equal k 7
 asks-test (listOf ty) k = equal k 6
 asks-test (mapOf keys ty) k = equal k 7

@@ -10,18 +10,18 @@ use Rattle.laws.proofs.Orders.{before-trans}
 use Rattle.text.specs.Doc.{Name, Doc, Members, empty, member, Property, property, seek}
 use Rattle.contact.specs.Pointer.{last, down}
 use Rattle.contact.specs.Patch.{remove, set, Entry, entry, insert, fresh, added}
-use Rattle.contact.specs.Entries.{NoClash, Above, Ascending}
+use Rattle.contact.specs.Entries.{NoClash, BeforeAll, Ascending}
 use Rattle.contact.proofs.Patching.Names.{same-yes, same-no, byName, before-total}
 use Rattle.contact.proofs.Patching.Applied.{said, mine-none, added-new}
 
-above-further : (k n : Name) (ms : Members) → before k n ≡ true → Above n ms → Above k ms
-above-further k n empty b h = tt
-above-further k n (member m t d ms) b h = (before-trans k n m b (h .0), above-further k n ms b (h .1))
+before-further : (k n : Name) (ms : Members) → before k n ≡ true → BeforeAll n ms → BeforeAll k ms
+before-further k n empty b h = tt
+before-further k n (member m t d ms) b h = (before-trans k n m b (h .0), before-further k n ms b (h .1))
 
-above-insert : (k n : Name) (v : Doc) (ms : Members) → before k n ≡ true → Above k ms → Above k (insert n v ms)
-above-insert k n v empty b h = (b, tt)
-above-insert k n v (member m t d ms) b h =
-    byTest (before n m) (λ q. simp q (b, h)) (λ q. simp q (h .0, above-insert k n v ms b (h .1)))
+before-insert : (k n : Name) (v : Doc) (ms : Members) → before k n ≡ true → BeforeAll k ms → BeforeAll k (insert n v ms)
+before-insert k n v empty b h = (b, tt)
+before-insert k n v (member m t d ms) b h =
+    byTest (before n m) (λ q. simp q (b, h)) (λ q. simp q (h .0, before-insert k n v ms b (h .1)))
 
 ascending-insert : (n : Name) (v : Doc) (ms : Members) → seek n ms ≡ none → Ascending ms → Ascending (insert n v ms)
 ascending-insert n v empty e h = (tt, tt)
@@ -29,9 +29,9 @@ ascending-insert n v (member m t d ms) e h =
     byName m n
     (λ q. absurd (Option·some-ne-none (property t d) (simp (same-yes q) at e)))
     (λ ne. byTest (before n m)
-    (λ b. simp b ((refl, above-further n m ms b (h .0)), h))
+    (λ b. simp b ((refl, before-further n m ms b (h .0)), h))
     (λ b. simp b (
-      above-insert m n v ms (before-total n m (λ q. ne (sym q)) b) (h .0),
+      before-insert m n v ms (before-total n m (λ q. ne (sym q)) b) (h .0),
       ascending-insert n v ms (simp (same-no ne) at e) (h .1),
     )))
 

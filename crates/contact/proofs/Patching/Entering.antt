@@ -28,7 +28,7 @@ use Rattle.contact.specs.declared.CardRefusal.{CardRefusal}
 use Rattle.contact.specs.declared.LocalRefusal.{LocalRefusal}
 use Rattle.contact.specs.declared.LocalRefusal.the-variants.{Short, Inner}
 use Rattle.contact.proofs.Patching.Faults.{up-to-26, Due, fault-found}
-use Rattle.contact.proofs.Patching.Steps.{says-failed, failed-says}
+use Rattle.contact.proofs.Patching.Steps.{answer-failed, failed-answer}
 
 -- the numbers of a key's refusal: the condition's, and no second one
 key-numbers : {d : Doc} {ms : Members} {n : ℕ} {key : Name} → BreaksWith d ms n key → refusedLocal (keyRefusal n key) ≡ numbers n 0 0
@@ -110,7 +110,7 @@ module _ (L : Limits) (words room : ℕ) (d : Doc) (ms : Members) where
   no-28 : (f : Forest) → judgedOf L words text ≡ passed f → (q : LocalRefusal) → ¬ B 28 q
   no-28 f e q (withKey {key = key} b) = omega (arith, up-to-26 d ms 28 key b)
   no-28 f e q (unfit {r = r} s) =
-      let h : judgedOf L words text ≡ failed r = says-failed L words text r s in
+      let h : judgedOf L words text ≡ failed r = answer-failed L words text r s in
       let z : _≡_ {A = ℕ} 0 1 = cc in omega arith
 
   -- what 27 is about
@@ -121,7 +121,7 @@ module _ (L : Limits) (words room : ℕ) (d : Doc) (ms : Members) where
   -- and 28
   pub unfit-of : {r : LocalRefusal} → B 28 r → (x : CardRefusal) × (judgedOf L words text ≡ failed x) × (r ≡ Inner x)
   unfit-of (withKey {key = key} b) = absurd (omega (arith, up-to-26 d ms 28 key b))
-  unfit-of (unfit {r = r} s) = (r, says-failed L words text r s, refl)
+  unfit-of (unfit {r = r} s) = (r, answer-failed L words text r s, refl)
 
   -- ---- the answer, test by test
 
@@ -132,7 +132,7 @@ module _ (L : Limits) (words room : ℕ) (d : Doc) (ms : Members) where
     writes = refl;
     reads = e;
   }
-  by-judge (failed r) e h = (28, record { broken = unfit (failed-says L words text r e); least = h })
+  by-judge (failed r) e h = (28, record { broken = unfit (failed-answer L words text r e); least = h })
 
   by-room : AtLeast 27 → Stands (byRoom L words room text)
   unfolding byRoom
@@ -160,8 +160,8 @@ module _ (L : Limits) (words room : ℕ) (d : Doc) (ms : Members) where
   one-refusal n r q (unfit s) (withKey {key = key} b) = absurd (omega (arith, up-to-26 d ms n key b))
   one-refusal n r q (short k) (short k′) = refl
   one-refusal n r q (unfit {r = x} s) (unfit {r = y} s′) =
-      let g : judgedOf L words text ≡ failed x = says-failed L words text x s in
-      let h : judgedOf L words text ≡ failed y = says-failed L words text y s′ in
+      let g : judgedOf L words text ≡ failed x = answer-failed L words text x s in
+      let h : judgedOf L words text ≡ failed y = answer-failed L words text y s′ in
       cc
 
   -- the sheet's number of a broken condition

@@ -9,16 +9,18 @@ use Rattle.laws.specs.Order.{before}
 use Rattle.text.specs.Doc.{Name, Doc, scalar, array, object, Members, empty, member, Property, property, seek}
 use Rattle.contact.specs.Pointer.{Pointer, last, down, parts, within, find}
 use Rattle.contact.specs.Patch.{Change, remove, set, Entry, entry, mine, under, insert, fresh, added, keep, applied, kept}
+use Rattle.contact.specs.BetweenMembers.{HasMember}
 use Rattle.contact.specs.Entries.{NoClash, New, Laid, stays, goes, adds, NotOver, LaidAt}
 use Rattle.contact.proofs.Patching.Names.{byName, same-yes, same-no}
 use Rattle.contact.proofs.Patching.Applied.{seek-applied}
 use Rattle.contact.proofs.Patching.Entries.{under-noclash}
+use Rattle.contact.proofs.Members.{seek-lacks}
 use Rattle.contact.proofs.Patching.Ascending.{added-ascending}
 
 -- ---- in one object
 
 module _ (all : Members) where
-  new-insert : (n : Name) (v : Doc) (ms : Members) → seek n all ≡ none → New all ms → New all (insert n v ms)
+  new-insert : (n : Name) (v : Doc) (ms : Members) → ((e : Doc) → ¬ HasMember all n e) → New all ms → New all (insert n v ms)
   new-insert n v empty e h = (e, refl, tt)
   new-insert n v (member m label d ms) e h =
       byTest (before n m) (λ b. simp b (e, refl, h)) (λ b. simp b (h .0, h .1, new-insert n v ms e (h .2)))
@@ -29,7 +31,7 @@ module _ (all : Members) where
   new-added (entry (last n) (set v) ∷ es) = go (seek n all) refl (new-added es)
     where
       go : (o : Option Property) → seek n all ≡ o → New all (added all es) → New all (fresh o n v (added all es))
-      go none e ih = new-insert n v (added all es) e ih
+      go none e ih = new-insert n v (added all es) (seek-lacks n all e) ih
       go (some s) e ih = ih
   new-added (entry (down n p) c ∷ es) = new-added es
 

@@ -13,7 +13,7 @@ use Rattle.laws.proofs.Orders.{before-irrefl, before-trans}
 use Rattle.text.specs.Doc.{Name, Doc, Members, empty, member}
 use Rattle.contact.specs.Pointer.{pointerOf, badTilde, clash}
 use Rattle.contact.specs.Patch.{entriesOf, Walk, anyBadKey, anyOwn, clashWith, anyClash, anyWalk}
-use Rattle.contact.specs.Faults.{earlier, keyIf, leastKey, withOthers, leastClash, ownKey, walksTo}
+use Rattle.contact.specs.Faults.{smallerKey, keyIf, leastKey, withOthers, leastClash, ownKey, walksTo}
 use Rattle.contact.specs.Entries.{Prefix}
 use Rattle.contact.specs.Conditions.{HasKey, first, later, firstKey, laterOn, TwoKeys}
 use Rattle.contact.proofs.Patching.Names.{byName, before-total}
@@ -39,23 +39,23 @@ module _ (T U : Name → Type 0) where
   abbrev Either : Name → Type 0
   Either k = T k ⊎ U k
 
-  pub least-earlier : (a b : Option Name) → Least T a → Least U b → Least Either (earlier a b)
-  least-earlier none none h k = λ j x. neither j x
+  pub least-smaller : (a b : Option Name) → Least T a → Least U b → Least Either (smallerKey a b)
+  least-smaller none none h k = λ j x. neither j x
     where
       neither : (j : Name) → Either j → ⊥
       neither j (inl t) = h j t
       neither j (inr u) = k j u
-  least-earlier none (some b) h k = (inr (k .0), go)
+  least-smaller none (some b) h k = (inr (k .0), go)
     where
       go : (j : Name) → Either j → before j b ≡ false
       go j (inl t) = absurd (h j t)
       go j (inr u) = k .1 j u
-  least-earlier (some a) none h k = (inl (h .0), go)
+  least-smaller (some a) none h k = (inl (h .0), go)
     where
       go : (j : Name) → Either j → before j a ≡ false
       go j (inl t) = h .1 j t
       go j (inr u) = absurd (k j u)
-  least-earlier (some a) (some b) h k =
+  least-smaller (some a) (some b) h k =
       byTest (before b a) (λ x. simp x (inr (k .0), on-b x)) (λ x. simp x (inl (h .0), on-a x))
     where
       on-a : before b a ≡ false → (j : Name) → Either j → before j a ≡ false
@@ -90,8 +90,8 @@ module _ (f : Name → Bool) (T : Name → Type 0) (h : (key : Name) → (f key 
   key-least empty = λ k (x, t). no-key k x
   key-least (member key label d ms) =
       least-map (λ k. ((k ≡ key) × T k) ⊎ (HasKey k ms × T k)) (λ k. HasKey k (member key label d ms) × T k) to from
-      (earlier (keyIf (f key) key) (leastKey f ms))
-      (least-earlier (λ k. (k ≡ key) × T k) (λ k. HasKey k ms × T k) (keyIf (f key) key) (leastKey f ms) (if-least key) (key-least ms))
+      (smallerKey (keyIf (f key) key) (leastKey f ms))
+      (least-smaller (λ k. (k ≡ key) × T k) (λ k. HasKey k ms × T k) (keyIf (f key) key) (leastKey f ms) (if-least key) (key-least ms))
     where
       to : (k : Name) → ((k ≡ key) × T k) ⊎ (HasKey k ms × T k) → HasKey k (member key label d ms) × T k
       to k (inl (e, t)) = (subst (λ (n : Name). HasKey n (member key label d ms)) (sym e) first, t)
@@ -103,21 +103,21 @@ module _ (f : Name → Bool) (T : Name → Type 0) (h : (key : Name) → (f key 
 
 -- ---- when there is one
 
-earlier-left : (a : Name) (o : Option Name) → (k : Name) × (earlier (some a) o ≡ some k)
-earlier-left a none = (a, refl)
-earlier-left a (some b) = byTest (before b a) (λ x. (b, rw x)) (λ x. (a, rw x))
+smaller-left : (a : Name) (o : Option Name) → (k : Name) × (smallerKey (some a) o ≡ some k)
+smaller-left a none = (a, refl)
+smaller-left a (some b) = byTest (before b a) (λ x. (b, rw x)) (λ x. (a, rw x))
 
-earlier-right : (o : Option Name) (b : Name) → (k : Name) × (earlier o (some b) ≡ some k)
-earlier-right none b = (b, refl)
-earlier-right (some a) b = earlier-left a (some b)
+smaller-right : (o : Option Name) (b : Name) → (k : Name) × (smallerKey o (some b) ≡ some k)
+smaller-right none b = (b, refl)
+smaller-right (some a) b = smaller-left a (some b)
 
 module _ (f : Name → Bool) where
   pub key-some : (ms : Members) → anyKey f ms ≡ true → (k : Name) × (leastKey f ms ≡ some k)
   key-some empty e = absurd (true≢false (sym e))
   key-some (member key label d ms) e =
       or-either (f key) (anyKey f ms) e
-      (λ x. simp x (earlier-left key (leastKey f ms)))
-      (λ x. let (k, q) = key-some ms x in rw q (earlier-right (keyIf (f key) key) k))
+      (λ x. simp x (smaller-left key (leastKey f ms)))
+      (λ x. let (k, q) = key-some ms x in rw q (smaller-right (keyIf (f key) key) k))
 
   pub key-none : (ms : Members) → anyKey f ms ≡ false → leastKey f ms ≡ none
   key-none empty e = refl
@@ -171,8 +171,8 @@ module _ (key : Name) (label : List ℕ) (d : Doc) (ms : Members) where
   others-least = key-least (λ k. clash (pointerOf key) (pointerOf k)) (Clashing key) (λ k. clash-iff (pointerOf key) (pointerOf k)) ms
 
   with-least : (o : Option Name) → Least IsOther o → Least (λ k. IsFirst k ⊎ IsOther k) (withOthers key o)
-  with-least none h = least-earlier IsFirst IsOther none none (λ k (e, (j, x, c)). h j (x, c)) h
-  with-least (some j) h = least-earlier IsFirst IsOther (some key) (some j) ((refl, (j, h .0 .0, h .0 .1)), λ k (e, x). ap (λ (n : Name). before n key) e ∙ before-irrefl key) h
+  with-least none h = least-smaller IsFirst IsOther none none (λ k (e, (j, x, c)). h j (x, c)) h
+  with-least (some j) h = least-smaller IsFirst IsOther (some key) (some j) ((refl, (j, h .0 .0, h .0 .1)), λ k (e, x). ap (λ (n : Name). before n key) e ∙ before-irrefl key) h
 
   pair-to : (k : Name) → (IsFirst k ⊎ IsOther k) ⊎ InPair ms k → InPair (member key label d ms) k
   pair-to k (inl (inl (e, (j, x, c)))) = subst (InPair (member key label d ms)) (sym e) (j, inl (firstKey x), c)
@@ -191,8 +191,8 @@ clash-least empty = no-pair
 clash-least (member key label d ms) =
     let o = others key label d ms in
     least-map (λ k. (IsFirst key label d ms k ⊎ IsOther key label d ms k) ⊎ InPair ms k) (InPair (member key label d ms))
-    (pair-to key label d ms) (pair-from key label d ms) (earlier (withOthers key o) (leastClash ms))
-    (least-earlier (λ k. IsFirst key label d ms k ⊎ IsOther key label d ms k) (InPair ms) (withOthers key o) (leastClash ms)
+    (pair-to key label d ms) (pair-from key label d ms) (smallerKey (withOthers key o) (leastClash ms))
+    (least-smaller (λ k. IsFirst key label d ms k ⊎ IsOther key label d ms k) (InPair ms) (withOthers key o) (leastClash ms)
     (with-least key label d ms o (others-least key label d ms)) (clash-least ms))
 
 with-key : (key : Name) (ms : Members) → clashWith (pointerOf key) (entriesOf ms) ≡ anyKey (λ k. clash (pointerOf key) (pointerOf k)) ms
@@ -204,9 +204,9 @@ clash-some empty e = absurd (true≢false (sym e))
 clash-some (member key label d ms) e =
     or-either (clashWith (pointerOf key) (entriesOf ms)) (anyClash (entriesOf ms)) e
     (λ x. let (j, q) = key-some (λ k. clash (pointerOf key) (pointerOf k)) ms (sym (with-key key ms) ∙ x) in
-    let (a, p) = earlier-left key (some j) in
-    rw (q, p) (earlier-left a (leastClash ms)))
-    (λ x. let (k, q) = clash-some ms x in rw q (earlier-right (withOthers key (others key label d ms)) k))
+    let (a, p) = smaller-left key (some j) in
+    rw (q, p) (smaller-left a (leastClash ms)))
+    (λ x. let (k, q) = clash-some ms x in rw q (smaller-right (withOthers key (others key label d ms)) k))
 
 pub clash-none : (ms : Members) → anyClash (entriesOf ms) ≡ false → leastClash ms ≡ none
 clash-none empty e = refl

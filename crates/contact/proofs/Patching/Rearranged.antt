@@ -4,13 +4,10 @@
 use Prim.Native.Nat.{ℕ, suc, _+_, max}
 use native.Mathlib.Omega.{arith}
 use mathlib.Core.Path.{_≡_, refl, sym, ap, _∙_}
-use mathlib.Core.Bool.{Bool, true, false}
 use mathlib.Core.List.{List}
 use mathlib.Core.Logic.{_≢_}
-use mathlib.Core.Option.{Option, none, some, Option·some-ne-none}
-use Rattle.laws.specs.Order.{same}
-use Rattle.laws.proofs.Bools.{byTest}
-use Rattle.text.specs.Doc.{Name, Doc, object, Members, member, Property, property, countOf, countAll, seek}
+use mathlib.Core.Option.{none, some, Option·some-ne-none}
+use Rattle.text.specs.Doc.{Name, Doc, object, Members, member, property, countOf, countAll, seek}
 use Rattle.text.specs.Distinct.{Distinct, DistinctMembers}
 use Rattle.text.specs.Writable.{depthIn, depthAll}
 use Rattle.contact.specs.Entries.{Shuffled, asIs, keepFirst, swapFirst, andOn}

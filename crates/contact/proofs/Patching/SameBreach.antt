@@ -16,7 +16,7 @@ use Rattle.laws.proofs.Tests.{each-test}
 use Rattle.laws.proofs.Bools.{byTest}
 use Rattle.text.specs.Text.{bytes}
 use Rattle.text.specs.Doc.{Name, Doc, scalar, array, object, Members, empty, member, countOf, seek, isThere}
-use Rattle.contact.specs.Schema.{ObjectType, Keys, Ty, any, objectOf, mapOf, anyObject, card, Known, Rule, oneOf, needs, needsString, needsTrue, separators, notOnly, namesIn, types, recordOf, properties, rulesOf, typeIn}
+use Rattle.contact.specs.Schema.{ObjectType, Keys, Key, Ty, any, objectOf, mapOf, anyObject, card, Known, Rule, oneOf, needs, needsString, needsTrue, separators, notOnly, namesIn, types, recordOf, properties, rulesOf, typeIn}
 use Rattle.contact.specs.Rules.{present, isTrue, isThisString, marks, anyCounts, badlySeparated, breaksOne, breaksAny}
 use Rattle.contact.specs.Judge.{lacking, rowNumber, memberType, keyFits, Breach, nothing, onRow, orElse, breachOf, breachAmong, cardBreach}
 use Rattle.contact.specs.Patching.{Rearranged, rearranged, AtMember, thisOne, laterOne, InMember, inMember, OrderOnly}
@@ -33,14 +33,14 @@ mutual
   any-clean row (array ms) = any-among [] (row + 1) ms
   any-clean row (object ms) = any-among [] (row + 1) ms
 
-  any-among : (earlier : List Name) (row : ℕ) (ms : Members) → breachAmong any earlier row ms ≡ nothing
-  any-among earlier row empty = refl
-  any-among earlier row (member n label d ms) = ap₂ orElse (any-clean row d) (any-among (n ∷ earlier) (row + countOf d) ms)
+  any-among : (passed : List Name) (row : ℕ) (ms : Members) → breachAmong any passed row ms ≡ nothing
+  any-among passed row empty = refl
+  any-among passed row (member n label d ms) = ap₂ orElse (any-clean row d) (any-among (n ∷ passed) (row + countOf d) ms)
 
-entries-clean : (earlier : List Name) (row : ℕ) (ms : Members) → breachAmong anyObject earlier row ms ≡ nothing
+entries-clean : (passed : List Name) (row : ℕ) (ms : Members) → breachAmong anyObject passed row ms ≡ nothing
 unfolding breachAmong
-entries-clean earlier row empty = refl
-entries-clean earlier row (member n label d ms) = ap₂ orElse (any-clean row d) (entries-clean (n ∷ earlier) (row + countOf d) ms)
+entries-clean passed row empty = refl
+entries-clean passed row (member n label d ms) = ap₂ orElse (any-clean row d) (entries-clean (n ∷ passed) (row + countOf d) ms)
 
 -- a PatchObject breaks what its key does, if anything
 patch-alike : (key : Bool) (row : ℕ) (ms ns : Members) → breachOf anyObject key row (object ms) ≡ breachOf anyObject key row (object ns)
@@ -51,14 +51,13 @@ patch-alike true row ms ns = entries-clean [] (row + 1) ms ∙ sym (entries-clea
 -- ---- a difference in one member, of as many rows and of the same breach
 
 module _ {n : Name} {R : Doc → Doc → Type 0} (counts : (d e : Doc) → R d e → countOf d ≡ countOf e) where
-  at-among : (ty : Ty) → ((earlier : List Name) (row : ℕ) (d e : Doc) → R d e
-      → breachOf (memberType ty n d) (keyFits ty earlier n) row d ≡ breachOf (memberType ty n e) (keyFits ty earlier n) row e)
-      → (earlier : List Name) (row : ℕ) {ms ns : Members} → AtMember n R ms ns → breachAmong ty earlier row ms ≡ breachAmong ty earlier row ns
+  at-among : (ty : Ty) → ((k : Key) (row : ℕ) (d e : Doc) → R d e → breachOf (memberType ty n d) (keyFits ty k) row d ≡ breachOf (memberType ty n e) (keyFits ty k) row e)
+      → (passed : List Name) (row : ℕ) {ms ns : Members} → AtMember n R ms ns → breachAmong ty passed row ms ≡ breachAmong ty passed row ns
   unfolding breachAmong
-  at-among ty alike earlier row (thisOne {d = d} {e = e} {ms = ms} r) =
-      ap₂ orElse (alike earlier row d e r) (ap (λ (k : ℕ). breachAmong ty (n ∷ earlier) (row + k) ms) (counts d e r))
-  at-among ty alike earlier row (laterOne {m = m} {d = d} h x) =
-      ap (orElse (breachOf (memberType ty m d) (keyFits ty earlier m) row d)) (at-among ty alike (m ∷ earlier) (row + countOf d) x)
+  at-among ty alike passed row (thisOne {d = d} {e = e} {ms = ms} r) =
+      ap₂ orElse (alike (record { name = n; before = passed }) row d e r) (ap (λ (k : ℕ). breachAmong ty (n ∷ passed) (row + k) ms) (counts d e r))
+  at-among ty alike passed row (laterOne {m = m} {d = d} h x) =
+      ap (orElse (breachOf (memberType ty m d) (keyFits ty (record { name = m; before = passed })) row d)) (at-among ty alike (m ∷ passed) (row + countOf d) x)
 
 -- ---- what is asked of the members
 
@@ -83,7 +82,7 @@ lang-breach : {lang : Name} (keys : Keys) (row : ℕ) (d e : Doc) → InMember l
     → breachOf (mapOf keys anyObject) true row d ≡ breachOf (mapOf keys anyObject) true row e
 unfolding breachOf rowNumber
 lang-breach {lang = lang} keys row d e (inMember x) =
-    at-among rearranged-count (mapOf keys anyObject) (λ earlier r y z. alike (keyFits (mapOf keys anyObject) earlier lang) r y z) [] (row + 1) x
+    at-among rearranged-count (mapOf keys anyObject) (λ k r y z. alike (keyFits (mapOf keys anyObject) k) r y z) [] (row + 1) x
   where
     alike : (key : Bool) (row : ℕ) (d e : Doc) → Rearranged d e → breachOf anyObject key row d ≡ breachOf anyObject key row e
     alike key row d e (rearranged {ms = ms} {ns = ns} σ) = patch-alike key row ms ns
@@ -141,4 +140,4 @@ pub order-breach : (lang : Name) (one other : Doc) → OrderOnly lang one other 
 unfolding breachOf
 order-breach lang one other (inMember x) =
     ap₂ (λ (k : ℕ) (b : Breach). onRow k 0 b) (card-number x)
-    (at-among (in-count rearranged-count) (objectOf card) (λ earlier row d e r. rw (localizations-type .1) (lang-breach (localizations-type .0) row d e r)) [] 1 x)
+    (at-among (in-count rearranged-count) (objectOf card) (λ k row d e r. rw (localizations-type .1) (lang-breach (localizations-type .0) row d e r)) [] 1 x)

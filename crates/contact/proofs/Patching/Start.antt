@@ -4,7 +4,7 @@
 use mathlib.Core.Path.{_≡_, refl, sym, ap, _∙_, subst}
 use mathlib.Core.List.{List}
 use mathlib.Core.Logic.{_↔_}
-use mathlib.Core.Option.{Option, none, some, Option·some-injective, Option·none-ne-some}
+use mathlib.Core.Option.{Option, none, some, Option·none-ne-some}
 use Prim.Native.Nat.{ℕ}
 use Rattle.laws.proofs.Orders.{same-refl}
 use Rattle.text.specs.Text.{bytes}
@@ -12,27 +12,13 @@ use Rattle.text.specs.Doc.{Name, Doc, scalar, array, object, Members, empty, me
 use Rattle.contact.specs.Pointer.{last, within, find}
 use Rattle.contact.specs.Patch.{without}
 use Rattle.contact.specs.Localize.{start, patchAt}
-use Rattle.contact.specs.BetweenMembers.{HasMember, here, later}
+use Rattle.contact.specs.BetweenMembers.{HasMember}
 use Rattle.contact.specs.Conditions.{PatchOf, PatchUnder, patch-under, LeftOut, noMore, goes, stays, LeftOutOf, leftOut}
+use Rattle.contact.proofs.Members.{has-seek, seek-has}
 use Rattle.contact.proofs.Patching.Names.{same-yes, same-no, byName}
 
 abbrev localizations : Name
 localizations = bytes "localizations"
-
--- ---- members by their names
-
-has-seek : {n : Name} {ms : Members} {d : Doc} → HasMember ms n d → (label : List ℕ) × (seek n ms ≡ some (property label d))
-has-seek (here {n = n} {label = label}) = (label, simp (same-refl n))
-has-seek (later ne h) = let (label, e) = has-seek h in (label, simp (same-no ne) e)
-
-seek-has : (n : Name) (ms : Members) (s : Property) → seek n ms ≡ some s → HasMember ms n (s .content)
-seek-has n empty s e = absurd (Option·none-ne-some s e)
-seek-has n (member m label d ms) s e =
-    byName m n
-    (λ q. let p : property label d ≡ s = Option·some-injective (property label d) s (simp (same-yes q) at e) in
-    let h : HasMember (member m label d ms) n d = subst (λ (k : Name). HasMember (member m label d ms) k d) q here in
-    subst (λ (x : Property). HasMember (member m label d ms) n (x .content)) p h)
-    (λ ne. later ne (seek-has n ms s (simp (same-no ne) at e)))
 
 -- ---- the PatchObject
 
@@ -41,7 +27,7 @@ in-localizations : (lang : Name) (ms : Members) (d : Doc) (label : List ℕ) →
     → (ls : Members) × (d ≡ object ls) × HasMember ls lang (object ms)
 in-localizations lang ms (scalar kind token) label e = absurd (Option·none-ne-some _ e)
 in-localizations lang ms (array xs) label e = absurd (Option·none-ne-some _ e)
-in-localizations lang ms (object ls) label e = (ls, refl, seek-has lang ls (property label (object ms)) e)
+in-localizations lang ms (object ls) label e = (ls, refl, (label, seek-has lang ls (property label (object ms)) e))
 
 patch-there : (card : Doc) (lang : Name) (ms : Members) (label : List ℕ) → find (patchAt lang) card ≡ some (property label (object ms)) → PatchUnder lang ms card
 patch-there (scalar kind token) lang ms label e = absurd (Option·none-ne-some _ e)
@@ -52,13 +38,10 @@ patch-there (object os) lang ms label e = go (seek localizations os) refl e
     go none k q = absurd (Option·none-ne-some _ q)
     go (some s) k q =
         let (ls, x, h) = in-localizations lang ms (s .content) label q in
-        patch-under (subst (λ (d : Doc). HasMember os localizations d) x (seek-has localizations os s k)) h
+        patch-under (subst (λ (d : Doc). HasMember os localizations d) x (s .label, seek-has localizations os s k)) h
 
 patch-stands : (card : Doc) (lang : Name) (ms : Members) → PatchUnder lang ms card → PatchOf card lang ms
-patch-stands card lang ms (patch-under h k) =
-    let (outer, e) = has-seek h in
-    let (label, q) = has-seek k in
-    record { label = label; stands = ap (within (find (last lang))) e ∙ q }
+patch-stands card lang ms (patch-under (outer, h) (label, k)) = record { label = label; stands = ap (within (find (last lang))) (has-seek h) ∙ has-seek k }
 
 pub patch-iff : (card : Doc) (lang : Name) (ms : Members) → PatchOf card lang ms ↔ PatchUnder lang ms card
 patch-iff card lang ms = (λ p. patch-there card lang ms (p .label) (p .stands), patch-stands card lang ms)

@@ -1,6 +1,6 @@
 -- Localizing step by step, as it is carried out:
 --     judged-answer                      what judging answers, by its answer on paper
---     says-failed, failed-says           a text is refused as the papers say
+--     answer-failed, failed-answer           a text is refused as the papers say
 --     no-patch, no-patch-object, patched-so       the PatchObject of the language
 --     bad-key-so .. no-object-so, unbroken-so     the conditions 22 to 26, one after the other
 --     short-so, room-so                  27, and then the text that is written is judged
@@ -23,7 +23,7 @@ use Rattle.text.specs.Text.{bytes}
 use Rattle.text.specs.Doc.{Name, Doc, scalar, array, object, Members, Property, kindOf}
 use Rattle.text.specs.Writing.{written}
 use Rattle.contact.specs.Verdict.{paperOfVerdict, refusedCard, Judged, passed, failed, judgedOf, answerOfJudged, sheetOfJudged, tableOfJudged}
-use Rattle.contact.specs.Judging.{Says}
+use Rattle.contact.specs.Judging.{CardAnswer}
 use Rattle.contact.specs.Pointer.{Pointer, last, down, badTilde, firstPart, find}
 use Rattle.contact.specs.Patch.{Entry, entry, entriesOf, Walk, onward, walk, anyBadKey, anyOwn, anyClash, anyWalk, isInArray, isNoObject, applied}
 use Rattle.contact.specs.Faults.{leastKey, ownKey, walksTo, faultIn}
@@ -45,17 +45,17 @@ judged-answer v j e = one-answer v (answerOfJudged j) e
 
 -- a text is refused in the words of the papers as it is judged
 module _ (L : Limits) (words : ℕ) (t : List ℕ) (r : CardRefusal) where
-  pub says-failed : {table : List ℕ} → Says L words t (refusedCard r) table → judgedOf L words t ≡ failed r
+  pub answer-failed : {table : List ℕ} → CardAnswer L words t (refusedCard r) table → judgedOf L words t ≡ failed r
   unfolding paperOfVerdict
-  says-failed {table} s = go (judgedOf L words t) (judged-answer (Failed r) (judgedOf L words t) (judging .answer L words t (refusedCard r) table .1 s .0))
+  answer-failed {table} s = go (judgedOf L words t) (judged-answer (Failed r) (judgedOf L words t) (judging .answer L words t (refusedCard r) table .1 s .0))
     where
       go : (j : Judged) → Failed r ≡ answerOfJudged j → j ≡ failed r
       go (passed f) e = let z : _≡_ {A = ℕ} 0 1 = cc in absurd (omega arith)
       go (failed q) e = let h : r ≡ q = cc in ap (λ (x : CardRefusal). failed x) (sym h)
 
-  pub failed-says : judgedOf L words t ≡ failed r → Says L words t (refusedCard r) (filled words [])
+  pub failed-answer : judgedOf L words t ≡ failed r → CardAnswer L words t (refusedCard r) (filled words [])
   unfolding paperOfVerdict sheetOfJudged tableOfJudged
-  failed-says e = judging .answer L words t (refusedCard r) (filled words []) .0 (rw e, rw e)
+  failed-answer e = judging .answer L words t (refusedCard r) (filled words []) .0 (rw e, rw e)
 
 module _ (L : Limits) (words room : ℕ) where
   -- ---- 21

@@ -1,22 +1,23 @@
--- 25 and 26 in words: where the walk along a pointer ends.
+-- 25 and 26 in words: where the walk along a pointer ends. And what a pointer finds in words: the property that it points at (`find-iff`).
 -- Assumes nothing.
 use mathlib.Core.Path.{_≡_, refl, sym, ap, _∙_}
 use mathlib.Core.Bool.{true, true≢false}
 use mathlib.Core.Logic.{_↔_}
 use mathlib.Core.List.{List, [], _∷_, _++_, head-eq-of-cons-eq, tail-eq-of-cons-eq}
-use mathlib.Core.Option.{Option, none, some}
+use mathlib.Core.Option.{Option, none, some, Option·none-ne-some}
 use Prim.Native.Nat.{ℕ}
 use native.Mathlib.Omega.{arith}
 use Rattle.text.specs.Doc.{Name, Doc, scalar, array, object, Members, Property, seek}
-use Rattle.contact.specs.Pointer.{Pointer, last, down, parts}
+use Rattle.contact.specs.Pointer.{Pointer, last, down, parts, within, find}
 use Rattle.contact.specs.Patch.{Walk, arrives, inArray, noObject, onward, walk, isInArray, isNoObject}
-use Rattle.contact.specs.Conditions.{Leads, here, into, Reaches, EntersArray, reached, LosesWay, atScalar, noMember}
+use Rattle.contact.specs.Conditions.{Leads, here, into, Reaches, PointsAt, at-last, EntersArray, reached, LosesWay, atScalar, noMember}
+use Rattle.contact.proofs.Members.{has-seek, seek-has, seek-lacks, lacks-seek}
 
 -- ---- a part further
 
 reaches-on : {p : Pointer} {x : Doc} {n : Name} {left : List Name} (m : Name) (ms : Members) (s : Property) → seek m ms ≡ some s
     → Reaches p (s .content) x n left → Reaches (down m p) (object ms) x n left
-reaches-on m ms s e r = record { way = m ∷ r .way; split = ap (λ (k : List Name). m ∷ k) (r .split); leads = into {s = s} e (r .leads) }
+reaches-on m ms s e r = record { way = m ∷ r .way; split = ap (λ (k : List Name). m ∷ k) (r .split); leads = into (s .label, seek-has m ms s e) (r .leads) }
 
 enters-on : (p : Pointer) (m : Name) (ms : Members) (s : Property) → seek m ms ≡ some s → EntersArray p (s .content) → EntersArray (down m p) (object ms)
 enters-on p m ms s e (reached r) = reached (reaches-on m ms s e r)
@@ -51,8 +52,8 @@ to-lost (down n p) (array xs) h = absurd (true≢false (ap isInArray h))
 to-lost (down n p) (object ms) h = go (seek n ms) refl h (λ d. to-lost p d)
   where
     lacks : (q : Pointer) → seek n ms ≡ none → LosesWay (down n q) (object ms)
-    lacks (last m) e = noMember (at-root (down n (last m)) (object ms) n (m ∷ []) refl) e
-    lacks (down m q) e = noMember (at-root (down n (down m q)) (object ms) n (m ∷ parts q) refl) e
+    lacks (last m) e = noMember (at-root (down n (last m)) (object ms) n (m ∷ []) refl) (seek-lacks n ms e)
+    lacks (down m q) e = noMember (at-root (down n (down m q)) (object ms) n (m ∷ parts q) refl) (seek-lacks n ms e)
 
     go : (o : Option Property) → seek n ms ≡ o → onward (walk p) o ≡ noObject → ((d : Doc) → walk p d ≡ noObject → LosesWay p d) → LosesWay (down n p) (object ms)
     go none e k ih = lacks p e
@@ -74,9 +75,9 @@ record PointerLeft (p : Pointer) (d x : Doc) (n : Name) (left : List Name) : Typ
 follow : {way : List Name} {d x : Doc} → Leads way d x → (p : Pointer) (n : Name) (left : List Name) → parts p ≡ way ++ (n ∷ left) → PointerLeft p d x n left
 follow here p n left e = record { rest = p; has = e; on = refl }
 follow (into {n = m} {ns = ns} k l) (last m′) n left e = absurd (not-empty ns n left (tail-eq-of-cons-eq e))
-follow (into {n = m} {ns = ns} {ms = ms} {s = s} k l) (down m′ p) n left e =
+follow (into {n = m} {ns = ns} {ms = ms} (label, k) l) (down m′ p) n left e =
     let r = follow l p n left (tail-eq-of-cons-eq e) in
-    record { rest = r .rest; has = r .has; on = ap (λ (j : Name). onward (walk p) (seek j ms)) (head-eq-of-cons-eq e) ∙ ap (onward (walk p)) k ∙ r .on }
+    record { rest = r .rest; has = r .has; on = ap (λ (j : Name). onward (walk p) (seek j ms)) (head-eq-of-cons-eq e) ∙ ap (onward (walk p)) (has-seek k) ∙ r .on }
 
 walk-array : (q : Pointer) (ms : Members) → walk q (array ms) ≡ inArray
 walk-array (last n) ms = refl
@@ -98,7 +99,7 @@ from-lost : (p : Pointer) (d : Doc) → LosesWay p d → walk p d ≡ noObject
 from-lost p d (atScalar {kind = kind} {token = token} {n = n} {left = left} r) =
     let l = follow (r .leads) p n left (r .split) in l .on ∙ walk-scalar (l .rest) kind token
 from-lost p d (noMember {ms = ms} {n = n} {m = m} {left = left} r k) =
-    let l = follow (r .leads) p n (m ∷ left) (r .split) in l .on ∙ walk-lacking (l .rest) ms n m left (l .has) k
+    let l = follow (r .leads) p n (m ∷ left) (r .split) in l .on ∙ walk-lacking (l .rest) ms n m left (l .has) (lacks-seek n ms k)
 
 -- ---- by the tests
 
@@ -117,3 +118,38 @@ array-test p d = (λ e. to-array p d (in-array (walk p d) e), λ h. ap isInArray
 
 pub lost-test : (p : Pointer) (d : Doc) → (isNoObject (walk p d) ≡ true) ↔ LosesWay p d
 lost-test p d = (λ e. to-lost p d (no-object (walk p d) e), λ h. ap isNoObject (from-lost p d h))
+
+-- ---- what is found
+
+points-on : (m : Name) (p : Pointer) (ms : Members) (s x : Property) → seek m ms ≡ some s → PointsAt p (s .content) x → PointsAt (down m p) (object ms) x
+points-on m p ms s x e (at-last r h) = at-last (reaches-on m ms s e r) h
+
+to-found : (p : Pointer) (d : Doc) (x : Property) → find p d ≡ some x → PointsAt p d x
+to-found (last n) (scalar k t) x e = absurd (Option·none-ne-some x e)
+to-found (last n) (array xs) x e = absurd (Option·none-ne-some x e)
+to-found (last n) (object ms) x e = at-last (at-root (last n) (object ms) n [] refl) (seek-has n ms x e)
+to-found (down n p) (scalar k t) x e = absurd (Option·none-ne-some x e)
+to-found (down n p) (array xs) x e = absurd (Option·none-ne-some x e)
+to-found (down n p) (object ms) x e = go (seek n ms) refl e (λ d. to-found p d x)
+  where
+    go : (o : Option Property) → seek n ms ≡ o → within (find p) o ≡ some x → ((d : Doc) → find p d ≡ some x → PointsAt p d x) → PointsAt (down n p) (object ms) x
+    go none q k ih = absurd (Option·none-ne-some x k)
+    go (some s) q k ih = points-on n p ms s x q (ih (s .content) k)
+
+-- a pointer has a part
+some-part : (p : Pointer) → parts p ≡ [] → ⊥
+some-part (last n) e = let z : _≡_ {A = ℕ} 0 1 = cc in omega arith
+some-part (down n p) e = let z : _≡_ {A = ℕ} 0 1 = cc in omega arith
+
+find-led : {way : List Name} {d : Doc} {ms : Members} → Leads way d (object ms) → (p : Pointer) (n : Name) → parts p ≡ way ++ (n ∷ []) → find p d ≡ seek n ms
+find-led {ms = ms} here (last m) n e = ap (λ (j : Name). seek j ms) (head-eq-of-cons-eq e)
+find-led here (down m p) n e = absurd (some-part p (tail-eq-of-cons-eq e))
+find-led (into {ns = ns} k l) (last m) n e = absurd (not-empty ns n [] (tail-eq-of-cons-eq e))
+find-led (into {ms = os} (label, k) l) (down m p) n e =
+    ap (λ (j : Name). within (find p) (seek j os)) (head-eq-of-cons-eq e) ∙ ap (within (find p)) (has-seek k) ∙ find-led l p n (tail-eq-of-cons-eq e)
+
+from-found : (p : Pointer) (d : Doc) (x : Property) → PointsAt p d x → find p d ≡ some x
+from-found p d x (at-last {n = n} r h) = find-led (r .leads) p n (r .split) ∙ has-seek h
+
+pub find-iff : (p : Pointer) (d : Doc) (x : Property) → (find p d ≡ some x) ↔ PointsAt p d x
+find-iff p d x = (to-found p d x, from-found p d x)

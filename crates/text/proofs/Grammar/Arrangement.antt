@@ -6,13 +6,13 @@ use mathlib.Core.Logic.{_↔_}
 use Prim.Native.Nat.{ℕ}
 use Rattle.text.specs.Abnf.{Star}
 use Rattle.text.specs.Tree.{Bracket}
-use Rattle.text.specs.Grammar.{Ws, opening, Part, items, Is, simple, empty, full, element, member, one, comma, JsonText, json-text, closing}
+use Rattle.text.specs.Grammar.{Ws, opening, Phrase, items, Is, simple, empty, full, element, member, one, comma, JsonText, json-text, closing}
 use Rattle.text.specs.Rfc.{mark, Rfc, RfcText}
 use Rattle.text.proofs.Grammar.Quotes.{star-join}
 use Rattle.text.proofs.Grammar.Sound.{glue-end}
 
 -- a part with white space around it, and items with white space before them
-record Padded (a : Part) (w : List ℕ) : Type 0 where
+record Padded (a : Phrase) (w : List ℕ) : Type 0 where
   before : List ℕ
   core : List ℕ
   behind : List ℕ
@@ -26,7 +26,7 @@ items-space {c = c} (one {v} {s} d p) q = rw (append-assoc v s c) (one d (star-j
 items-space {c = c} (comma {v} {s} {r} {w} d p o e) q = rw (glue-end 44 v s r w c) (comma d p o (items-space e q))
 
 -- a part of the RFC's grammar is one of this, with white space around it
-padded : {a : Part} {w : List ℕ} → Rfc a w → Padded a w
+padded : {a : Phrase} {w : List ℕ} → Rfc a w → Padded a w
 padded (Rfc.simple {w} k l) = record { before = []; core = w; behind = []; is = simple k l; space-before = Star.none; space-behind = Star.none; all = sym (append-nil w) }
 padded (Rfc.empty {a} {b} {c} {d} k p q r s) =
     record { before = a; core = opening k ∷ (b ++ c) ++ closing k ∷ []; behind = d; is = empty k (star-join q r); space-before = p; space-behind = s; all = simp (append-assoc, append-nil) }
@@ -93,14 +93,14 @@ from-rfc (RfcText.json-text {s} {w} {r} p d q) =
     rw e at (json-text (star-join p (h .space-before)) (h .is) (star-join (h .space-behind) q))
 
 -- and the other way: what is left over is white space behind the part
-record SpaceBehind (a : Part) (w : List ℕ) : Type 0 where
+record SpaceBehind (a : Phrase) (w : List ℕ) : Type 0 where
   core : List ℕ
   behind : List ℕ
   is : Rfc a core
   space-behind : Ws behind
   all : w ≡ core ++ behind
 
-bare : {a : Part} {w : List ℕ} → Is a w → SpaceBehind a w
+bare : {a : Phrase} {w : List ℕ} → Is a w → SpaceBehind a w
 bare (simple {w} k l) = record { core = w; behind = []; is = Rfc.simple k l; space-behind = Star.none; all = sym (append-nil w) }
 bare (empty {s} k p) =
     record {

@@ -16,7 +16,7 @@ use Rattle.text.specs.Strings.{nameOf}
 use Rattle.text.specs.Tokens.{isSpace, skip}
 use Rattle.text.specs.Tree.{Bracket, Forest, none, leaf, node, size, join}
 use Rattle.text.specs.Reader.{Read, good, bad, scalarWith, scalarAt, closeOf, container, deep, afterItem, itemsFrom, insideOf, named, colonAt, memberWith, valueAt}
-use Rattle.text.specs.Grammar.{Ws, JsonString, Simple, simpleKind, IsSimple, opening, Part, value, item, items, Is, simple, empty, full, element, member, one, comma, treeOf, closing}
+use Rattle.text.specs.Grammar.{Ws, JsonString, Simple, simpleKind, IsSimple, opening, Phrase, value, item, items, Is, simple, empty, full, element, member, one, comma, treeOf, closing}
 use Rattle.text.specs.Seats.{Head, Seat, under, behind, Sits}
 use Rattle.text.specs.declared.Token.{Token}
 use Rattle.text.specs.declared.Token.the-variants.{End, No2, No3}
@@ -259,7 +259,7 @@ comma-calm L t q b depth turns c at s r w to T S room e i p o dark h lower calm�
 -- ---- by induction on the derivation ----
 
 -- what is shown of a derivation d of the bytes w
-abbrev pub Calms : (L : Limits) (t : List ℕ) (q : ℕ) (a : Part) (w : List ℕ) → Is a w → Type 0
+abbrev pub Calms : (L : Limits) (t : List ℕ) (q : ℕ) (a : Phrase) (w : List ℕ) → Is a w → Type 0
 Calms L t q value w d =
     (s : List ℕ) → Behind (byteAt s 0) → (depth : ℕ) (c : Seat) (ns ne at : ℕ) → c .inside + depth ≡ L .depth → c .after ≤ L .values → at ≤ length t → Like t q at (w ++ s)
     → Good-names L t q (c .beside) ns → Calm L t q c (treeOf d ns ne at) (valueAt L t depth ns ne at (c .after))
@@ -275,7 +275,7 @@ pub no-names : (L : Limits) (t : List ℕ) (q : ℕ) (before : Forest) → Good-
 no-names L t q before m x (spelled j e z) lt = omega arith
 no-names L t q before m x (known u e z n) lt = omega arith
 
-pub calm : (L : Limits) (t : List ℕ) (q : ℕ) {a : Part} {w : List ℕ} (d : Is a w) → Calms L t q a w d
+pub calm : (L : Limits) (t : List ℕ) (q : ℕ) {a : Phrase} {w : List ℕ} (d : Is a w) → Calms L t q a w d
 unfolding treeOf
 calm L t q (simple {w} k l) = λ z o depth c ns ne at room few i h g.
     record { least = λ s y m x j v lt. go z c depth ns ne at h g s y m x j v lt (low L t (simple k l) c s y m x ns ne at j v) }

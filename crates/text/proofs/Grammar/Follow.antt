@@ -16,7 +16,7 @@ use Rattle.text.specs.Strings.{nameOf}
 use Rattle.text.specs.Tokens.{isSpace, skip, kindBy}
 use Rattle.text.specs.Tree.{Bracket, square, curly, Forest, none, leaf, node, size, join}
 use Rattle.text.specs.Reader.{Read, good, bad, Reader, scalarWith, scalarAt, container, deep, valueWith, afterItem, itemsFrom, insideOf, named, colonAt, memberWith, valueAt}
-use Rattle.text.specs.Grammar.{Ws, JsonString, Simple, simpleKind, IsSimple, opening, Part, value, item, items, Is, simple, empty, full, element, member, one, comma, treeOf, closing}
+use Rattle.text.specs.Grammar.{Ws, JsonString, Simple, simpleKind, IsSimple, opening, Phrase, value, item, items, Is, simple, empty, full, element, member, one, comma, treeOf, closing}
 use Rattle.text.specs.Seats.{Seat, under, behind, Sits}
 use Rattle.text.specs.declared.Token.{Token}
 use Rattle.text.specs.declared.Token.the-variants.{End, No2, No3}
@@ -274,7 +274,7 @@ module _ (L : Limits) (t : List ℕ) where
 -- ---- by induction on the derivation ----
 
 -- what is shown of a derivation d of the bytes w
-abbrev Follows : (L : Limits) (t : List ℕ) (q : ℕ) (a : Part) (w : List ℕ) → Is a w → Type 0
+abbrev Follows : (L : Limits) (t : List ℕ) (q : ℕ) (a : Phrase) (w : List ℕ) → Is a w → Type 0
 Follows L t q value w d =
     (s : List ℕ) → Behind (byteAt s 0) → (depth : ℕ) (c : Seat) (ns ne at : ℕ) → c .inside + depth ≡ L .depth → c .after ≤ L .values → at ≤ length t → Like t q at (w ++ s)
     → MeetsNew L t q c (treeOf d ns ne at) (at + length w) (valueAt L t depth ns ne at (c .after))
@@ -295,7 +295,7 @@ unfolding itemsFrom
 turn P L t b depth zero at n before e i g = absurd (omega arith)
 turn P L t b depth (suc left) at n before e i g = g left e
 
-pub follow : (L : Limits) (t : List ℕ) (q : ℕ) {a : Part} {w : List ℕ} (d : Is a w) → Follows L t q a w d
+pub follow : (L : Limits) (t : List ℕ) (q : ℕ) {a : Phrase} {w : List ℕ} (d : Is a w) → Follows L t q a w d
 unfolding treeOf
 follow L t q (simple {w} k l) = λ s o depth c ns ne at room few i h.
     by-order at q

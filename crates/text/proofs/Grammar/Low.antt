@@ -7,7 +7,7 @@ use native.Mathlib.Omega.{arith}
 use lib.ListN.{length}
 use Rattle.text.specs.Limits.{Limits}
 use Rattle.text.specs.Tree.{Bracket, Forest, none, leaf, node}
-use Rattle.text.specs.Grammar.{simpleKind, Part, value, item, items, Is, simple, empty, full, element, member, one, comma, treeOf}
+use Rattle.text.specs.Grammar.{simpleKind, Phrase, value, item, items, Is, simple, empty, full, element, member, one, comma, treeOf}
 use Rattle.text.specs.Seats.{Head, Seat, under, behind, Sits}
 use Rattle.text.specs.declared.Token.the-variants.{End, No3}
 use Rattle.text.proofs.Grammar.Stands.{clash}
@@ -26,7 +26,7 @@ module _ (L : Limits) (t : List ℕ) where
     by-name : Name-wrong before ns m x → Whence before ns at m x
     within : at ≤ x → Whence before ns at m x
 
-  abbrev Lows : (a : Part) (w : List ℕ) → Is a w → Type 0
+  abbrev Lows : (a : Phrase) (w : List ℕ) → Is a w → Type 0
   Lows value w d = (c s : Seat) (h : Head) (m x ns ne at : ℕ) → Sits c (treeOf d ns ne at) s h → Wrong L t s h m x → Whence (c .beside) ns at m x
   Lows (item b) w d = (c s : Seat) (h : Head) (m x at : ℕ) → Sits c (treeOf d 0 0 at) s h → Wrong L t s h m x → at ≤ x
   Lows (items b) w d = (c s : Seat) (h : Head) (m x at : ℕ) → Sits c (treeOf d 0 0 at) s h → Wrong L t s h m x → at ≤ x
@@ -62,7 +62,7 @@ module _ (L : Limits) (t : List ℕ) where
   join-low c s h m x at f g p r (first i) = p i
   join-low c s h m x at f g p r (later i) = r i
 
-  pub low : {a : Part} {w : List ℕ} (d : Is a w) → Lows a w d
+  pub low : {a : Phrase} {w : List ℕ} (d : Is a w) → Lows a w d
   unfolding treeOf
   low (simple {w} k l) = λ c s h m x ns ne at i e. leaf-low c s h m x (simpleKind k) ns ne at (at + length w) i e
   low (empty b p) = λ c s h m x ns ne at i e. node-low c s h m x b ns ne at _ none (λ i e. in-none i) i e

@@ -15,7 +15,7 @@ use Rattle.text.specs.Tokens.{isSpace, isDigit, wordAt, thenAt, digitsAt
 use Rattle.text.specs.Tree.{Bracket, square, curly, Forest, none, node, size, join}
 use Rattle.text.specs.Reader.{Read, good, bad, closeOf}
 use Rattle.text.specs.Abnf.{Byte, Star}
-use Rattle.text.specs.Grammar.{Blank, Ws, quoted, Simple, nothing, falsity, truth, numeral, text, simpleKind, IsSimple, Part, value, Is, simple, empty, full, element, member, one, comma, treeOf, closing}
+use Rattle.text.specs.Grammar.{Blank, Ws, quoted, Simple, nothing, falsity, truth, numeral, string, simpleKind, IsSimple, Phrase, value, Is, simple, empty, full, element, member, one, comma, treeOf, closing}
 use Rattle.text.specs.Seats.{Head, leafHead, nodeHead, Seat, under, behind, Sits}
 use Rattle.text.specs.declared.Token.{Token}
 use Rattle.text.specs.declared.Token.the-variants.{End, No2, No3}
@@ -138,7 +138,7 @@ some-kind nothing = omega arith
 some-kind falsity = omega arith
 some-kind truth = omega arith
 some-kind numeral = omega arith
-some-kind text = omega arith
+some-kind string = omega arith
 
 -- a value that holds no others has some bytes
 pub simple-long : (k : Simple) (w : List ℕ) → IsSimple k w → 0 < length w
@@ -146,7 +146,7 @@ unfolding kindBy
 simple-long k [] d = let e : 0 ≡ simpleKind k = simple-first k [] [] d in absurd (omega (arith, some-kind k))
 simple-long k (x ∷ w) d = omega arith
 
-first-kind : {a : Part} {w : List ℕ} → Is a w → (r : List ℕ) → 0 < kindBy (byteAt (w ++ r) 0)
+first-kind : {a : Phrase} {w : List ℕ} → Is a w → (r : List ℕ) → 0 < kindBy (byteAt (w ++ r) 0)
 unfolding kindBy
 first-kind (simple {w} k l) r = rw (simple-first k w r l) (some-kind k)
 first-kind (empty square p) r = omega arith
@@ -158,7 +158,7 @@ first-kind (member (quoted g) p o d) r = omega arith
 first-kind (one {v} {s} d p) r = rw (append-assoc v s r) (first-kind d (s ++ r))
 first-kind (comma {v} {s} {r = x} {w} d p o e) r = rw (append-assoc v (s ++ 44 ∷ (x ++ w)) r) (first-kind d ((s ++ 44 ∷ (x ++ w)) ++ r))
 
-pub first : {a : Part} {w : List ℕ} → Is a w → (r : List ℕ) → BeginsValue (byteAt (w ++ r) 0)
+pub first : {a : Phrase} {w : List ℕ} → Is a w → (r : List ℕ) → BeginsValue (byteAt (w ++ r) 0)
 first {w} d r = leads (byteAt (w ++ r) 0) (first-kind d r)
 
 -- white space may stand behind a value, and so may what may stand behind that
@@ -216,4 +216,4 @@ module _ (t : List ℕ) where
   three-text falsity at x e = not-three (word-three _ at) e
   three-text truth at x e = not-three (word-three _ at) e
   three-text numeral at x e = not-three (number-three at) e
-  three-text text at x e = refl
+  three-text string at x e = refl

@@ -15,7 +15,7 @@ use Rattle.text.specs.Tokens.{skip}
 use Rattle.text.specs.Tree.{Bracket, square, curly, Forest, none, node, join}
 use Rattle.text.specs.Reader.{Read, good, bad, ItemReader, closeOf, container, afterItem, itemsFrom, insideOf}
 use Rattle.text.specs.Abnf.{exactly, Star}
-use Rattle.text.specs.Grammar.{Ws, quoted, nothing, opening, Part, value, item, items, Is, simple, empty, full, element, member, one, comma, treeOf, closing}
+use Rattle.text.specs.Grammar.{Ws, quoted, nothing, opening, Phrase, value, item, items, Is, simple, empty, full, element, member, one, comma, treeOf, closing}
 use Rattle.text.specs.Seats.{Seat, under, behind}
 use Rattle.text.specs.declared.Refusal.{Refusal}
 use Rattle.text.specs.declared.Refusal.the-variants.{TooLong, Grammar, Character, Repeated, Deep, Many, Small}
@@ -97,7 +97,7 @@ null-value = simple nothing exactly
 
 module _ (L : Limits) (t : List ℕ) where
   -- such a part stands from `at` to `to`, f is its tree, and its values are read
-  pub record Parsed (a : Part) (depth : ℕ) (c : Seat) (ns ne at : ℕ) (f : Forest) (to : ℕ) : Type 0 where
+  pub record Parsed (a : Phrase) (depth : ℕ) (c : Seat) (ns ne at : ℕ) (f : Forest) (to : ℕ) : Type 0 where
     pub word : List ℕ
     pub is : Is a word
     pub stands : BytesStand t at to word
@@ -105,7 +105,7 @@ module _ (L : Limits) (t : List ℕ) where
     pub kept : Kept L t depth c f
 
   -- the bytes from `at` to e begin such a part
-  pub record Viable (a : Part) (at q e : ℕ) : Type 0 where
+  pub record Viable (a : Phrase) (at q e : ℕ) : Type 0 where
     pub word : List ℕ
     pub is : Is a word
     pub like : Like t e at word

@@ -19,7 +19,7 @@ use Rattle.text.specs.Text.{byteAt, bytes}
 use Rattle.text.specs.Tokens.{isSpace, skip, isDigit, wordAt, numberAt, kindBy, tokenAt}
 use Rattle.text.specs.Tree.{Bracket, square, curly, bracketKind}
 use Rattle.text.specs.Abnf.{Byte, Between, Exactly, exactly, seq, Opt, this, that, Star}
-use Rattle.text.specs.Grammar.{Blank, Ws, Number, JsonString, quoted, Simple, nothing, falsity, truth, numeral, text, simpleKind, IsSimple, opening, closing}
+use Rattle.text.specs.Grammar.{Blank, Ws, Number, JsonString, quoted, Simple, nothing, falsity, truth, numeral, string, simpleKind, IsSimple, opening, closing}
 use Rattle.text.specs.declared.Token.{Token}
 use Rattle.text.specs.declared.Token.the-variants.{End, No2, No3}
 use Rattle.text.proofs.Grammar.Stands.{BytesStand, Like, stands-to, stands-inside, one-stands, stands-join, like-none, like-tail, like-stuck}
@@ -127,14 +127,14 @@ simpleOf t nothing = wordAt t (bytes "null")
 simpleOf t falsity = wordAt t (bytes "false")
 simpleOf t truth = wordAt t (bytes "true")
 simpleOf t numeral = numberAt t
-simpleOf t text = quotedAt t
+simpleOf t string = quotedAt t
 
 pub simple-exact : (t : List ℕ) (k : Simple) → Exact t (IsSimple k) Behind (simpleOf t k)
 simple-exact t nothing = ends-exact Behind (λ z o. tt) (word-exact t (bytes "null") (omega arith))
 simple-exact t falsity = ends-exact Behind (λ z o. tt) (word-exact t (bytes "false") (omega arith))
 simple-exact t truth = ends-exact Behind (λ z o. tt) (word-exact t (bytes "true") (omega arith))
 simple-exact t numeral = ends-exact Behind (λ z o. behind-ends o) (number-exact t)
-simple-exact t text = ends-exact Behind (λ z o. tt) (string-exact t)
+simple-exact t string = ends-exact Behind (λ z o. tt) (string-exact t)
 
 -- ---- what a first byte begins ----
 
@@ -165,7 +165,7 @@ lead b =
     (λ e₁. if-equal (Lead b) b 102 (word-lead falsity _ b 102 (omega arith) exactly)
     (λ e₂. if-equal (Lead b) b 116 (word-lead truth _ b 116 (omega arith) exactly)
     (λ e₃. if-equal (Lead b) b 45 (λ e. a-simple numeral (48 ∷ []) (omega arith) (seq (seq (seq (Opt.some (Byte.byte e)) (this (Byte.byte refl))) Opt.none) Opt.none))
-    (λ e₄. if-equal (Lead b) b 34 (word-lead text (34 ∷ []) b 34 (omega arith) (quoted Star.none))
+    (λ e₄. if-equal (Lead b) b 34 (word-lead string (34 ∷ []) b 34 (omega arith) (quoted Star.none))
     (λ e₅. if-equal (Lead b) b 91 (λ e. a-bracket square e)
     (λ e₆. if-equal (Lead b) b 123 (λ e. a-bracket curly e)
     (λ e₇. if-true (Lead b) (isDigit b) (digit-lead b) (λ e. no-value))))))))
@@ -178,7 +178,7 @@ Opens nothing b = Unit {0}
 Opens falsity b = Unit {0}
 Opens truth b = Unit {0}
 Opens numeral b = Unit {0}
-Opens text b = b ≡ 34
+Opens string b = b ≡ 34
 
 first-quote : {b : ℕ} {w : List ℕ} → JsonString (b ∷ w) → b ≡ 34
 first-quote (quoted d) = refl
@@ -188,7 +188,7 @@ lead-opens nothing b w d = tt
 lead-opens falsity b w d = tt
 lead-opens truth b w d = tt
 lead-opens numeral b w d = tt
-lead-opens text b w d = first-quote d
+lead-opens string b w d = first-quote d
 
 pub token-simple : (t : List ℕ) (k : Simple) (at : ℕ) → Opens k (byteAt t at) → tokenAt t (simpleKind k) at ≡ simpleOf t k at
 unfolding tokenAt
@@ -196,14 +196,14 @@ token-simple t nothing at o = refl
 token-simple t falsity at o = refl
 token-simple t truth at o = refl
 token-simple t numeral at o = refl
-token-simple t text at o = rw o
+token-simple t string at o = rw o
 
 pub kind-text : (t : List ℕ) (k : Simple) (at : ℕ) → simpleKind k ≡ 5 → simpleOf t k at ≡ quotedAt t at
 kind-text t nothing at e = absurd (omega arith)
 kind-text t falsity at e = absurd (omega arith)
 kind-text t truth at e = absurd (omega arith)
 kind-text t numeral at e = absurd (omega arith)
-kind-text t text at e = refl
+kind-text t string at e = refl
 
 -- the kind of a value that holds no others is none of the other kinds
 pub kind-way : {A : Type 0} (k : Simple) (x y z s : A) → cond (eqb (simpleKind k) 0) x (cond (eqb (simpleKind k) 6) y (cond (eqb (simpleKind k) 7) z s)) ≡ s
@@ -211,7 +211,7 @@ kind-way nothing x y z s = refl
 kind-way falsity x y z s = refl
 kind-way truth x y z s = refl
 kind-way numeral x y z s = refl
-kind-way text x y z s = refl
+kind-way string x y z s = refl
 
 first-number : (w s : List ℕ) → Number w → kindBy (byteAt (w ++ s) 0) ≡ 4
 unfolding kindBy
@@ -238,11 +238,11 @@ simple-first nothing w s exactly = refl
 simple-first falsity w s exactly = refl
 simple-first truth w s exactly = refl
 simple-first numeral w s d = first-number w s d
-simple-first text w s (quoted d) = refl
+simple-first string w s (quoted d) = refl
 
 pub simple-opens : (k : Simple) (w s : List ℕ) → IsSimple k w → Opens k (byteAt (w ++ s) 0)
 simple-opens nothing w s d = tt
 simple-opens falsity w s d = tt
 simple-opens truth w s d = tt
 simple-opens numeral w s d = tt
-simple-opens text w s (quoted d) = refl
+simple-opens string w s (quoted d) = refl

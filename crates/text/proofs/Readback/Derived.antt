@@ -5,7 +5,7 @@ use mathlib.Core.Bool.{Bool, true, false}
 use Prim.Native.Nat.{ℕ}
 use Rattle.text.specs.Tree.{Bracket, square, curly}
 use Rattle.text.specs.Abnf.{Star, exactly}
-use Rattle.text.specs.Grammar.{quoted, nothing, falsity, truth, numeral, text, opening, value, item, items, Is, simple, element, one, JsonText, json-text, closing}
+use Rattle.text.specs.Grammar.{quoted, nothing, falsity, truth, numeral, string, opening, value, item, items, Is, simple, element, one, JsonText, json-text, closing}
 use Rattle.text.specs.Doc.{Name, Doc, scalar, array, object, Members, empty, member, boxed}
 use Rattle.text.specs.Writing.{written, writtenEntries, writtenMembers}
 use Rattle.text.specs.Labels.{Labelled, Every}
@@ -71,7 +71,7 @@ token-value Lexeme.null = record { word = _; is = simple nothing exactly; all = 
 token-value Lexeme.falsity = record { word = _; is = simple falsity exactly; all = refl; again = refl }
 token-value Lexeme.truth = record { word = _; is = simple truth exactly; all = refl; again = refl }
 token-value (Lexeme.number n) = record { word = _; is = simple numeral n; all = refl; again = refl }
-token-value (Lexeme.string s) = record { word = _; is = simple text (quoted (spells-chars s)); all = refl; again = refl }
+token-value (Lexeme.string s) = record { word = _; is = simple string (quoted (spells-chars s)); all = refl; again = refl }
 
 box-value : (b : Bracket) {ms : Members} → Inner b ms → Value (boxed b ms)
 box-value b Inner.bare =

@@ -16,7 +16,7 @@ use Rattle.text.specs.Tree.{Bracket, square, curly, Forest}
 use Rattle.text.specs.Reader.{good}
 use Rattle.text.specs.Whole.{readOf}
 use Rattle.text.specs.Placed.{TokenIn, null, falsity, truth, number, string}
-use Rattle.text.specs.Grammar.{Number, JsonString, Simple, nothing, numeral, text, simpleKind, IsSimple, Part, value, item, items, Is, simple, empty, full, element, member, one, comma}
+use Rattle.text.specs.Grammar.{Number, JsonString, Simple, nothing, numeral, string, simpleKind, IsSimple, Phrase, value, item, items, Is, simple, empty, full, element, member, one, comma}
 use Rattle.text.specs.Grammar as G
 use Rattle.text.specs.Doc.{Name, Doc, scalar, array, object, Members, docOf}
 use Rattle.text.specs.Writing.{written}
@@ -39,12 +39,12 @@ use Rattle.text.proofs.Readback.Shorter.{value-shorter}
 
 module _ (N : Name → List ℕ → Type 0) (T : ℕ → List ℕ → Type 0)
     (named : (m : List ℕ) (g : JsonString m) → N (decode (insideOf g)) m) (token : (w : List ℕ) (k : Simple) → IsSimple k w → T (simpleKind k) w) where
-  abbrev Built : Part → (Name → List ℕ → Members → Members) → Type 0
+  abbrev Built : Phrase → (Name → List ℕ → Members → Members) → Type 0
   Built value f = (b : Bracket) (n : Name) (label : List ℕ) (more : Members) → LabelIn N b n label → EveryIn N T b more → EveryIn N T b (f n label more)
   Built (item b) f = (n : Name) (label : List ℕ) (more : Members) → EveryIn N T b more → EveryIn N T b (f n label more)
   Built (items b) f = (n : Name) (label : List ℕ) (more : Members) → EveryIn N T b more → EveryIn N T b (f n label more)
 
-  built : {a : Part} {w : List ℕ} (d : Is a w) → Built a (says d)
+  built : {a : Phrase} {w : List ℕ} (d : Is a w) → Built a (says d)
   built (simple {w} k l) = λ b n label more h e. every-more N T b n label (scalar (simpleKind k) w) more (h, token w k l, e)
   built (empty c p) = λ b n label more h e. every-more N T b n label _ more (h, every-box N T c Members.empty (every-none N T c), e)
   built (full c p d) =
@@ -103,7 +103,7 @@ number-token w nothing l = λ e. absurd (omega arith)
 number-token w G.falsity l = λ e. absurd (omega arith)
 number-token w G.truth l = λ e. absurd (omega arith)
 number-token w numeral l = λ e. l
-number-token w text l = λ e. absurd (omega arith)
+number-token w string l = λ e. absurd (omega arith)
 
 lexeme : (kind : ℕ) (w : List ℕ) → Placed-token kind w → Number-token kind w → Lexeme kind w
 lexeme kind w p n = byTest (eqb kind 4) (λ b. let e = eqb-true kind 4 b in rw e (Lexeme.number (n e))) (λ b. p (eqb-false kind 4 b))

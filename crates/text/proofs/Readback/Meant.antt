@@ -19,7 +19,7 @@ use Rattle.text.specs.Tree.{Bracket, square, curly, Forest, leaf, node, 
 use Rattle.text.specs.Tree as T
 use Rattle.text.specs.Seats.{Head, Seat, Sits, Named}
 use Rattle.text.specs.Placed.{Quoted}
-use Rattle.text.specs.Grammar.{Part, value, item, items, Is, simple, empty, full, element, member, one, comma, JsonText, json-text, treeOf, rootOf, depthOf}
+use Rattle.text.specs.Grammar.{Phrase, value, item, items, Is, simple, empty, full, element, member, one, comma, JsonText, json-text, treeOf, rootOf, depthOf}
 use Rattle.text.specs.Doc.{Name, Doc, Members, boxed, labelAt, membersOf, seek}
 use Rattle.text.specs.Distinct.{Distinct}
 use Rattle.text.specs.Labels.{Labelled}
@@ -47,12 +47,12 @@ NamelessIn b (leaf kind ns ne from to rest) = Nameless b ns × NamelessIn b rest
 NamelessIn b (node c ns ne from to inside rest) = Nameless b ns × NamelessIn c inside × NamelessIn b rest
 
 -- the values of a part, before others
-abbrev NamelessBy : Part → (ℕ → Forest → Forest) → Type 0
+abbrev NamelessBy : Phrase → (ℕ → Forest → Forest) → Type 0
 NamelessBy value f = (b : Bracket) (ns : ℕ) (g : Forest) → Nameless b ns → NamelessIn b g → NamelessIn b (f ns g)
 NamelessBy (item b) f = (ns : ℕ) (g : Forest) → NamelessIn b g → NamelessIn b (f ns g)
 NamelessBy (items b) f = (ns : ℕ) (g : Forest) → NamelessIn b g → NamelessIn b (f ns g)
 
-tree-nameless : {a : Part} {w : List ℕ} (d : Is a w) (ne at : ℕ) → NamelessBy a (λ ns g. join (treeOf d ns ne at) g)
+tree-nameless : {a : Phrase} {w : List ℕ} (d : Is a w) (ne at : ℕ) → NamelessBy a (λ ns g. join (treeOf d ns ne at) g)
 unfolding treeOf join
 tree-nameless (simple k l) ne at = λ b ns g n h. (n, h)
 tree-nameless (empty c p) ne at = λ b ns g n h. (n, tt, h)

@@ -9,7 +9,7 @@ use lib.Seq.{drop-append-seam}
 use borrow.Author.Tests.{ne-eqb}
 use Rattle.text.specs.Strings.{decode, nameOf}
 use Rattle.text.specs.Tree.{Forest, none, leaf, node, join}
-use Rattle.text.specs.Grammar.{JsonString, quoted, simpleKind, opening, Part, value, Is, simple, empty, full, element, member, one, comma, JsonText, json-text, treeOf, rootOf, closing}
+use Rattle.text.specs.Grammar.{JsonString, quoted, simpleKind, opening, Phrase, value, Is, simple, empty, full, element, member, one, comma, JsonText, json-text, treeOf, rootOf, closing}
 use Rattle.text.specs.Doc.{Name, Doc, scalar, array, Members, boxed, labelAt, membersOf, docOf}
 use Rattle.text.proofs.Labels.{no-label}
 use Rattle.text.proofs.Readback.Runs.{BytesAt, at-left, at-right, at-behind, part-at}
@@ -21,7 +21,7 @@ abbrev pub insideOf : {m : List ℕ} → JsonString m → List ℕ
 insideOf (quoted {w} c) = w
 
 -- its values as members, and the members after them; a value that is no member has the name that is handed in
-abbrev pub says : {a : Part} {w : List ℕ} → Is a w → Name → (label : List ℕ) → Members → Members
+abbrev pub says : {a : Phrase} {w : List ℕ} → Is a w → Name → (label : List ℕ) → Members → Members
 says (simple {w} k l) n label more = Members.member n label (scalar (simpleKind k) w) more
 says (empty b p) n label more = Members.member n label (boxed b Members.empty) more
 says (full b p d) n label more = Members.member n label (boxed b (says d [] [] Members.empty)) more
@@ -65,13 +65,13 @@ module _ (t : List ℕ) where
       rw (ne-eqb (at + 1) 0 (omega arith), s) (part-at m (at + length m - 1 + 1) a e)
 
   -- the name 0, 0 is none
-  says-unnamed : {a : Part} {w : List ℕ} (d : Is a w) (more : Members) → says d (nameOf t 0 0) (labelAt t 0 0) more ≡ says d [] [] more
+  says-unnamed : {a : Phrase} {w : List ℕ} (d : Is a w) (more : Members) → says d (nameOf t 0 0) (labelAt t 0 0) more ≡ says d [] [] more
   says-unnamed d more =
       let n = no-label t {ns = 0} {ne = 0} refl refl in
       ap₂ (λ (name : Name) (label : List ℕ). says d name label more) (n .nameless) (n .unwritten)
 
   -- the members of its tree, and of what follows
-  said : {a : Part} {w : List ℕ} (d : Is a w) (ns ne at : ℕ) (g : Forest) → BytesAt t at w
+  said : {a : Phrase} {w : List ℕ} (d : Is a w) (ns ne at : ℕ) (g : Forest) → BytesAt t at w
       → membersOf t (join (treeOf d ns ne at) g) ≡ says d (nameOf t ns ne) (labelAt t ns ne) (membersOf t g)
   unfolding membersOf treeOf join
   said (simple {w} k l) ns ne at g a =

@@ -7,7 +7,7 @@ use native.Mathlib.Omega.{arith}
 use lib.ListN.{length, length-append}
 use Rattle.text.specs.Strings.{decode}
 use Rattle.text.specs.Tree.{Bracket, square, curly}
-use Rattle.text.specs.Grammar.{Part, value, item, items, Is, simple, empty, full, element, member, one, comma, closing}
+use Rattle.text.specs.Grammar.{Phrase, value, item, items, Is, simple, empty, full, element, member, one, comma, closing}
 use Rattle.text.specs.Doc.{Name, Members, boxed}
 use Rattle.text.specs.Writing.{written}
 use Rattle.text.proofs.Readback.Says.{insideOf, says, docBy, says-value}
@@ -42,12 +42,12 @@ box-length b ms = omega (arith, ap length (written-box b ms), first-length b ms)
 
 -- ---- each byte that is written stands in the text ----
 
-abbrev Shorter : Part → List ℕ → (Name → List ℕ → Members → Members) → Type 0
+abbrev Shorter : Phrase → List ℕ → (Name → List ℕ → Members → Members) → Type 0
 Shorter value w f = (b : Bracket) (n : Name) (label : List ℕ) (more : Members) → bulk b (f n label more) ≤ tag b label + length w + 1 + bulk b more
 Shorter (item b) w f = (n : Name) (label : List ℕ) (more : Members) → bulk b (f n label more) ≤ length w + 1 + bulk b more
 Shorter (items b) w f = (n : Name) (label : List ℕ) (more : Members) → bulk b (f n label more) ≤ length w + 1 + bulk b more
 
-shorter : {a : Part} {w : List ℕ} (d : Is a w) → Shorter a w (says d)
+shorter : {a : Phrase} {w : List ℕ} (d : Is a w) → Shorter a w (says d)
 shorter (simple k l) = λ b n label more. omega arith
 shorter (empty {s} c p) = λ b n label more. omega (arith, box-length c Members.empty, length-append s (closing c ∷ []))
 shorter (full {s} {w} c p d) =

@@ -12,7 +12,7 @@ use Prim.Native.Nat.{ℕ, _+_, _*_, _/_, _%_, _≤_, _<_}
 use native.Mathlib.Nat.{not-le-of-lt}
 use native.Mathlib.Omega.{arith}
 use borrow.Author.Tests.{lt-ltb, le-ltb}
-use Rattle.laws.specs.Bounds.{AllBelow}
+use Rattle.laws.proofs.Bounds.{AllBelow}
 use Rattle.laws.proofs.Branches.{if-less}
 use Rattle.text.specs.Chars.{checkedAt, tailOf, seq2, seq3, seq4}
 use Rattle.text.specs.Utf8.{Utf8, conts, utf8}

@@ -3,8 +3,8 @@ use mathlib.Core.Path.{sym}
 use borrow.Author.Needs.{needs}
 use denote.Ref.{now}
 use Rattle.json.specs.Cursors.{rest}
-use Rattle.card.proofs.Cursors.{byte-left, none-left}
-use Rattle.card.proofs.Times.{fraction-other, fraction-nought, fraction-end, fraction-more}
+use Rattle.json.proofs.Unread.{byte-left, none-left}
+use Rattle.card.proofs.Judging.Times.{fraction-other, fraction-nought, fraction-end, fraction-more}
 use Rattle.card.proofs.dates.closes.Statement.{statement}
 use Rattle.card.proofs.dates.closes.Tie as tie
 
@@ -13,15 +13,6 @@ returns c = sym (fraction-other _ _ (c .before .before .pre) _ (c .if1 .taken))
 
 returns-2 : tie.Need-returns-2
 returns-2 c = sym (fraction-nought _ _ (c .before .before .before .pre) _ (c .if2 .taken))
-
-next-byte-requires : tie.Need-next-byte-requires
-next-byte-requires c κs = search needs
-
-enum-told : tie.Need-enum-told
-enum-told c = search needs
-
-enum-told-2 : tie.Need-enum-told-2
-enum-told-2 c = search needs
 
 returns-3 : tie.Need-returns-3
 returns-3 c =
@@ -44,4 +35,4 @@ returns-4 c =
 pub closes-spec : {M : Type 1} → statement M
 closes-spec =
     tie.close
-    (tie.spec returns returns-2 next-byte-requires enum-told enum-told-2 returns-3 returns-4)
+    (tie.spec returns returns-2 (λ c κs. search needs) (λ c. search needs) (λ c. search needs) returns-3 returns-4)

@@ -13,9 +13,6 @@ returns-2 : tie.Need-returns-2
 unfolding daysOf monthLengths
 returns-2 c = search picks
 
-is-leap-requires : tie.Need-is-leap-requires
-is-leap-requires c κs = search needs
-
 returns-3 : tie.Need-returns-3
 unfolding daysOf monthLengths
 returns-3 c = rw (← c .before .is-leap .ensures, c .if4 .taken) (search picks)
@@ -23,15 +20,6 @@ returns-3 c = rw (← c .before .is-leap .ensures, c .if4 .taken) (search picks)
 returns-4 : tie.Need-returns-4
 unfolding daysOf monthLengths
 returns-4 c = rw (← c .before .is-leap .ensures, c .if4 .left) (search picks)
-
-cast-at : tie.Need-cast-at
-cast-at c = search needs
-
-mul-result : tie.Need-mul-result
-mul-result c = search needs
-
-array-read-result : tie.Need-array-read-result
-array-read-result c = search needs
 
 returns-5 : tie.Need-returns-5
 unfolding daysOf monthLengths
@@ -43,10 +31,10 @@ days-of-spec =
     (tie.spec
     returns
     returns-2
-    is-leap-requires
+    (λ c κs. search needs)
     returns-3
     returns-4
-    cast-at
-    mul-result
-    array-read-result
+    (λ c. search needs)
+    (λ c. search needs)
+    (λ c. search needs)
     returns-5)

@@ -7,8 +7,8 @@ use lib.ListN.{length}
 use borrow.Author.Tests.{not-true, not-false}
 use Rattle.json.specs.Cursors.{rest}
 use Rattle.contact.specs.Dates.{fractionEnds}
-use Rattle.card.proofs.Cursors.{byte-left, none-left}
-use Rattle.card.proofs.Times.{fraction-on}
+use Rattle.json.proofs.Unread.{byte-left, none-left}
+use Rattle.card.proofs.Judging.Times.{fraction-on}
 use Rattle.card.proofs.dates.fraction_ends.Statement.{statement}
 use Rattle.card.proofs.dates.fraction_ends.Tie as tie
 
@@ -21,24 +21,12 @@ abbrev μ-loop : tie.MeasureT-loop
 loop-holds : tie.Need-loop-holds Inv-loop μ-loop
 loop-holds c = refl
 
-next-byte-requires : tie.Need-next-byte-requires Inv-loop μ-loop
-next-byte-requires c κs = search needs
-
-enum-told : tie.Need-enum-told Inv-loop μ-loop
-enum-told c = search needs
-
 returns : tie.Need-returns Inv-loop μ-loop
 unfolding fractionEnds
 returns c =
     let a = c .before .before .before .before .before .args in
     let loop = c .before .before .before .loop in
     rw (← loop .inv, none-left (now (a .content)) (loop .at) (c .before .before .next-byte .ensures .0) (c .enum-told .given .1))
-
-enum-known-b : tie.Need-enum-known-b Inv-loop μ-loop
-enum-known-b c = search needs
-
-is-digit-requires : tie.Need-is-digit-requires Inv-loop μ-loop
-is-digit-requires c κs = search needs
 
 closes-requires : tie.Need-closes-requires Inv-loop μ-loop
 closes-requires c κs = sym (c .before .is-digit .ensures) ∙ not-true _ (c .if1 .taken)
@@ -75,11 +63,11 @@ fraction-ends-spec =
     Inv-loop
     μ-loop
     loop-holds
-    next-byte-requires
-    enum-told
+    (λ c κs. search needs)
+    (λ c. search needs)
     returns
-    enum-known-b
-    is-digit-requires
+    (λ c. search needs)
+    (λ c κs. search needs)
     closes-requires
     returns-2
     loop-less

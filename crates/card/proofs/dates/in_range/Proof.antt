@@ -6,27 +6,6 @@ use Rattle.contact.specs.Dates.{inRange}
 use Rattle.card.proofs.dates.in_range.Statement.{statement}
 use Rattle.card.proofs.dates.in_range.Tie as tie
 
-two-at-requires : tie.Need-two-at-requires
-two-at-requires c κs = search needs
-
-mul-year : tie.Need-mul-year
-mul-year c = search needs
-
-two-at-requires-2 : tie.Need-two-at-requires-2
-two-at-requires-2 c κs = search needs
-
-add-year : tie.Need-add-year
-add-year c = search needs
-
-two-at-requires-3 : tie.Need-two-at-requires-3
-two-at-requires-3 c κs = search needs
-
-two-at-requires-4 : tie.Need-two-at-requires-4
-two-at-requires-4 c κs = search needs
-
-is-day-requires : tie.Need-is-day-requires
-is-day-requires c κs = search needs
-
 returns : tie.Need-returns
 unfolding inRange
 returns c =
@@ -41,9 +20,6 @@ returns c =
       ← c .before .is-day .ensures,
       not-true (c .before .is-day .result) (c .if1 .taken),
     )
-
-two-at-requires-5 : tie.Need-two-at-requires-5
-two-at-requires-5 c κs = search needs
 
 returns-2 : tie.Need-returns-2
 unfolding inRange
@@ -63,9 +39,6 @@ returns-2 c =
       ← c .before .two-at5 .ensures .0,
       le-ltb (c .before .two-at5 .result) 24 (c .if2 .taken),
     )
-
-two-at-requires-6 : tie.Need-two-at-requires-6
-two-at-requires-6 c κs = search needs
 
 returns-3 : tie.Need-returns-3
 unfolding inRange
@@ -89,9 +62,6 @@ returns-3 c =
       ← c .before .two-at6 .ensures .0,
       le-ltb (c .before .two-at6 .result) 60 (c .if3 .taken),
     )
-
-two-at-requires-7 : tie.Need-two-at-requires-7
-two-at-requires-7 c κs = search needs
 
 returns-4 : tie.Need-returns-4
 unfolding inRange
@@ -122,17 +92,17 @@ pub in-range-spec : {M : Type 1} → statement M
 in-range-spec =
     tie.close
     (tie.spec
-    two-at-requires
-    mul-year
-    two-at-requires-2
-    add-year
-    two-at-requires-3
-    two-at-requires-4
-    is-day-requires
+    (λ c κs. search needs)
+    (λ c. search needs)
+    (λ c κs. search needs)
+    (λ c. search needs)
+    (λ c κs. search needs)
+    (λ c κs. search needs)
+    (λ c κs. search needs)
     returns
-    two-at-requires-5
+    (λ c κs. search needs)
     returns-2
-    two-at-requires-6
+    (λ c κs. search needs)
     returns-3
-    two-at-requires-7
+    (λ c κs. search needs)
     returns-4)

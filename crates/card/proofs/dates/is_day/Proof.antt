@@ -9,12 +9,9 @@ returns : tie.Need-returns
 unfolding isDay
 returns c = search picks
 
-days-of-requires : tie.Need-days-of-requires
-days-of-requires c κs = search needs
-
 returns-2 : tie.Need-returns-2
 unfolding isDay
 returns-2 c = rw (← c .days-of .ensures) (search picks)
 
 pub is-day-spec : {M : Type 1} → statement M
-is-day-spec = tie.close (tie.spec returns days-of-requires returns-2)
+is-day-spec = tie.close (tie.spec returns (λ c κs. search needs) returns-2)

@@ -8,8 +8,8 @@ use borrow.Author.Tests.{not-true, not-false}
 use Rattle.text.specs.Strings.{decode}
 use Rattle.text.specs.Utf8.{conts}
 use Rattle.json.specs.Cursors.{rest}
-use Rattle.card.proofs.Cursors.{byte-left, none-left}
-use Rattle.card.proofs.Times.{Begun, begun, begun-over, begun-other, begun-on, begun-done}
+use Rattle.json.proofs.Unread.{byte-left, none-left}
+use Rattle.card.proofs.Judging.Times.{Begun, begun, begun-over, begun-other, begun-on, begun-done}
 use Rattle.card.proofs.dates.is_time.Statement.{statement}
 use Rattle.card.proofs.dates.is_time.Tie as tie
 
@@ -19,21 +19,9 @@ Inv-loop content head₀ at₀ i₀ head at i = Begun (decode content) head (res
 abbrev μ-loop : tie.MeasureT-loop
 μ-loop content head₀ at₀ i₀ head at i = 19 - i
 
-start-requires : tie.Need-start-requires Inv-loop μ-loop
-start-requires c κs = search needs
-
 loop-holds : tie.Need-loop-holds Inv-loop μ-loop
 unfolding conts
 loop-holds c = rw (c .start .ensures) (begun _ _ refl)
-
-next-byte-requires : tie.Need-next-byte-requires Inv-loop μ-loop
-next-byte-requires c κs = search needs
-
-enum-known-b : tie.Need-enum-known-b Inv-loop μ-loop
-enum-known-b c = search needs
-
-enum-told : tie.Need-enum-told Inv-loop μ-loop
-enum-told c = search needs
 
 returns : tie.Need-returns Inv-loop μ-loop
 returns c =
@@ -42,12 +30,6 @@ returns c =
     let loop-test = c .before .before .before .loop-test in
     sym (begun-over (loop .inv) (loop-test .taken)
     (none-left (now (a .content)) (loop .at) (c .before .before .next-byte .ensures .0) (c .enum-told .given .1)))
-
-array-read-suits : tie.Need-array-read-suits Inv-loop μ-loop
-array-read-suits c = search needs
-
-suits-requires : tie.Need-suits-requires Inv-loop μ-loop
-suits-requires c κs = search needs
 
 returns-2 : tie.Need-returns-2 Inv-loop μ-loop
 returns-2 c =
@@ -58,15 +40,6 @@ returns-2 c =
     let b = c .before .before .before .b in
     sym (begun-other (loop .inv) (loop-test .taken) (byte-left (now (a .content)) (loop .at) (next-byte .ensures .0) (b .given .1))
     (sym (c .before .suits .ensures) ∙ not-true _ (c .if1 .taken)))
-
-array-write-head : tie.Need-array-write-head Inv-loop μ-loop
-array-write-head c = search needs
-
-add-i : tie.Need-add-i Inv-loop μ-loop
-add-i c = search needs
-
-loop-less : tie.Need-loop-less Inv-loop μ-loop
-loop-less c = search needs
 
 loop-again : tie.Need-loop-again Inv-loop μ-loop
 loop-again c =
@@ -81,17 +54,11 @@ loop-again c =
 slice-aggregate-in-range : tie.Need-slice-aggregate-in-range Inv-loop μ-loop
 slice-aggregate-in-range c = sym (c .before .before .loop .inv .full)
 
-in-range-requires : tie.Need-in-range-requires Inv-loop μ-loop
-in-range-requires c κs = search needs
-
 returns-3 : tie.Need-returns-3 Inv-loop μ-loop
 returns-3 c =
     let loop = c .before .before .before .before .loop in
     let loop-test = c .before .before .before .loop-test in
     sym (begun-done (loop .inv) (loop-test .left) ∙ rw (← c .before .in-range .ensures, not-true (c .before .in-range .result) (c .if2 .taken)))
-
-time-ends-requires : tie.Need-time-ends-requires Inv-loop μ-loop
-time-ends-requires c κs = search needs
 
 returns-4 : tie.Need-returns-4 Inv-loop μ-loop
 returns-4 c =
@@ -107,21 +74,21 @@ is-time-spec =
     (tie.spec
     Inv-loop
     μ-loop
-    start-requires
+    (λ c κs. search needs)
     loop-holds
-    next-byte-requires
-    enum-known-b
-    enum-told
+    (λ c κs. search needs)
+    (λ c. search needs)
+    (λ c. search needs)
     returns
-    array-read-suits
-    suits-requires
+    (λ c. search needs)
+    (λ c κs. search needs)
     returns-2
-    array-write-head
-    add-i
-    loop-less
+    (λ c. search needs)
+    (λ c. search needs)
+    (λ c. search needs)
     loop-again
     slice-aggregate-in-range
-    in-range-requires
+    (λ c κs. search needs)
     returns-3
-    time-ends-requires
+    (λ c κs. search needs)
     returns-4)

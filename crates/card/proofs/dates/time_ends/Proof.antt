@@ -3,28 +3,16 @@ use mathlib.Core.Path.{sym, _∙_}
 use borrow.Author.Needs.{needs}
 use denote.Ref.{now}
 use Rattle.contact.specs.Dates.{ends}
-use Rattle.card.proofs.Cursors.{byte-left, none-left}
-use Rattle.card.proofs.Times.{ends-fraction, ends-other, ends-here, ends-later}
+use Rattle.json.proofs.Unread.{byte-left, none-left}
+use Rattle.card.proofs.Judging.Times.{ends-fraction, ends-other, ends-here, ends-later}
 use Rattle.card.proofs.dates.time_ends.Statement.{statement}
 use Rattle.card.proofs.dates.time_ends.Tie as tie
-
-next-byte-requires : tie.Need-next-byte-requires
-next-byte-requires c κs = search needs
-
-enum-known-b : tie.Need-enum-known-b
-enum-known-b c = search needs
-
-enum-told : tie.Need-enum-told
-enum-told c = search needs
 
 returns : tie.Need-returns
 unfolding ends
 returns c =
     let a = c .before .before .before .before .args in
     rw (none-left (now (a .content)) (a .from) (c .before .before .next-byte .ensures .0) (c .enum-told .given .1))
-
-fraction-ends-requires : tie.Need-fraction-ends-requires
-fraction-ends-requires c κs = search needs
 
 returns-2 : tie.Need-returns-2
 returns-2 c =
@@ -40,15 +28,6 @@ returns-3 c =
     let next-byte = c .before .before .before .before .before .next-byte in
     let b = c .before .before .before .b in
     rw (byte-left (now (a .content)) (a .from) (next-byte .ensures .0) (b .given .1)) (sym (ends-other _ _ (c .before .if1 .left) (c .if2 .taken)))
-
-next-byte-requires-2 : tie.Need-next-byte-requires-2
-next-byte-requires-2 c κs = search needs
-
-enum-told-2 : tie.Need-enum-told-2
-enum-told-2 c = search needs
-
-enum-told-3 : tie.Need-enum-told-3
-enum-told-3 c = search needs
 
 returns-4 : tie.Need-returns-4
 returns-4 c =
@@ -74,15 +53,15 @@ pub time-ends-spec : {M : Type 1} → statement M
 time-ends-spec =
     tie.close
     (tie.spec
-    next-byte-requires
-    enum-known-b
-    enum-told
+    (λ c κs. search needs)
+    (λ c. search needs)
+    (λ c. search needs)
     returns
-    fraction-ends-requires
+    (λ c κs. search needs)
     returns-2
     returns-3
-    next-byte-requires-2
-    enum-told-2
-    enum-told-3
+    (λ c κs. search needs)
+    (λ c. search needs)
+    (λ c. search needs)
     returns-4
     returns-5)

@@ -1,18 +1,9 @@
 -- `card::judge::judge` meets its contract. Assumes nothing.
 use denote.Ref.{now}
-use Rattle.card.proofs.VerdictLaws.{read-into, rows-judged, text-refused}
+use Rattle.card.proofs.Judging.Verdict.{read-into, rows-judged, text-refused}
 use borrow.Author.Needs.{needs}
 use Rattle.card.proofs.judge.judge.Statement.{statement}
 use Rattle.card.proofs.judge.judge.Tie as tie
-
-read-requires : tie.Need-read-requires
-read-requires c κs = search needs
-
-enum-known-r : tie.Need-enum-known-r
-enum-known-r c = search needs
-
-enum-known-n : tie.Need-enum-known-n
-enum-known-n c = search needs
 
 judge-rows-requires : tie.Need-judge-rows-requires
 judge-rows-requires c κs =
@@ -21,17 +12,11 @@ judge-rows-requires c κs =
     let n = c .before .before .n in
     (read-into (now (a .text)) (now (a .table)) (read .last .1 .0) (n .given .0 .0) (read .kept .1 .0) (rw (n .given .1) at (read .ensures)))
 
-same-length : tie.Need-same-length
-same-length c = search needs
-
 returns : tie.Need-returns
 returns c =
     let a = c .before .before .before .before .before .before .before .before .before .args in
     let read = c .before .before .before .before .before .read in
     text-refused (now (a .text)) (now (a .table)) (read .last .1 .0) (c .before .r .given .0 .0) (rw (c .before .r .given .1) at (read .ensures))
-
-same-length-2 : tie.Need-same-length-2
-same-length-2 c = search needs
 
 returns-2 : tie.Need-returns-2
 returns-2 c =
@@ -50,11 +35,11 @@ pub judge-spec : {M : Type 1} → statement M
 judge-spec =
     tie.close
     (tie.spec
-    read-requires
-    enum-known-r
-    enum-known-n
+    (λ c κs. search needs)
+    (λ c. search needs)
+    (λ c. search needs)
     judge-rows-requires
-    same-length
+    (λ c. search needs)
     returns
-    same-length-2
+    (λ c. search needs)
     returns-2)

@@ -12,18 +12,6 @@ slice-aggregate-judge c =
     let start = c .before .before .before in
     sym (length-take-le (start .args .n) (start .args .out .now) (start .pre))
 
-judge-requires : tie.Need-judge-requires
-judge-requires c κs = search needs
-
-enum-known-rows : tie.Need-enum-known-rows
-enum-known-rows c = search needs
-
-enum-known-r : tie.Need-enum-known-r
-enum-known-r c = search needs
-
-same-length : tie.Need-same-length
-same-length c = search needs
-
 returns : tie.Need-returns
 returns c =
     λ room.
@@ -31,9 +19,6 @@ returns c =
     let p = c .before .before .before .before .before .before .before .before .before .before .pre in
     let judge = c .before .before .before .before .before .judge in
     judged-passed room (rw (c .before .rows .given .1) at (judge .ensures)) (length-take-le (a .n) (now (a .out)) p)
-
-same-length-2 : tie.Need-same-length-2
-same-length-2 c = search needs
 
 returns-2 : tie.Need-returns-2
 returns-2 c = λ room. judged-failed room (rw (c .before .r .given .1) at (c .before .before .before .before .before .judge .ensures))
@@ -43,10 +28,10 @@ judge-written-spec =
     tie.close
     (tie.spec
     slice-aggregate-judge
-    judge-requires
-    enum-known-rows
-    enum-known-r
-    same-length
+    (λ c κs. search needs)
+    (λ c. search needs)
+    (λ c. search needs)
+    (λ c. search needs)
     returns
-    same-length-2
+    (λ c. search needs)
     returns-2)

@@ -5,38 +5,14 @@ use borrow.Author.Needs.{needs}
 use Rattle.card.proofs.localize.localize.Statement.{statement}
 use Rattle.card.proofs.localize.localize.Tie as tie
 
-localize-in-requires : tie.Need-localize-in-requires
-localize-in-requires c κs = search needs
-
-bytes-used-requires : tie.Need-bytes-used-requires
-bytes-used-requires c κs = search needs
-
 sub-clear-bytes : tie.Need-sub-clear-bytes
 sub-clear-bytes c = used-fits (c .before .before .before .before .before .localize-in .ensures) (c .bytes-used .ensures)
 
 part-clear-bytes-start : tie.Need-part-clear-bytes-start
 part-clear-bytes-start c = used-fits (c .before .before .before .before .before .localize-in .ensures) (c .bytes-used .ensures)
 
-part-clear-bytes-end : tie.Need-part-clear-bytes-end
-part-clear-bytes-end c = search needs
-
-clear-bytes-requires : tie.Need-clear-bytes-requires
-clear-bytes-requires c κs = search needs
-
 enum-told : tie.Need-enum-told
 enum-told c = search needs
-
-clear-words-requires : tie.Need-clear-words-requires
-clear-words-requires c κs = search needs
-
-enum-told-2 : tie.Need-enum-told-2
-enum-told-2 c = search needs
-
-same-length : tie.Need-same-length
-same-length c = search needs
-
-same-length-2 : tie.Need-same-length-2
-same-length-2 c = search needs
 
 returns : tie.Need-returns
 returns c =
@@ -46,12 +22,6 @@ returns c =
     let enum-told = c .before .before .before .before .enum-told in
     denied-left (localize-in .ensures) (omega arith) (bytes-used .ensures) (clear-bytes .ensures) (omega arith) (enum-told .given .1)
     (c .before .before .clear-words .ensures)
-
-same-length-3 : tie.Need-same-length-3
-same-length-3 c = search needs
-
-same-length-4 : tie.Need-same-length-4
-same-length-4 c = search needs
 
 returns-2 : tie.Need-returns-2
 returns-2 c =
@@ -64,18 +34,18 @@ pub localize-spec : {M : Type 1} → statement M
 localize-spec =
     tie.close
     (tie.spec
-    localize-in-requires
-    bytes-used-requires
+    (λ c κs. search needs)
+    (λ c κs. search needs)
     sub-clear-bytes
     part-clear-bytes-start
-    part-clear-bytes-end
-    clear-bytes-requires
+    (λ c. search needs)
+    (λ c κs. search needs)
     enum-told
-    clear-words-requires
-    enum-told-2
-    same-length
-    same-length-2
+    (λ c κs. search needs)
+    (λ c. search needs)
+    (λ c. search needs)
+    (λ c. search needs)
     returns
-    same-length-3
-    same-length-4
+    (λ c. search needs)
+    (λ c. search needs)
     returns-2)

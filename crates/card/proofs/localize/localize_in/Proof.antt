@@ -1,21 +1,11 @@
 -- By the verdict on the card, and then by what was made of it. Assumes nothing.
 use lib.ListN.{length}
-use Rattle.card.proofs.CardLaws.{card-there}
 use Rattle.card.proofs.OutcomeLaws.{given-so, refused-so, fits-so, written-so}
 use native.Mathlib.Omega.{arith}
 use denote.Ref.{now}
 use borrow.Author.Needs.{needs}
 use Rattle.card.proofs.localize.localize_in.Statement.{statement}
 use Rattle.card.proofs.localize.localize_in.Tie as tie
-
-judge-requires : tie.Need-judge-requires
-judge-requires c κs = search needs
-
-enum-known-r : tie.Need-enum-known-r
-enum-known-r c = search needs
-
-same-length : tie.Need-same-length
-same-length c = search needs
 
 returns : tie.Need-returns
 returns c =
@@ -26,17 +16,6 @@ returns c =
 enum-told : tie.Need-enum-told
 enum-told c = search needs
 
-compose-for-requires : tie.Need-compose-for-requires
-compose-for-requires c κs =
-    let judge = c .before .before .before .before .before .before .judge in
-    card-there (rw (c .before .before .enum-told .given .1) at (judge .ensures)) (omega arith)
-
-enum-known-r-2 : tie.Need-enum-known-r-2
-enum-known-r-2 c = search needs
-
-enum-known-n : tie.Need-enum-known-n
-enum-known-n c = search needs
-
 judge-written-requires : tie.Need-judge-written-requires
 judge-written-requires c κs =
     let early = c .before .before .before .before .before .before .before .before .before .before .before .before in
@@ -45,14 +24,8 @@ judge-written-requires c κs =
     let enum-told = c .before .before .before .before .before .before .before .before .before .before .enum-told in
     let compose-for = c .before .before .before .before .before .before .before .compose-for in
     let n = c .before .before .before .n in
-    fits-so (rw (enum-told .given .1) at (judge .ensures)) (omega arith) (length (now (a .out))) (now (a .language))
+    fits-so (rw (enum-told .given .1) at (judge .ensures)) (omega arith) (now (a .out)) (now (a .language)) _ _
     (rw (n .given .1) at (compose-for .ensures))
-
-same-length-2 : tie.Need-same-length-2
-same-length-2 c = search needs
-
-same-length-3 : tie.Need-same-length-3
-same-length-3 c = search needs
 
 returns-2 : tie.Need-returns-2
 returns-2 c =
@@ -61,14 +34,8 @@ returns-2 c =
     let judge = c .before .before .before .before .before .before .before .before .before .before .before .before .judge in
     let enum-told = c .before .before .before .before .before .before .before .before .enum-told in
     let compose-for = c .before .before .before .before .before .compose-for in
-    refused-so (rw (enum-told .given .1) at (judge .ensures)) (omega arith) (length (now (a .out))) (now (a .language)) _ _
+    refused-so (rw (enum-told .given .1) at (judge .ensures)) (omega arith) (now (a .out)) (now (a .language)) _ _
     (rw (c .before .r2 .given .1) at (compose-for .ensures))
-
-same-length-4 : tie.Need-same-length-4
-same-length-4 c = search needs
-
-same-length-5 : tie.Need-same-length-5
-same-length-5 c = search needs
 
 returns-3 : tie.Need-returns-3
 returns-3 c =
@@ -79,25 +46,25 @@ returns-3 c =
     let enum-told = c .before .before .before .before .before .before .before .before .before .before .before .before .before .enum-told in
     let compose-for = c .before .before .before .before .before .before .before .before .before .before .compose-for in
     let n = c .before .before .before .before .before .before .n in
-    written-so (rw (enum-told .given .1) at (judge .ensures)) (omega arith) (length out) (now (a .language))
+    written-so (rw (enum-told .given .1) at (judge .ensures)) (omega arith) out (now (a .language)) _ _
     (rw (n .given .1) at (compose-for .ensures)) (c .before .before .judge-written .ensures (length out))
 
 pub localize-in-spec : {M : Type 1} → statement M
 localize-in-spec =
     tie.close
     (tie.spec
-    judge-requires
-    enum-known-r
-    same-length
+    (λ c κs. search needs)
+    (λ c. search needs)
+    (λ c. search needs)
     returns
     enum-told
-    compose-for-requires
-    enum-known-r-2
-    enum-known-n
+    (λ c κs. search needs)
+    (λ c. search needs)
+    (λ c. search needs)
     judge-written-requires
-    same-length-2
-    same-length-3
+    (λ c. search needs)
+    (λ c. search needs)
     returns-2
-    same-length-4
-    same-length-5
+    (λ c. search needs)
+    (λ c. search needs)
     returns-3)

@@ -5,18 +5,9 @@ use denote.Ref.{now}
 use mathlib.Core.Bool.{true, false}
 use mathlib.Core.Option.{Option}
 use Rattle.text.specs.Doc.{Property, isThere}
-use Rattle.card.proofs.ValueLaws.{seekIn, row-of, by-found, by-nothing}
+use Rattle.card.proofs.Judging.Values.{seekIn, contentOf, row-of, by-found, by-nothing}
 use Rattle.card.proofs.rows.has.Statement.{statement}
 use Rattle.card.proofs.rows.has.Tie as tie
-
-find-requires : tie.Need-find-requires
-find-requires c κs = search needs
-
-enum-told : tie.Need-enum-told
-enum-told c = search needs
-
-enum-told-2 : tie.Need-enum-told-2
-enum-told-2 c = search needs
 
 returns : tie.Need-returns
 returns c =
@@ -24,7 +15,7 @@ returns c =
     let a = c .before .before .before .before .before .before .args in
     let text = now (a .text) in
     let find = c .before .before .find in
-    by-found text (now (a .table)) (seekIn text (now (a .name)) f)
+    by-found contentOf text (now (a .table)) (seekIn text (now (a .name)) f)
     (row-of text (now (a .table)) (a .end) (now (a .name)) f (find .result) (find .ensures f s))
     (λ (o : Option Property). true ≡ isThere o)
     (c .enum-told .given .1) (λ p g v e. refl)
@@ -35,9 +26,9 @@ returns-2 c =
     let a = c .before .before .before .before .before .before .args in
     let text = now (a .text) in
     let find = c .before .before .find in
-    by-nothing text (now (a .table)) (seekIn text (now (a .name)) f)
+    by-nothing contentOf text (now (a .table)) (seekIn text (now (a .name)) f)
     (row-of text (now (a .table)) (a .end) (now (a .name)) f (find .result) (find .ensures f s))
     (λ (o : Option Property). false ≡ isThere o) (c .enum-told2 .given .1) refl
 
 pub has-spec : {M : Type 1} → statement M
-has-spec = tie.close (tie.spec find-requires enum-told enum-told-2 returns returns-2)
+has-spec = tie.close (tie.spec (λ c κs. search needs) (λ c. search needs) (λ c. search needs) returns returns-2)

@@ -5,12 +5,9 @@ use borrow.Author.Needs.{needs}
 use denote.Ref.{now}
 use borrow.Author.Tests.{eq-eqb, ne-eqb}
 use Rattle.contact.specs.Rules.{isString}
-use Rattle.card.proofs.ValueLaws.{value-kind, value-token}
+use Rattle.card.proofs.Judging.Values.{value-kind, value-token}
 use Rattle.card.proofs.rows.is_string.Statement.{statement}
 use Rattle.card.proofs.rows.is_string.Tie as tie
-
-kind-requires : tie.Need-kind-requires
-kind-requires c κs = search needs
 
 returns : tie.Need-returns
 unfolding isString
@@ -18,15 +15,6 @@ returns c =
     λ f v.
     let a = c .before .before .before .before .before .args in
     rw (← value-kind (now (a .text)) f v, ← c .before .kind .ensures, ne-eqb (c .before .kind .result) 5 (c .if1 .taken))
-
-value-start-requires : tie.Need-value-start-requires
-value-start-requires c κs = search needs
-
-value-end-requires : tie.Need-value-end-requires
-value-end-requires c κs = search needs
-
-is-content-requires : tie.Need-is-content-requires
-is-content-requires c κs = search needs
 
 returns-2 : tie.Need-returns-2
 unfolding isString
@@ -50,9 +38,9 @@ pub is-string-spec : {M : Type 1} → statement M
 is-string-spec =
     tie.close
     (tie.spec
-    kind-requires
+    (λ c κs. search needs)
     returns
-    value-start-requires
-    value-end-requires
-    is-content-requires
+    (λ c κs. search needs)
+    (λ c κs. search needs)
+    (λ c κs. search needs)
     returns-2)

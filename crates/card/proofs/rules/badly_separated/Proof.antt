@@ -1,5 +1,5 @@
 -- `card::rules::badly_separated` meets its contract. Assumes nothing.
-use Rattle.card.proofs.Separators.{two-in-a-row, in-order, out-of-order}
+use Rattle.card.proofs.Judging.Separators.{two-in-a-row, in-order, out-of-order}
 use Rattle.card.proofs.rules.badly_separated.Statement.{statement}
 use Rattle.card.proofs.rules.badly_separated.Tie as tie
 

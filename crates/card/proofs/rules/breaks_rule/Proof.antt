@@ -1,40 +1,40 @@
--- `card::rules::breaks_rule` meets its contract: the words are those of the rule. Assumes nothing.
-use borrow.Author.Needs.{needs}
+-- `card::rules::breaks_rule` meets its contract: number and words are those of the rule. Assumes nothing.
 use mathlib.Core.Path.{_∙_}
-use denote.Ref.{now}
 use native.Mathlib.Omega.{arith}
-use borrow.Author.Tests.{ne-eqb}
-use Prim.Native.Nat.{_/_}
+use denote.Ref.{now}
 use Rattle.text.specs.Doc.{membersOf}
-use Rattle.contact.specs.Schema.{types}
-use Rattle.card.specs.Table.{ownedFrom}
-use Rattle.card.specs.RuleTable.{ruleLines}
-use Rattle.card.proofs.RuleLaws.{rule-told}
+use Rattle.card.proofs.Known.Columns.{lent-length}
+use Rattle.card.proofs.Judging.Rules.{rule-told}
 use Rattle.card.proofs.rules.breaks_rule.Statement.{statement}
 use Rattle.card.proofs.rules.breaks_rule.Tie as tie
 
-rule-at-requires : tie.Need-rule-at-requires
-rule-at-requires c κs = search needs
+add-shape : tie.Need-add-shape
+add-shape c = omega (arith, c .before .before .before .before .pre .1 .0)
 
-returns : tie.Need-returns
-returns c = λ f s. rw (← c .before .rule-at .ensures .has, ne-eqb (c .before .rule-at .result / 8) (c .before .before .before .before .args .o) (c .if1 .taken))
+mul-shape : tie.Need-mul-shape
+mul-shape c = omega (arith, c .before .before .before .before .pre .0 .numbers-are .long, c .before .before .before .before .pre .1 .0)
 
-slice-aggregate-breaks-shape : tie.Need-slice-aggregate-breaks-shape
-slice-aggregate-breaks-shape c = search needs
+shared-slice-read-shape : tie.Need-shared-slice-read-shape
+shared-slice-read-shape c = omega (arith, c .before .before .before .before .before .pre .0 .numbers-are .long, c .before .before .before .before .before .pre .1 .0)
 
-mul-breaks-shape : tie.Need-mul-breaks-shape
-mul-breaks-shape c = search needs
+mul-at : tie.Need-mul-at
+mul-at c = omega (arith, c .before .before .before .before .before .pre .1 .0)
+
+add-at : tie.Need-add-at
+add-at c = omega (arith, c .before .before .before .before .before .pre .1 .0)
 
 breaks-shape-requires : tie.Need-breaks-shape-requires
-breaks-shape-requires c κs = (c .before .before .before .before .before .pre .1, omega (arith, c .before .before .before .before .before .pre .0))
+breaks-shape-requires c κs =
+    let p = c .before .before .before .before .before .pre in
+    (p .0, (p .1 .1, omega (arith, lent-length (p .0), p .1 .0)))
 
-returns-2 : tie.Need-returns-2
-unfolding ruleLines ownedFrom types
-returns-2 c =
+returns : tie.Need-returns
+returns c =
     λ f s.
     let a = c .before .before .before .before .before .before .args in
+    let p = c .before .before .before .before .before .before .pre in
     c .breaks-shape .ensures f s
-    ∙ rule-told (a .o) (membersOf (now (a .text)) f) (a .i) (c .before .before .before .before .before .before .pre .0) (c .before .before .before .rule-at .result) (c .before .before .before .rule-at .ensures) (c .before .before .if1 .left)
+    ∙ rw (p .0 .numbers-are .shape (a .i) (p .1 .0), p .0 .words-are) (rule-told (a .object .of) (membersOf (now (a .text)) f) (a .i) (p .1 .0))
 
 pub breaks-rule-spec : {M : Type 1} → statement M
-breaks-rule-spec = tie.close (tie.spec rule-at-requires returns slice-aggregate-breaks-shape mul-breaks-shape breaks-shape-requires returns-2)
+breaks-rule-spec = tie.close (tie.spec add-shape mul-shape shared-slice-read-shape mul-at add-at breaks-shape-requires returns)

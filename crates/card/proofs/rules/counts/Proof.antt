@@ -9,42 +9,36 @@ use lib.ListN.{length}
 use borrow.Author.Tests.{eq-eqb, ne-eqb}
 use Rattle.contact.specs.Rules.{present}
 use Rattle.card.specs.RuleTable.{isCounted}
-use Rattle.card.proofs.RuleLaws.{by-value, no-value}
+use Rattle.card.proofs.Judging.Values.{by-found, by-nothing, itself}
 use Rattle.card.proofs.rules.counts.Statement.{statement}
 use Rattle.card.proofs.rules.counts.Tie as tie
 
 returns : tie.Need-returns
 unfolding isCounted
-returns c = λ f s. rw (eq-eqb (length (now (c .before .before .before .before .args .name))) 0 (c .if1 .taken))
+returns c = λ f s. rw (eq-eqb (length (now (c .before .before .before .before .before .before .args .name))) 0 (c .if1 .taken))
 
 present-requires : tie.Need-present-requires
-present-requires c κs = search needs
-
-enum-told : tie.Need-enum-told
-enum-told c = search needs
-
-enum-told-2 : tie.Need-enum-told-2
-enum-told-2 c = search needs
+present-requires c κs = c .before .before .before .before .before .before .pre
 
 returns-2 : tie.Need-returns-2
 unfolding isCounted
 returns-2 c =
     λ f s.
-    let a = c .before .before .before .before .before .before .before .args in
+    let a = c .before .before .before .before .before .before .before .before .before .args in
     let text = now (a .text) in
     rw (ne-eqb (length (now (a .name))) 0 (c .before .before .before .if1 .left))
-    (by-value text (now (a .table)) (present (a .o) (now (a .name)) (membersOf text f)) (c .before .before .present .ensures f s)
+    (by-found itself text (now (a .table)) (present (a .object .of) (now (a .name)) (membersOf text f)) (c .before .before .present .ensures f s)
     (λ (x : Option Doc). true ≡ isThere x) (c .enum-told .given .1) (λ d g v e. refl))
 
 returns-3 : tie.Need-returns-3
 unfolding isCounted
 returns-3 c =
     λ f s.
-    let a = c .before .before .before .before .before .before .before .args in
+    let a = c .before .before .before .before .before .before .before .before .before .args in
     let text = now (a .text) in
     rw (ne-eqb (length (now (a .name))) 0 (c .before .before .before .if1 .left))
-    (no-value text (now (a .table)) (present (a .o) (now (a .name)) (membersOf text f)) (c .before .before .present .ensures f s)
+    (by-nothing itself text (now (a .table)) (present (a .object .of) (now (a .name)) (membersOf text f)) (c .before .before .present .ensures f s)
     (λ (x : Option Doc). false ≡ isThere x) (c .enum-told2 .given .1) refl)
 
 pub counts-spec : {M : Type 1} → statement M
-counts-spec = tie.close (tie.spec returns present-requires enum-told enum-told-2 returns-2 returns-3)
+counts-spec = tie.close (tie.spec returns present-requires (λ c. search needs) (λ c. search needs) returns-2 returns-3)

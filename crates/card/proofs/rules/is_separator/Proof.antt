@@ -6,12 +6,9 @@ use borrow.Author.Tests.{eq-eqb, ne-eqb}
 use mathlib.Core.List.{[]}
 use Rattle.text.specs.Firsts.{insideAt}
 use Rattle.contact.specs.Rules.{isSeparator}
-use Rattle.card.proofs.ValueLaws.{value-kind, value-members, value-below, value-room}
+use Rattle.card.proofs.Judging.Values.{value-kind, value-members, value-below, value-room}
 use Rattle.card.proofs.rules.is_separator.Statement.{statement}
 use Rattle.card.proofs.rules.is_separator.Tie as tie
-
-kind-requires : tie.Need-kind-requires
-kind-requires c κs = search needs
 
 returns : tie.Need-returns
 unfolding isSeparator
@@ -25,12 +22,6 @@ next-row-requires c κs = c .before .before .before .before .pre
 
 add-has-string : tie.Need-add-has-string
 add-has-string c = omega (arith, value-room [] (c .before .before .before .before .before .pre .0) (c .before .before .before .before .before .pre .1))
-
-slice-aggregate-has-string : tie.Need-slice-aggregate-has-string
-slice-aggregate-has-string c = search needs
-
-slice-aggregate-has-string-2 : tie.Need-slice-aggregate-has-string-2
-slice-aggregate-has-string-2 c = search needs
 
 has-string-requires : tie.Need-has-string-requires
 has-string-requires c κs =
@@ -54,11 +45,11 @@ pub is-separator-spec : {M : Type 1} → statement M
 is-separator-spec =
     tie.close
     (tie.spec
-    kind-requires
+    (λ c κs. search needs)
     returns
     next-row-requires
     add-has-string
-    slice-aggregate-has-string
-    slice-aggregate-has-string-2
+    (λ c. search needs)
+    (λ c. search needs)
     has-string-requires
     returns-2)

@@ -1,6 +1,6 @@
 -- `card::rules::marked` meets its contract. Assumes nothing.
 use borrow.Author.Tests.{not-true, not-false}
-use Rattle.card.proofs.Separators.{mark-other, mark-second, mark-first}
+use Rattle.card.proofs.Judging.Separators.{mark-other, mark-second, mark-first}
 use Rattle.card.proofs.rules.marked.Statement.{statement}
 use Rattle.card.proofs.rules.marked.Tie as tie
 

@@ -7,59 +7,46 @@ use mathlib.Core.Option.{Option}
 use Rattle.text.specs.Firsts.{insideAt}
 use Rattle.contact.specs.Rules.{present, marks}
 use Rattle.card.specs.Marks.{fresh, tally}
-use Rattle.card.proofs.ValueLaws.{value-members, value-below}
-use Rattle.card.proofs.RuleLaws.{value-here, by-value, no-value}
+use Rattle.card.proofs.Judging.Values.{value-members, value-below, by-found, by-nothing, found-here, itself}
 use Rattle.card.proofs.rules.tally_in.Statement.{statement}
 use Rattle.card.proofs.rules.tally_in.Tie as tie
 
 present-requires : tie.Need-present-requires
-present-requires c κs = search needs
-
-enum-known-k : tie.Need-enum-known-k
-enum-known-k c = search needs
-
-enum-told : tie.Need-enum-told
-enum-told c = search needs
-
-no-marks-requires : tie.Need-no-marks-requires
-no-marks-requires c κs = search needs
+present-requires c κs = c .before .before .before .before .before .pre
 
 returns : tie.Need-returns
 unfolding tally
 returns c =
     λ f s.
-    let a = c .before .before .before .before .before .before .before .args in
+    let a = c .before .before .before .before .before .before .before .before .before .args in
     let text = now (a .text) in
-    no-value text (now (a .table)) (present (a .o) (now (a .name)) (membersOf text f)) (c .before .before .before .present .ensures f s)
+    by-nothing itself text (now (a .table)) (present (a .object .of) (now (a .name)) (membersOf text f)) (c .before .before .before .present .ensures f s)
     (λ (x : Option Doc). c .no-marks .result ≡ tally fresh (marks x)) (c .before .enum-told .given .1) (c .no-marks .ensures)
 
 next-row-requires : tie.Need-next-row-requires
 next-row-requires c κs =
-    let a = c .before .before .before .before .before .before .before .args in
+    let a = c .before .before .before .before .before .before .before .before .before .args in
     let text = now (a .text) in
-    let p = c .before .before .before .before .before .before .before .pre in
-    value-here text (now (a .table)) (present (a .o) (now (a .name)) (membersOf text (p .0))) (c .before .before .before .present .ensures (p .0) (p .1)) (c .before .k .given .1)
-
-add-tally-of : tie.Need-add-tally-of
-add-tally-of c = search needs
+    let p = c .before .before .before .before .before .before .before .before .before .pre .1 in
+    found-here itself text (now (a .table)) (present (a .object .of) (now (a .name)) (membersOf text (p .0))) (c .before .before .before .present .ensures (p .0) (p .1)) (c .before .k .given .1)
 
 tally-of-requires : tie.Need-tally-of-requires
 tally-of-requires c κs =
-    let a = c .before .before .before .before .before .before .before .before .args in
+    let a = c .before .before .before .before .before .before .before .before .before .before .args in
     let text = now (a .text) in
-    let p = c .before .before .before .before .before .before .before .before .pre in
-    let (g, v) = value-here text (now (a .table)) (present (a .o) (now (a .name)) (membersOf text (p .0))) (c .before .before .before .before .present .ensures (p .0) (p .1))
+    let p = c .before .before .before .before .before .before .before .before .before .before .pre .1 in
+    let (g, v) = found-here itself text (now (a .table)) (present (a .object .of) (now (a .name)) (membersOf text (p .0))) (c .before .before .before .before .present .ensures (p .0) (p .1))
     (c .before .before .k .given .1) in
     (insideAt g, rw (c .next-row .ensures) (value-members text g v))
 
 returns-2 : tie.Need-returns-2
 returns-2 c =
     λ f s.
-    let a = c .before .before .before .before .before .before .before .before .before .args in
+    let a = c .before .before .before .before .before .before .before .before .before .before .before .args in
     let text = now (a .text) in
-    by-value text (now (a .table)) (present (a .o) (now (a .name)) (membersOf text f)) (c .before .before .before .before .before .present .ensures f s)
+    by-found itself text (now (a .table)) (present (a .object .of) (now (a .name)) (membersOf text f)) (c .before .before .before .before .before .present .ensures f s)
     (λ (x : Option Doc). c .tally-of .result ≡ tally fresh (marks x)) (c .before .before .before .k .given .1)
     (λ d g v e. rw (e, value-below text g) (c .tally-of .ensures (insideAt g) (rw (c .before .next-row .ensures) (value-members text g v))))
 
 pub tally-in-spec : {M : Type 1} → statement M
-tally-in-spec = tie.close (tie.spec present-requires enum-known-k enum-told no-marks-requires returns next-row-requires add-tally-of tally-of-requires returns-2)
+tally-in-spec = tie.close (tie.spec present-requires (λ c. search needs) (λ c. search needs) (λ c κs. search needs) returns next-row-requires (λ c. search needs) tally-of-requires returns-2)

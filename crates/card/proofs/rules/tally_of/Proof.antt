@@ -7,7 +7,7 @@ use denote.Ref.{now}
 use Rattle.card.specs.Marks.{fresh}
 use Rattle.card.specs.declared.rules.Marks.{Marks}
 use Rattle.card.proofs.Along.{Along, along, along-here, along-on, along-end}
-use Rattle.card.proofs.Separators.{tallyIn, tally-on, tally-end}
+use Rattle.card.proofs.Judging.Separators.{tallyIn, tally-on, tally-end}
 use Rattle.card.proofs.rules.tally_of.Statement.{statement}
 use Rattle.card.proofs.rules.tally_of.Tie as tie
 
@@ -16,9 +16,6 @@ Inv-loop text table from end m₀ at₀ m at = Along table from end (tallyIn tex
 
 abbrev μ-loop : tie.MeasureT-loop
 μ-loop text table from end m₀ at₀ m at = end - at
-
-no-marks-requires : tie.Need-no-marks-requires Inv-loop μ-loop
-no-marks-requires c κs = search needs
 
 loop-holds : tie.Need-loop-holds Inv-loop μ-loop
 loop-holds c = rw (c .no-marks .ensures) (along _ _ _ _)
@@ -31,9 +28,6 @@ is-separator-requires c κs =
     let (ws, v, le) = along-here (now (a .table)) (a .from) (a .end) (tallyIn text fresh) (c .before .loop .at) (tallyIn text (c .before .loop .m))
     (c .before .loop .inv) (p .0) (p .1) (c .loop-test .taken) in
     (ws, v)
-
-marked-requires : tie.Need-marked-requires Inv-loop μ-loop
-marked-requires c κs = search needs
 
 next-row-requires : tie.Need-next-row-requires Inv-loop μ-loop
 next-row-requires c κs =
@@ -80,10 +74,10 @@ tally-of-spec =
     (tie.spec
     Inv-loop
     μ-loop
-    no-marks-requires
+    (λ c κs. search needs)
     loop-holds
     is-separator-requires
-    marked-requires
+    (λ c κs. search needs)
     next-row-requires
     loop-less
     loop-again

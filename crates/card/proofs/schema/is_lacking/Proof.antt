@@ -1,74 +1,55 @@
--- `card::schema::is_lacking` meets its contract: a search through the table. The measure is the lines left. Assumes nothing.
-use mathlib.Core.Path.{_≡_, sym, _∙_}
-use Prim.Native.Nat.{_≤_, _-_}
+-- `card::schema::is_lacking` meets its contract: a search through the object type's properties. The measure is those left. Assumes nothing.
+use Prim.Native.Nat.{_-_}
+use mathlib.Core.Path.{sym, _∙_}
+use mathlib.Core.Bool.{true, false}
 use native.Mathlib.Omega.{arith}
 use borrow.Author.Needs.{needs}
 use denote.Ref.{now}
-use mathlib.Core.Bool.{true, false}
-use lib.ListN.{drop}
 use Rattle.text.specs.Tree.{Forest}
-use Rattle.text.specs.Standing.{StandsTo}
 use Rattle.text.specs.Doc.{membersOf}
 use Rattle.contact.specs.Schema.{properties}
-use Rattle.contact.specs.Judge.{lacking}
-use Rattle.card.specs.Table.{lines, noLine, count}
-use Rattle.card.proofs.Search.{missed, lackingAmong, lacking-all, lines-length, first-hit, first-on, first-end}
+use Rattle.card.specs.Catalog.{MembersAt, lines, noLine, isMissing}
+use Rattle.card.proofs.Known.Columns.{lines-length}
+use Rattle.card.proofs.Known.Search.{Left, left-starts, left-hit, left-on, left-end, lacking-first}
 use Rattle.card.proofs.schema.is_lacking.Statement.{statement}
 use Rattle.card.proofs.schema.is_lacking.Tie as tie
 
 abbrev Inv-loop : tie.InvT-loop
-Inv-loop text table from end o i₀ i =
-    ((f : Forest) → StandsTo table from end f
-    → lackingAmong o (membersOf text f) (drop i lines) ≡ lacking (properties o) (membersOf text f)) × (i ≤ count)
+Inv-loop words numbers text table object last i₀ i =
+    (f : Forest) → MembersAt table object f → Left (isMissing (membersOf text f)) (λ _. true) false lines (properties (object .of)) noLine i₀ last i
 
 abbrev μ-loop : tie.MeasureT-loop
-μ-loop text table from end o i₀ i = count - i
+μ-loop words numbers text table object last i₀ i = last - i
+
+lines-of-requires : tie.Need-lines-of-requires Inv-loop μ-loop
+lines-of-requires c κs = c .before .before .before .before .pre .0 .numbers-are
 
 loop-holds : tie.Need-loop-holds Inv-loop μ-loop
-loop-holds c = ((λ f s. lacking-all _ _), omega arith)
+loop-holds c = λ f s. left-starts _ _ _ _ _ _ _ _ (c .lines-of .ensures)
 
 is-missing-requires : tie.Need-is-missing-requires Inv-loop μ-loop
-is-missing-requires c κs = (c .loop-test .taken, c .before .before .before .before .pre)
+is-missing-requires c κs =
+    let p = c .before .before .before .before .before .before .before .pre in
+    let s = c .before .before .lines-of .ensures in
+    (p .0, (omega (arith, s .within, lines-length, c .loop-test .taken), p .1))
 
 returns : tie.Need-returns Inv-loop μ-loop
 returns c =
     λ f s.
-    let a = c .before .before .before .before .before .before .args in
-    let loop = c .before .before .before .loop in
-    sym (sym (loop .inv .0 f s) ∙ first-hit (missed (membersOf (now (a .text)) f)) (λ k. true) false (a .o) lines noLine count lines-length (loop .i) (c .before .before .loop-test .taken)
-    (sym (c .before .is-missing .ensures f s) ∙ c .if1 .taken))
-
-add-i : tie.Need-add-i Inv-loop μ-loop
-add-i c = search needs
-
-loop-less : tie.Need-loop-less Inv-loop μ-loop
-loop-less c = search needs
+    let a = c .before .before .before .before .before .before .before .before .before .args in
+    left-hit _ _ _ _ _ _ _ _ (c .before .before .before .before .lines-of .ensures) (c .before .before .before .loop .inv f s) (c .before .before .loop-test .taken) (sym (c .before .is-missing .ensures f s) ∙ c .if1 .taken)
+    ∙ lacking-first (membersOf (now (a .text)) f) (properties (a .object .of))
 
 loop-again : tie.Need-loop-again Inv-loop μ-loop
 loop-again c =
-    let a = c .before .before .before .before .before .before .args in
-    let loop = c .before .before .before .loop in (
-      (λ f s. sym (first-on (missed (membersOf (now (a .text)) f)) (λ k. true) false (a .o) lines noLine count lines-length (loop .i) (c .before .before .loop-test .taken)
-          (sym (c .before .is-missing .ensures f s) ∙ c .if1 .left)) ∙ loop .inv .0 f s),
-      omega arith,
-    )
+    λ f s.
+    left-on _ _ _ _ _ _ _ _ (c .before .before .before .before .lines-of .ensures) (c .before .before .before .loop .inv f s) (c .before .before .loop-test .taken) (sym (c .before .is-missing .ensures f s) ∙ c .if1 .left)
 
 returns-2 : tie.Need-returns-2 Inv-loop μ-loop
 returns-2 c =
     λ f s.
-    let a = c .before .before .before .before .args in
-    sym (sym (c .before .loop .inv .0 f s) ∙ first-end (missed (membersOf (now (a .text)) f)) (λ k. true) false (a .o) lines noLine count lines-length (c .before .loop .i) (c .loop-test .left))
+    let a = c .before .before .before .before .before .before .before .args in
+    left-end _ _ _ _ _ _ _ _ (c .before .before .lines-of .ensures) (c .before .loop .inv f s) (c .loop-test .left) ∙ lacking-first (membersOf (now (a .text)) f) (properties (a .object .of))
 
 pub is-lacking-spec : {M : Type 1} → statement M
-is-lacking-spec =
-    tie.close
-    (tie.spec
-    Inv-loop
-    μ-loop
-    loop-holds
-    is-missing-requires
-    returns
-    add-i
-    loop-less
-    loop-again
-    returns-2)
+is-lacking-spec = tie.close (tie.spec Inv-loop μ-loop lines-of-requires loop-holds is-missing-requires returns (λ c. search needs) (λ c. search needs) loop-again returns-2)

@@ -1,50 +1,45 @@
--- `card::schema::is_missing` meets its contract. Assumes nothing.
-use mathlib.Core.Path.{ap}
-use borrow.Author.Needs.{needs}
-use borrow.Author.Tests.{not-true, not-false}
+-- `card::schema::is_missing` meets its contract, by the property's number and its name. Assumes nothing.
+use Prim.Native.Nat.{_/_, _%_}
+use mathlib.Core.Path.{ap, _∙_}
 use mathlib.Core.Bool.{not}
+use native.Mathlib.Omega.{arith}
+use denote.Ref.{now}
+use lib.ListN.{getD}
+use borrow.Author.Tests.{eq-eqb, ne-eqb}
+use Rattle.text.specs.Doc.{Name, membersOf, seek, isThere}
+use Rattle.card.proofs.Known.Columns.{lent-spelled, lent-short, lent-length}
 use Rattle.card.proofs.schema.is_missing.Statement.{statement}
 use Rattle.card.proofs.schema.is_missing.Tie as tie
 
-is-owned-requires : tie.Need-is-owned-requires
-is-owned-requires c κs = search needs
+mul-number : tie.Need-mul-number
+mul-number c = omega (arith, c .before .before .before .before .pre .0 .numbers-are .long, c .before .before .before .before .pre .1 .0)
+
+shared-slice-read-number : tie.Need-shared-slice-read-number
+shared-slice-read-number c = omega (arith, c .before .before .before .before .before .pre .0 .numbers-are .long, c .before .before .before .before .before .pre .1 .0)
 
 returns : tie.Need-returns
-returns c = λ f s. rw (← c .before .is-owned .ensures, not-true (c .before .is-owned .result) (c .if1 .taken))
+returns c =
+    λ f s.
+    let a = c .before .before .before .before .before .before .args in
+    let p = c .before .before .before .before .before .before .pre in
+    rw (← p .0 .numbers-are .code (a .i) (p .1 .0) .must, ne-eqb (getD (now (a .numbers)) (a .i) 0 / 32768 % 2) 1 (c .if1 .taken))
 
-is-needed-requires : tie.Need-is-needed-requires
-is-needed-requires c κs = search needs
+cast-size : tie.Need-cast-size
+cast-size c = omega (arith, lent-short (c .before .before .before .before .before .before .pre .0) (c .before .before .before .before .before .before .args .i) (c .before .before .before .before .before .before .pre .1 .0))
+
+sized-word-requires : tie.Need-sized-word-requires
+sized-word-requires c κs = omega (arith, lent-length (c .before .before .before .before .before .before .pre .0), c .before .before .before .before .before .before .pre .1 .0, lent-short (c .before .before .before .before .before .before .pre .0) (c .before .before .before .before .before .before .args .i) (c .before .before .before .before .before .before .pre .1 .0))
+
+has-requires : tie.Need-has-requires
+has-requires c κs = c .before .before .before .before .before .before .before .pre .1 .1
 
 returns-2 : tie.Need-returns-2
 returns-2 c =
     λ f s.
-    let is-owned = c .before .before .before .is-owned in
-    rw (
-      ← is-owned .ensures,
-      not-false (is-owned .result) (c .before .before .if1 .left),
-      ← c .before .is-needed .ensures,
-      not-true (c .before .is-needed .result) (c .if2 .taken),
-    )
-
-has-property-requires : tie.Need-has-property-requires
-has-property-requires c κs = c .before .before .before .before .before .before .pre
-
-returns-3 : tie.Need-returns-3
-returns-3 c =
-    λ f s.
-    let is-owned = c .before .before .before .before .is-owned in
-    let if1 = c .before .before .before .if1 in
-    let is-needed = c .before .before .is-needed in
-    rw (← is-owned .ensures, not-false (is-owned .result) (if1 .left), ← is-needed .ensures, not-false (is-needed .result) (c .before .if2 .left))
-    (ap not (c .has-property .ensures f s))
+    let a = c .before .before .before .before .before .before .before .before .args in
+    let p = c .before .before .before .before .before .before .before .before .pre in
+    rw (← p .0 .numbers-are .code (a .i) (p .1 .0) .must, eq-eqb (getD (now (a .numbers)) (a .i) 0 / 32768 % 2) 1 (c .before .before .if1 .left))
+    (ap not (c .has .ensures f s ∙ ap (λ (n : Name). isThere (seek n (membersOf (now (a .text)) f))) (c .before .sized-word .ensures ∙ lent-spelled (p .0) (a .i) (p .1 .0))))
 
 pub is-missing-spec : {M : Type 1} → statement M
-is-missing-spec =
-    tie.close
-    (tie.spec
-    is-owned-requires
-    returns
-    is-needed-requires
-    returns-2
-    has-property-requires
-    returns-3)
+is-missing-spec = tie.close (tie.spec mul-number shared-slice-read-number returns cast-size sized-word-requires has-requires returns-2)

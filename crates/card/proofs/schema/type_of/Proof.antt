@@ -5,9 +5,6 @@ use Rattle.card.specs.Types.{typeAt}
 use Rattle.card.proofs.schema.type_of.Statement.{statement}
 use Rattle.card.proofs.schema.type_of.Tie as tie
 
-item-of-requires : tie.Need-item-of-requires
-item-of-requires c κs = search needs
-
 returns : tie.Need-returns
 unfolding typeAt
 returns c = rw (← c .before .item-of .ensures, c .match .keys1)
@@ -25,4 +22,4 @@ unfolding typeAt
 returns-4 c = rw (← c .before .item-of .ensures) (search picks)
 
 pub type-of-spec : {M : Type 1} → statement M
-type-of-spec = tie.close (tie.spec item-of-requires returns returns-2 returns-3 returns-4)
+type-of-spec = tie.close (tie.spec (λ c κs. search needs) returns returns-2 returns-3 returns-4)

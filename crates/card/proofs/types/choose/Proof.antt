@@ -3,30 +3,18 @@ use borrow.Author.Needs.{needs}
 use denote.Ref.{now}
 use Rattle.text.specs.Doc.{docOf}
 use Rattle.card.specs.Types.{typeOf}
-use Rattle.card.proofs.Roles.{itself-chosen}
+use Rattle.card.proofs.Judging.Roles.{itself-chosen}
 use Rattle.card.proofs.types.choose.Statement.{statement}
 use Rattle.card.proofs.types.choose.Tie as tie
 
-role-of-requires : tie.Need-role-of-requires
-role-of-requires c κs = search needs
-
-enum-told : tie.Need-enum-told
-enum-told c = search needs
-
-enum-known-usual : tie.Need-enum-known-usual
-enum-known-usual c = search needs
-
 is-of-requires : tie.Need-is-of-requires
-is-of-requires c κs = c .before .before .before .before .before .before .pre
+is-of-requires c κs = c .before .before .before .before .before .before .before .pre
 
 returns : tie.Need-returns
 returns c =
     λ f v.
     let is = rw (c .before .before .before .usual .given .1) at (c .before .before .before .before .before .role-of .ensures) in
     rw (is, ← c .before .is-of .ensures f v, c .if1 .taken)
-
-enum-told-2 : tie.Need-enum-told-2
-enum-told-2 c = search needs
 
 returns-2 : tie.Need-returns-2
 returns-2 c = λ f v. let is = rw (c .enum-told .given .1) at (c .before .before .role-of .ensures) in rw is
@@ -40,9 +28,9 @@ returns-3 c =
 returns-4 : tie.Need-returns-4
 returns-4 c =
     λ f v.
-    let a = c .before .before .before .before .before .args in
+    let a = c .before .before .before .before .before .before .args in
     itself-chosen (typeOf (a .ty)) (docOf (now (a .text)) f) (rw (c .enum-told2 .given .1) at (c .before .before .role-of .ensures))
 
 pub choose-spec : {M : Type 1} → statement M
 choose-spec =
-    tie.close (tie.spec role-of-requires enum-told enum-known-usual is-of-requires returns enum-told-2 returns-2 returns-3 returns-4)
+    tie.close (tie.spec (λ c κs. search needs) (λ c. search needs) (λ c. search needs) is-of-requires returns (λ c. search needs) returns-2 returns-3 returns-4)

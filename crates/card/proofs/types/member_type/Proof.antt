@@ -1,6 +1,5 @@
 -- `card::types::member_type` meets its contract. Assumes nothing.
 use mathlib.Core.Path.{ap, _∙_}
-use borrow.Author.Needs.{needs}
 use denote.Ref.{now}
 use Rattle.text.specs.Doc.{docOf}
 use Rattle.contact.specs.Schema as S
@@ -9,15 +8,15 @@ use Rattle.card.proofs.types.member_type.Statement.{statement}
 use Rattle.card.proofs.types.member_type.Tie as tie
 
 type-below-requires : tie.Need-type-below-requires
-type-below-requires c κs = search needs
+type-below-requires c κs = c .before .before .before .before .pre .0
 
 choose-requires : tie.Need-choose-requires
-choose-requires c κs = c .before .before .before .pre
+choose-requires c κs = let p = c .before .before .before .before .before .pre in (p .0 .words-are, p .1)
 
 returns : tie.Need-returns
 returns c =
     λ f v.
-    let a = c .before .before .before .before .args in
+    let a = c .before .before .before .before .before .before .args in
     c .choose .ensures f v ∙ ap (λ (t : S.Ty). chosen t (docOf (now (a .text)) f)) (c .before .type-below .ensures)
 
 pub member-type-spec : {M : Type 1} → statement M

@@ -4,27 +4,12 @@ use borrow.Author.Needs.{needs}
 use denote.Ref.{now}
 use Rattle.text.specs.Strings.{nameOf}
 use Rattle.card.specs.Types.{typeOf}
-use Rattle.card.proofs.Roles.{member-other}
+use Rattle.card.proofs.Judging.Roles.{member-other}
 use Rattle.card.proofs.types.type_below.Statement.{statement}
 use Rattle.card.proofs.types.type_below.Tie as tie
 
-role-of-requires : tie.Need-role-of-requires
-role-of-requires c κs = search needs
-
-enum-known-o : tie.Need-enum-known-o
-enum-known-o c = search needs
-
 type-in-requires : tie.Need-type-in-requires
-type-in-requires c κs = search needs
-
-enum-told : tie.Need-enum-told
-enum-told c = search needs
-
-enum-told-2 : tie.Need-enum-told-2
-enum-told-2 c = search needs
-
-inner-requires : tie.Need-inner-requires
-inner-requires c κs = search needs
+type-in-requires c κs = c .before .before .before .before .before .before .before .pre
 
 returns : tie.Need-returns
 returns c =
@@ -36,7 +21,7 @@ returns-2 c = let is = rw (c .enum-told .given .1) at (c .before .before .role-o
 
 returns-3 : tie.Need-returns-3
 returns-3 c =
-    let x = c .before .before .before .before .before .args in
+    let x = c .before .before .before .before .before .before .before .args in
     let is = rw (c .before .enum-told2 .given .1) at (c .before .before .before .role-of .ensures) in
     c .inner .ensures ∙ member-other (typeOf (x .ty)) (nameOf (now (x .text)) (x .s) (x .e)) is
 
@@ -44,12 +29,12 @@ pub type-below-spec : {M : Type 1} → statement M
 type-below-spec =
     tie.close
     (tie.spec
-    role-of-requires
-    enum-known-o
+    (λ c κs. search needs)
+    (λ c. search needs)
     type-in-requires
-    enum-told
-    enum-told-2
-    inner-requires
+    (λ c. search needs)
+    (λ c. search needs)
+    (λ c κs. search needs)
     returns
     returns-2
     returns-3)

@@ -9,7 +9,7 @@ use lib.ListN.{length, getD, drop, drop-of-length-le}
 use borrow.Author.Tests.{not-true, not-false}
 use Rattle.laws.proofs.Picks.{picks}
 use Rattle.contact.specs.Values.{isCount}
-use Rattle.card.proofs.Counts.{digit-range, digits-from, countAfter, count-start, count-end, count-on, count-other, count-over}
+use Rattle.card.proofs.Judging.Counts.{digit-range, digits-from, countAfter, count-start, count-end, count-on, count-other, count-over}
 use Rattle.card.proofs.values.is_count.Statement.{statement}
 use Rattle.card.proofs.values.is_count.Tie as tie
 
@@ -22,12 +22,6 @@ abbrev μ-loop : tie.MeasureT-loop
 loop-holds : tie.Need-loop-holds Inv-loop μ-loop
 loop-holds c = (sym (count-start _ _ _), omega arith, omega arith)
 
-shared-slice-read-b : tie.Need-shared-slice-read-b Inv-loop μ-loop
-shared-slice-read-b c = search needs
-
-is-digit-requires : tie.Need-is-digit-requires Inv-loop μ-loop
-is-digit-requires c κs = search needs
-
 returns : tie.Need-returns Inv-loop μ-loop
 returns c =
     let a = c .before .before .before .before .before .before .args in
@@ -37,9 +31,6 @@ returns c =
     let i = loop .i in
     sym (sym (loop .inv .0) ∙ ap (countAfter (a .low) (a .high) (loop .value)) (digits-from t i (loop-test .taken))
     ∙ count-other _ _ _ _ _ (sym (c .before .is-digit .ensures) ∙ not-true _ (c .if1 .taken)))
-
-mul-value : tie.Need-mul-value Inv-loop μ-loop
-mul-value c = search needs
 
 sub-value : tie.Need-sub-value Inv-loop μ-loop
 sub-value c =
@@ -68,12 +59,6 @@ returns-2 c =
     let i = loop .i in
     sym (sym (loop .inv .0) ∙ ap (countAfter (a .low) (a .high) (loop .value)) (digits-from t i (loop-test .taken))
     ∙ count-on _ _ _ _ _ (sym (c .before .before .is-digit .ensures) ∙ not-false _ (c .before .if1 .left)) ∙ count-over _ _ _ _ (c .if2 .taken))
-
-add-i : tie.Need-add-i Inv-loop μ-loop
-add-i c = search needs
-
-loop-less : tie.Need-loop-less Inv-loop μ-loop
-loop-less c = search needs
 
 loop-again : tie.Need-loop-again Inv-loop μ-loop
 loop-again c =
@@ -109,16 +94,16 @@ is-count-spec =
     Inv-loop
     μ-loop
     loop-holds
-    shared-slice-read-b
-    is-digit-requires
+    (λ c. search needs)
+    (λ c κs. search needs)
     returns
-    mul-value
+    (λ c. search needs)
     sub-value
     cast-value
     add-value
     returns-2
-    add-i
-    loop-less
+    (λ c. search needs)
+    (λ c. search needs)
     loop-again
     returns-3
     returns-4)

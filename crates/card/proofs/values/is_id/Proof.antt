@@ -11,8 +11,8 @@ use Rattle.text.specs.Strings.{decode}
 use Rattle.text.specs.Utf8.{conts}
 use Rattle.json.specs.Cursors.{rest}
 use Rattle.contact.specs.Values.{isId}
-use Rattle.card.proofs.Cursors.{byte-left, none-left}
-use Rattle.card.proofs.Ids.{idAfter, id-start, id-end, id-on, id-other, id-long}
+use Rattle.json.proofs.Unread.{byte-left, none-left}
+use Rattle.card.proofs.Judging.Ids.{idAfter, id-start, id-end, id-on, id-other, id-long}
 use Rattle.card.proofs.values.is_id.Statement.{statement}
 use Rattle.card.proofs.values.is_id.Tie as tie
 
@@ -22,18 +22,9 @@ Inv-loop name at₀ passed₀ at passed = (idAfter passed (rest name at) ≡ isI
 abbrev μ-loop : tie.MeasureT-loop
 μ-loop name at₀ passed₀ at passed = length (rest name at)
 
-start-requires : tie.Need-start-requires Inv-loop μ-loop
-start-requires c κs = search needs
-
 loop-holds : tie.Need-loop-holds Inv-loop μ-loop
 unfolding conts
 loop-holds c = (rw (c .start .ensures) (sym (id-start _)), omega arith)
-
-next-byte-requires : tie.Need-next-byte-requires Inv-loop μ-loop
-next-byte-requires c κs = search needs
-
-enum-told : tie.Need-enum-told Inv-loop μ-loop
-enum-told c = search needs
 
 returns : tie.Need-returns Inv-loop μ-loop
 returns c =
@@ -41,9 +32,6 @@ returns c =
     let loop = c .before .before .before .loop in
     rw (← loop .inv .0, none-left (now (a .name)) (loop .at) (c .before .before .next-byte .ensures .0) (c .enum-told .given .1))
     (sym (id-end (loop .passed) (loop .inv .1)))
-
-enum-known-b : tie.Need-enum-known-b Inv-loop μ-loop
-enum-known-b c = search needs
 
 returns-2 : tie.Need-returns-2 Inv-loop μ-loop
 returns-2 c =
@@ -54,9 +42,6 @@ returns-2 c =
     rw (← loop .inv .0, byte-left (now (a .name)) (loop .at) (next-byte .ensures .0) (b .given .1))
     (sym (id-long (loop .passed) (b .given .0 .0) _ (c .if1 .taken)))
 
-id-byte-requires : tie.Need-id-byte-requires Inv-loop μ-loop
-id-byte-requires c κs = search needs
-
 returns-3 : tie.Need-returns-3 Inv-loop μ-loop
 returns-3 c =
     let a = c .before .before .before .before .before .before .before .before .before .before .args in
@@ -65,9 +50,6 @@ returns-3 c =
     let b = c .before .before .before .before .b in
     rw (← loop .inv .0, byte-left (now (a .name)) (loop .at) (next-byte .ensures .0) (b .given .1))
     (sym (id-other (loop .passed) (b .given .0 .0) _ (sym (c .before .id-byte .ensures) ∙ not-true _ (c .if2 .taken))))
-
-add-passed : tie.Need-add-passed Inv-loop μ-loop
-add-passed c = omega arith
 
 loop-less : tie.Need-loop-less Inv-loop μ-loop
 loop-less c =
@@ -95,15 +77,15 @@ is-id-spec =
     (tie.spec
     Inv-loop
     μ-loop
-    start-requires
+    (λ c κs. search needs)
     loop-holds
-    next-byte-requires
-    enum-told
+    (λ c κs. search needs)
+    (λ c. search needs)
     returns
-    enum-known-b
+    (λ c. search needs)
     returns-2
-    id-byte-requires
+    (λ c κs. search needs)
     returns-3
-    add-passed
+    (λ c. omega arith)
     loop-less
     loop-again)

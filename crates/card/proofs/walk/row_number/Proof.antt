@@ -8,69 +8,51 @@ use Rattle.text.proofs.Promise.{first-row, first-room, inside}
 use Rattle.contact.specs.Schema.{objectOf, byType, fits}
 use Rattle.card.specs.Types.{typeOf}
 use Rattle.laws.proofs.Picks.{granted, denied}
-use Rattle.card.proofs.WalkLaws.{row-unfit, row-object, row-value, row-choice}
+use Rattle.card.proofs.Judging.Walk.{row-unfit, row-object, row-value, row-choice}
 use borrow.Author.Needs.{needs}
 use Rattle.card.proofs.walk.row_number.Statement.{statement}
 use Rattle.card.proofs.walk.row_number.Tie as tie
 
-kind-requires : tie.Need-kind-requires
-kind-requires c κs = search needs
-
-kind-fits-requires : tie.Need-kind-fits-requires
-kind-fits-requires c κs = search needs
-
 returns : tie.Need-returns
 returns c =
     λ f v k.
-    let a = c .before .before .before .before .before .args in
+    let a = c .before .before .before .before .before .before .before .args in
     row-unfit (now (a .text)) f (v .some) (typeOf (a .ty)) (a .key)
     (sym (ap (fits (typeOf (a .ty))) (c .before .before .kind .ensures ∙ first-row f (v .some) (v .stands) .kind)) ∙ sym (c .before .kind-fits .ensures)
     ∙ denied (c .before .kind-fits .result) (c .if1 .taken))
 
-role-of-requires : tie.Need-role-of-requires
-role-of-requires c κs = search needs
-
-enum-known-o : tie.Need-enum-known-o
-enum-known-o c = search needs
-
 next-row-requires : tie.Need-next-row-requires
 next-row-requires c κs =
-    let p = c .before .before .before .before .before .before .before .before .before .pre in
+    let p = c .before .before .before .before .before .before .before .before .before .before .before .pre .1 in
     (p .0, p .1)
 
-add-object-number : tie.Need-add-object-number
-add-object-number c =
-    let (f, v) = c .before .before .before .before .before .before .before .before .before .before .pre in
+add-from : tie.Need-add-from
+add-from c =
+    let (f, v) = c .before .before .before .before .before .before .before .before .before .before .before .before .pre .1 in
     omega (arith, first-room f (v .some) (v .stands))
 
 object-number-requires : tie.Need-object-number-requires
 object-number-requires c κs =
-    let a = c .before .before .before .before .before .before .before .before .before .before .args in
-    let (f, v) = c .before .before .before .before .before .before .before .before .before .before .pre in
-    (insideAt f, (rw (c .next-row .ensures ∙ ap (λ m. a .row + 1 + m) (first-row f (v .some) (v .stands) .below)) (inside f (v .some) (v .stands))))
-
-enum-told : tie.Need-enum-told
-enum-told c = search needs
+    let a = c .before .before .before .before .before .before .before .before .before .before .before .before .args in
+    let (f, v) = c .before .before .before .before .before .before .before .before .before .before .before .before .pre .1 in
+    (c .before .before .before .before .before .before .before .before .before .before .before .before .pre .0, (insideAt f, (rw (c .next-row .ensures ∙ ap (λ m. a .row + 1 + m) (first-row f (v .some) (v .stands) .below)) (inside f (v .some) (v .stands)))))
 
 value-number-requires : tie.Need-value-number-requires
-value-number-requires c κs = search needs
-
-enum-told-2 : tie.Need-enum-told-2
-enum-told-2 c = search needs
+value-number-requires c κs = c .before .before .before .before .before .before .before .before .before .before .pre .0 .words-are
 
 value-number-requires-2 : tie.Need-value-number-requires-2
-value-number-requires-2 c κs = search needs
+value-number-requires-2 c κs = c .before .before .before .before .before .before .before .before .before .before .pre .0 .words-are
 
 returns-2 : tie.Need-returns-2
 returns-2 c =
     λ f v k.
-    let a = c .before .before .before .before .before .before .before .before .before .before .before .args in
+    let a = c .before .before .before .before .before .before .before .before .before .before .before .before .before .args in
     let kind = c .before .before .before .before .before .before .before .before .kind in
     let kind-fits = c .before .before .before .before .before .before .before .kind-fits in
     let if1 = c .before .before .before .before .before .before .if1 in
     let role-of = c .before .before .before .before .before .role-of in
     let o = c .before .before .before .o in
-    let ty : typeOf (c .before .before .before .before .before .before .before .before .before .before .before .args .ty) ≡ objectOf
+    let ty : typeOf (c .before .before .before .before .before .before .before .before .before .before .before .before .before .args .ty) ≡ objectOf
     (c .before .before .before .o .given .0 .0) = rw (o .given .1) at (role-of .ensures) in
     rw ty
     (c .object-number .ensures (insideAt f)
@@ -82,12 +64,12 @@ returns-2 c =
 returns-3 : tie.Need-returns-3
 returns-3 c =
     λ f v k.
-    let a = c .before .before .before .before .before .before .before .before .before .args in
+    let a = c .before .before .before .before .before .before .before .before .before .before .before .args in
     let kind = c .before .before .before .before .before .before .kind in
     let kind-fits = c .before .before .before .before .before .kind-fits in
     let if1 = c .before .before .before .before .if1 in
     let given = c .before .enum-told .given in
-    let ty : typeOf (c .before .before .before .before .before .before .before .before .before .args .ty) ≡ byType
+    let ty : typeOf (c .before .before .before .before .before .before .before .before .before .before .before .args .ty) ≡ byType
     (c .before .enum-told .given .0 .0) (c .before .enum-told .given .0 .1 .0) = rw (given .1) at (c .before .before .before .role-of .ensures) in
     c .value-number .ensures f v k ∙ rw ty (row-choice (now (a .text)) f (v .some) (given .0 .0) (given .0 .1 .0) (a .key)
     (rw ty at (sym (ap (fits (typeOf (a .ty))) (kind .ensures ∙ first-row f (v .some) (v .stands) .kind)) ∙ sym (kind-fits .ensures)
@@ -96,7 +78,7 @@ returns-3 c =
 returns-4 : tie.Need-returns-4
 returns-4 c =
     λ f v k.
-    let a = c .before .before .before .before .before .before .before .before .before .args in
+    let a = c .before .before .before .before .before .before .before .before .before .before .before .args in
     let kind = c .before .before .before .before .before .before .kind in
     let kind-fits = c .before .before .before .before .before .kind-fits in
     let if1 = c .before .before .before .before .if1 in
@@ -110,17 +92,17 @@ pub row-number-spec : {M : Type 1} → statement M
 row-number-spec =
     tie.close
     (tie.spec
-    kind-requires
-    kind-fits-requires
+    (λ c κs. search needs)
+    (λ c κs. search needs)
     returns
-    role-of-requires
-    enum-known-o
+    (λ c κs. search needs)
+    (λ c. search needs)
     next-row-requires
-    add-object-number
+    add-from
     object-number-requires
-    enum-told
+    (λ c. search needs)
     value-number-requires
-    enum-told-2
+    (λ c. search needs)
     value-number-requires-2
     returns-2
     returns-3

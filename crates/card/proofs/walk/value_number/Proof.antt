@@ -14,27 +14,18 @@ use Rattle.card.proofs.walk.value_number.Tie as tie
 
 returns : tie.Need-returns
 unfolding valueNumber
-returns c = λ f v k. rw (denied (c .before .before .before .args .key) (c .if1 .taken))
-
-value-start-requires : tie.Need-value-start-requires
-value-start-requires c κs = search needs
-
-value-end-requires : tie.Need-value-end-requires
-value-end-requires c κs = search needs
-
-kind-requires : tie.Need-kind-requires
-kind-requires c κs = search needs
+returns c = λ f v k. rw (denied (c .before .before .before .before .args .key) (c .if1 .taken))
 
 allows-requires : tie.Need-allows-requires
-allows-requires c κs = search needs
+allows-requires c κs = c .before .before .before .before .before .before .before .pre
 
 -- the number, by what the value's row was asked
 asked : (c : tie.After-allows) {b : Bool} → c .allows .result ≡ b → (f : Forest)
-    → let a = c .before .before .before .before .before .before .before .args in ValueAt (now (a .table)) (a .row) f
+    → let a = c .before .before .before .before .before .before .before .before .args in ValueAt (now (a .table)) (a .row) f
     → cond b 0 13 ≡ valueNumber (typeOf (a .ty)) (a .key) (now (a .text)) f
 unfolding valueNumber
 asked c e f v =
-    let a = c .before .before .before .before .before .before .before .args in
+    let a = c .before .before .before .before .before .before .before .before .args in
     let r = first-row f (v .some) (v .stands) in
     rw (
       granted (a .key) (c .before .before .before .before .if1 .left),
@@ -59,9 +50,9 @@ value-number-spec =
     tie.close
     (tie.spec
     returns
-    value-start-requires
-    value-end-requires
-    kind-requires
+    (λ c κs. search needs)
+    (λ c κs. search needs)
+    (λ c κs. search needs)
     allows-requires
     returns-2
     returns-3)

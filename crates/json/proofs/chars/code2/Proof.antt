@@ -9,15 +9,6 @@ returns : tie.Need-returns
 unfolding seq2
 returns c = search picks
 
-cast-code : tie.Need-cast-code
-cast-code c = search needs
-
-mul-code : tie.Need-mul-code
-mul-code c = search needs
-
-add-code : tie.Need-add-code
-add-code c = search needs
-
 returns-2 : tie.Need-returns-2
 unfolding seq2
 returns-2 c = search picks
@@ -27,4 +18,4 @@ unfolding seq2
 returns-3 c = search picks
 
 pub code2-spec : {M : Type 1} → statement M
-code2-spec = tie.close (tie.spec returns cast-code mul-code add-code returns-2 returns-3)
+code2-spec = tie.close (tie.spec returns (λ c. search needs) (λ c. search needs) (λ c. search needs) returns-2 returns-3)

@@ -13,21 +13,6 @@ returns-2 : tie.Need-returns-2
 unfolding seq3
 returns-2 c = search picks
 
-cast-code : tie.Need-cast-code
-cast-code c = search needs
-
-mul-code : tie.Need-mul-code
-mul-code c = search needs
-
-mul-code-2 : tie.Need-mul-code-2
-mul-code-2 c = search needs
-
-add-code : tie.Need-add-code
-add-code c = search needs
-
-add-code-2 : tie.Need-add-code-2
-add-code-2 c = search needs
-
 returns-3 : tie.Need-returns-3
 unfolding seq3
 returns-3 c = search picks
@@ -39,13 +24,5 @@ returns-4 c = search picks
 pub code3-spec : {M : Type 1} → statement M
 code3-spec =
     tie.close
-    (tie.spec
-    returns
-    returns-2
-    cast-code
-    mul-code
-    mul-code-2
-    add-code
-    add-code-2
-    returns-3
+    (tie.spec returns returns-2 (λ c. search needs) (λ c. search needs) (λ c. search needs) (λ c. search needs) (λ c. search needs) returns-3
     returns-4)

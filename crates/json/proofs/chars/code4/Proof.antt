@@ -17,27 +17,6 @@ returns-3 : tie.Need-returns-3
 unfolding seq4
 returns-3 c = search picks
 
-cast-code : tie.Need-cast-code
-cast-code c = search needs
-
-mul-code : tie.Need-mul-code
-mul-code c = search needs
-
-mul-code-2 : tie.Need-mul-code-2
-mul-code-2 c = search needs
-
-add-code : tie.Need-add-code
-add-code c = search needs
-
-mul-code-3 : tie.Need-mul-code-3
-mul-code-3 c = search needs
-
-add-code-2 : tie.Need-add-code-2
-add-code-2 c = search needs
-
-add-code-3 : tie.Need-add-code-3
-add-code-3 c = search needs
-
 returns-4 : tie.Need-returns-4
 unfolding seq4
 returns-4 c = search picks
@@ -49,16 +28,5 @@ returns-5 c = search picks
 pub code4-spec : {M : Type 1} → statement M
 code4-spec =
     tie.close
-    (tie.spec
-    returns
-    returns-2
-    returns-3
-    cast-code
-    mul-code
-    mul-code-2
-    add-code
-    mul-code-3
-    add-code-2
-    add-code-3
-    returns-4
-    returns-5)
+    (tie.spec returns returns-2 returns-3 (λ c. search needs) (λ c. search needs) (λ c. search needs) (λ c. search needs) (λ c. search needs)
+    (λ c. search needs) (λ c. search needs) returns-4 returns-5)

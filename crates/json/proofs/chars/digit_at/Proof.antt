@@ -4,15 +4,9 @@ use Rattle.text.specs.Chars.{digitAt}
 use Rattle.json.proofs.chars.digit_at.Statement.{statement}
 use Rattle.json.proofs.chars.digit_at.Tie as tie
 
-peek-requires : tie.Need-peek-requires
-peek-requires c κs = search needs
-
-digit-requires : tie.Need-digit-requires
-digit-requires c κs = search needs
-
 returns : tie.Need-returns
 unfolding digitAt
 returns c = cc
 
 pub digit-at-spec : {M : Type 1} → statement M
-digit-at-spec = tie.close (tie.spec peek-requires digit-requires returns)
+digit-at-spec = tie.close (tie.spec (λ c κs. search needs) (λ c κs. search needs) returns)

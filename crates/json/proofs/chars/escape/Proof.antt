@@ -6,27 +6,6 @@ use Rattle.laws.proofs.Picks.{picks}
 use Rattle.json.proofs.chars.escape.Statement.{statement}
 use Rattle.json.proofs.chars.escape.Tie as tie
 
-add-peek : tie.Need-add-peek
-add-peek c = search needs
-
-peek-requires : tie.Need-peek-requires
-peek-requires c κs = search needs
-
-add-hex4 : tie.Need-add-hex4
-add-hex4 c = search needs
-
-hex4-requires : tie.Need-hex4-requires
-hex4-requires c κs = search needs
-
-enum-known-u : tie.Need-enum-known-u
-enum-known-u c = search needs
-
-unit-requires : tie.Need-unit-requires
-unit-requires c κs = search needs
-
-enum-known-p : tie.Need-enum-known-p
-enum-known-p c = search needs
-
 returns : tie.Need-returns
 unfolding escapeAt onHex
 returns c =
@@ -48,12 +27,6 @@ returns-2 c =
     )
     (search picks)
 
-letter-requires : tie.Need-letter-requires
-letter-requires c κs = search needs
-
-add-t12 : tie.Need-add-t12
-add-t12 c = search needs
-
 returns-3 : tie.Need-returns-3
 unfolding escapeAt onHex
 returns-3 c = rw (← c .before .before .before .peek .ensures .0, ← c .before .letter .ensures) (search picks)
@@ -65,17 +38,5 @@ returns-4 c = rw (← c .before .before .before .peek .ensures .0, ← c .before
 pub escape-spec : {M : Type 1} → statement M
 escape-spec =
     tie.close
-    (tie.spec
-    add-peek
-    peek-requires
-    add-hex4
-    hex4-requires
-    enum-known-u
-    unit-requires
-    enum-known-p
-    returns
-    returns-2
-    letter-requires
-    add-t12
-    returns-3
-    returns-4)
+    (tie.spec (λ c. search needs) (λ c κs. search needs) (λ c. search needs) (λ c κs. search needs) (λ c. search needs) (λ c κs. search needs)
+    (λ c. search needs) returns returns-2 (λ c κs. search needs) (λ c. search needs) returns-3 returns-4)

@@ -9,9 +9,6 @@ use Rattle.laws.proofs.Places.{inside}
 use Rattle.json.proofs.chars.step_at.Statement.{statement}
 use Rattle.json.proofs.chars.step_at.Tie as tie
 
-peek-requires : tie.Need-peek-requires
-peek-requires c κs = search needs
-
 returns : tie.Need-returns
 unfolding stepBy
 returns c = rw (← c .before .peek .ensures .0) (search picks)
@@ -26,9 +23,6 @@ returns-2 c = rw (← c .before .before .before .peek .ensures .0, ← c .escape
 returns-3 : tie.Need-returns-3
 unfolding stepBy
 returns-3 c = rw (← c .before .before .before .peek .ensures .0) (search picks)
-
-cast-t5 : tie.Need-cast-t5
-cast-t5 c = search needs
 
 returns-4 : tie.Need-returns-4
 unfolding stepBy
@@ -48,14 +42,4 @@ returns-6 c = rw (← c .before .before .before .before .before .peek .ensures .
 pub step-at-spec : {M : Type 1} → statement M
 step-at-spec =
     tie.close
-    (tie.spec
-    peek-requires
-    returns
-    escape-requires
-    returns-2
-    returns-3
-    cast-t5
-    returns-4
-    raw-requires
-    returns-5
-    returns-6)
+    (tie.spec (λ c κs. search needs) returns escape-requires returns-2 returns-3 (λ c. search needs) returns-4 raw-requires returns-5 returns-6)

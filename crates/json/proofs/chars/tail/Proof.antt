@@ -5,9 +5,6 @@ use Rattle.laws.proofs.Picks.{picks}
 use Rattle.json.proofs.chars.tail.Statement.{statement}
 use Rattle.json.proofs.chars.tail.Tie as tie
 
-cast-result : tie.Need-cast-result
-cast-result c = search needs
-
 returns : tie.Need-returns
 unfolding tailOf
 returns c = search picks
@@ -21,4 +18,4 @@ unfolding tailOf
 returns-3 c = search picks
 
 pub tail-spec : {M : Type 1} → statement M
-tail-spec = tie.close (tie.spec cast-result returns returns-2 returns-3)
+tail-spec = tie.close (tie.spec (λ c. search needs) returns returns-2 returns-3)

@@ -4,15 +4,9 @@ use Rattle.text.specs.Chars.{tailAt}
 use Rattle.json.proofs.chars.tail_at.Statement.{statement}
 use Rattle.json.proofs.chars.tail_at.Tie as tie
 
-peek-requires : tie.Need-peek-requires
-peek-requires c κs = search needs
-
-tail-requires : tie.Need-tail-requires
-tail-requires c κs = search needs
-
 returns : tie.Need-returns
 unfolding tailAt
 returns c = cc
 
 pub tail-at-spec : {M : Type 1} → statement M
-tail-at-spec = tie.close (tie.spec peek-requires tail-requires returns)
+tail-at-spec = tie.close (tie.spec (λ c κs. search needs) (λ c κs. search needs) returns)

@@ -5,22 +5,13 @@ use Rattle.laws.proofs.Picks.{picks}
 use Rattle.json.proofs.chars.unit.Statement.{statement}
 use Rattle.json.proofs.chars.unit.Tie as tie
 
-checked-requires : tie.Need-checked-requires
-checked-requires c κs = search needs
-
 returns : tie.Need-returns
 unfolding unitAt
 returns c = search picks
 
-pair-requires : tie.Need-pair-requires
-pair-requires c κs = search needs
-
 returns-2 : tie.Need-returns-2
 unfolding unitAt
 returns-2 c = search picks
-
-checked-requires-2 : tie.Need-checked-requires-2
-checked-requires-2 c κs = search needs
 
 returns-3 : tie.Need-returns-3
 unfolding unitAt
@@ -29,4 +20,4 @@ returns-3 c = search picks
 pub unit-spec : {M : Type 1} → statement M
 unit-spec =
     tie.close
-    (tie.spec checked-requires returns pair-requires returns-2 checked-requires-2 returns-3)
+    (tie.spec (λ c κs. search needs) returns (λ c κs. search needs) returns-2 (λ c κs. search needs) returns-3)

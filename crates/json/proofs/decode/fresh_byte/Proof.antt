@@ -17,9 +17,6 @@ use Rattle.text.proofs.Walks.{decode-step, escape-char}
 use Rattle.json.proofs.decode.fresh_byte.Statement.{statement}
 use Rattle.json.proofs.decode.fresh_byte.Tie as tie
 
-peek-requires : tie.Need-peek-requires
-peek-requires c κs = search needs
-
 returns : tie.Need-returns
 unfolding pieceBy freshOf
 returns c = (
@@ -30,9 +27,6 @@ returns c = (
       (search picks),
   rw (← c .before .peek .ensures .0) (search picks),
 )
-
-cast-t7 : tie.Need-cast-t7
-cast-t7 c = search needs
 
 add-t8 : tie.Need-add-t8
 add-t8 c =
@@ -58,9 +52,6 @@ escape-requires c κs =
     let t = now (a .name) in
     inside t (a .at) (omega arith)
 
-enum-known-code : tie.Need-enum-known-code
-enum-known-code c = search needs
-
 add-first-byte : tie.Need-add-first-byte
 add-first-byte c =
     let a = c .before .before .before .before .before .before .before .before .args in
@@ -69,18 +60,6 @@ add-first-byte c =
     let n = escape-char t (a .at) s in
     let i : a .at < length t = inside t (a .at) (omega arith) in
     omega arith
-
-first-byte-requires : tie.Need-first-byte-requires
-first-byte-requires c κs = search needs
-
-enum-told : tie.Need-enum-told
-enum-told c = search needs
-
-enum-told-2 : tie.Need-enum-told-2
-enum-told-2 c = search needs
-
-enum-told-3 : tie.Need-enum-told-3
-enum-told-3 c = search needs
 
 returns-3 : tie.Need-returns-3
 unfolding pieceBy freshOf
@@ -137,20 +116,5 @@ returns-6 c = (
 pub fresh-byte-spec : {M : Type 1} → statement M
 fresh-byte-spec =
     tie.close
-    (tie.spec
-    peek-requires
-    returns
-    cast-t7
-    add-t8
-    returns-2
-    escape-requires
-    enum-known-code
-    add-first-byte
-    first-byte-requires
-    enum-told
-    enum-told-2
-    enum-told-3
-    returns-3
-    returns-4
-    returns-5
-    returns-6)
+    (tie.spec (λ c κs. search needs) returns (λ c. search needs) add-t8 returns-2 escape-requires (λ c. search needs) add-first-byte
+    (λ c κs. search needs) (λ c. search needs) (λ c. search needs) (λ c. search needs) returns-3 returns-4 returns-5 returns-6)

@@ -10,12 +10,6 @@ use Rattle.json.proofs.Ways.{colon-none, colon-there}
 use Rattle.json.proofs.members.colon.Statement.{statement}
 use Rattle.json.proofs.members.colon.Tie as tie
 
-skip-requires : tie.Need-skip-requires
-skip-requires c κs = search needs
-
-peek-requires : tie.Need-peek-requires
-peek-requires c κs = search needs
-
 returns : tie.Need-returns
 returns c =
     λ value at n. colon-none (c .before .before .before .before .args .text .now) value at (c .before .before .before .before .args .end) n
@@ -23,12 +17,6 @@ returns c =
 
 add-skip : tie.Need-add-skip
 add-skip c = let i = inside (c .before .before .before .before .args .text .now) (c .before .before .skip .result) (omega arith) in omega arith
-
-skip-requires-2 : tie.Need-skip-requires-2
-skip-requires-2 c κs = search needs
-
-sub-ne : tie.Need-sub-ne
-sub-ne c = search needs
 
 returns-2 : tie.Need-returns-2
 returns-2 c =
@@ -49,4 +37,4 @@ returns-2 c =
 pub colon-spec : {M : Type 1} → statement M
 colon-spec =
     tie.close
-    (tie.spec skip-requires peek-requires returns add-skip skip-requires-2 sub-ne returns-2)
+    (tie.spec (λ c κs. search needs) (λ c κs. search needs) returns add-skip (λ c κs. search needs) (λ c. search needs) returns-2)

@@ -45,15 +45,6 @@ loop-holds c =
     started (c .before .before .args .table .now) (c .before .before .args .first) (c .before .before .args .end)
     (named (c .before .before .args .text .now) (nameOf (c .before .before .args .text .now) (c .before .before .args .ns) (c .before .before .args .ne)))
 
-name-start-requires : tie.Need-name-start-requires Inv-loop μ-loop
-name-start-requires c κs = search needs
-
-name-end-requires : tie.Need-name-end-requires Inv-loop μ-loop
-name-end-requires c κs = search needs
-
-same-name-requires : tie.Need-same-name-requires Inv-loop μ-loop
-same-name-requires c κs = search needs
-
 returns : tie.Need-returns Inv-loop μ-loop
 returns c =
     let a = c .before .before .before .before .before .before .before .before .args in
@@ -64,9 +55,6 @@ returns c =
 
 add-row : tie.Need-add-row Inv-loop μ-loop
 add-row c = omega arith
-
-below-requires : tie.Need-below-requires Inv-loop μ-loop
-below-requires c κs = search needs
 
 add-row-2 : tie.Need-add-row-2 Inv-loop μ-loop
 add-row-2 c =
@@ -96,17 +84,5 @@ returns-2 c =
 pub named-spec : {M : Type 1} → statement M
 named-spec =
     tie.close
-    (tie.spec
-    Inv-loop
-    μ-loop
-    loop-holds
-    name-start-requires
-    name-end-requires
-    same-name-requires
-    returns
-    add-row
-    below-requires
-    add-row-2
-    loop-less
-    loop-again
-    returns-2)
+    (tie.spec Inv-loop μ-loop loop-holds (λ c κs. search needs) (λ c κs. search needs) (λ c κs. search needs) returns add-row (λ c κs. search needs)
+    add-row-2 loop-less loop-again returns-2)

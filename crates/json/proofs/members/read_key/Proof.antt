@@ -40,9 +40,6 @@ ended c =
     (c .before .before .before .before .before .before .before .args .at + 1) (c .to .given .0 .0)
     (sym (c .before .before .string-end .ensures) ∙ c .to .given .1)
 
-peek-requires : tie.Need-peek-requires
-peek-requires c κs = search needs
-
 returns : tie.Need-returns
 returns c =
     let a = c .before .before .before .before .args in
@@ -52,29 +49,8 @@ returns c =
           λ done s limit value n. member-none (upTo limit) (a .text .now) value done (a .at) n (λ q. c .if1 .taken (c .before .peek .ensures .0 ∙ q));
     }
 
-add-string-end : tie.Need-add-string-end
-add-string-end c = search needs
-
-string-end-requires : tie.Need-string-end-requires
-string-end-requires c κs = search needs
-
-enum-known-p : tie.Need-enum-known-p
-enum-known-p c = search needs
-
-enum-known-p-2 : tie.Need-enum-known-p-2
-enum-known-p-2 c = search needs
-
-enum-known-to : tie.Need-enum-known-to
-enum-known-to c = search needs
-
-add-named : tie.Need-add-named
-add-named c = search needs
-
 sub-named : tie.Need-sub-named
 sub-named c = omega (arith, ended (c .before))
-
-named-requires : tie.Need-named-requires
-named-requires c κs = search needs
 
 returns-2 : tie.Need-returns-2
 returns-2 c =
@@ -124,19 +100,5 @@ returns-5 c =
 pub read-key-spec : {M : Type 1} → statement M
 read-key-spec =
     tie.close
-    (tie.spec
-    peek-requires
-    returns
-    add-string-end
-    string-end-requires
-    enum-known-p
-    enum-known-p-2
-    enum-known-to
-    add-named
-    sub-named
-    named-requires
-    returns-2
-    colon-requires
-    returns-3
-    returns-4
-    returns-5)
+    (tie.spec (λ c κs. search needs) returns (λ c. search needs) (λ c κs. search needs) (λ c. search needs) (λ c. search needs) (λ c. search needs)
+    (λ c. search needs) sub-named (λ c κs. search needs) returns-2 colon-requires returns-3 returns-4 returns-5)

@@ -3,14 +3,8 @@ use borrow.Author.Needs.{needs}
 use Rattle.json.proofs.names.name_is.Statement.{statement}
 use Rattle.json.proofs.names.name_is.Tie as tie
 
-part-requires : tie.Need-part-requires
-part-requires c κs = search needs
-
-part-is-requires : tie.Need-part-is-requires
-part-is-requires c κs = search needs
-
 returns : tie.Need-returns
 returns c = rw (← c .before .part .ensures, ← c .part-is .ensures)
 
 pub name-is-spec : {M : Type 1} → statement M
-name-is-spec = tie.close (tie.spec part-requires part-is-requires returns)
+name-is-spec = tie.close (tie.spec (λ c κs. search needs) (λ c κs. search needs) returns)

@@ -5,18 +5,6 @@ use Rattle.laws.proofs.Picks.{picks}
 use Rattle.json.proofs.names.part.Statement.{statement}
 use Rattle.json.proofs.names.part.Tie as tie
 
-part-result-start : tie.Need-part-result-start
-part-result-start c = search needs
-
-part-result-end : tie.Need-part-result-end
-part-result-end c = search needs
-
-slice-aggregate-result : tie.Need-slice-aggregate-result
-slice-aggregate-result c = search needs
-
-slice-aggregate-result-2 : tie.Need-slice-aggregate-result-2
-slice-aggregate-result-2 c = search needs
-
 returns : tie.Need-returns
 unfolding partOf
 returns c = search picks
@@ -32,11 +20,4 @@ returns-3 c = search picks
 pub part-spec : {M : Type 1} → statement M
 part-spec =
     tie.close
-    (tie.spec
-    part-result-start
-    part-result-end
-    slice-aggregate-result
-    slice-aggregate-result-2
-    returns
-    returns-2
-    returns-3)
+    (tie.spec (λ c. search needs) (λ c. search needs) (λ c. search needs) (λ c. search needs) returns returns-2 returns-3)

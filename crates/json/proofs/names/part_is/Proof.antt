@@ -1,129 +1,23 @@
--- `json::names::part_is` meets its contract: what the cursor has left is the same as the rest of the literal just where the name is the
--- literal. The measure is the number of bytes that the cursor has left. Assumes nothing.
-use mathlib.Core.Path.{_≡_, refl, sym, ap}
-use Prim.Native.Nat.{ℕ, _≤_, _<_}
-use mathlib.Core.List.{List, []}
-use native.Mathlib.Decide.{decLe}
+-- `json::names::part_is` meets its contract: from the first difference on the string is decoded, or the bytes there decide (`literal-differs`).
+-- Assumes nothing.
+use mathlib.Core.Path.{_∙_}
 use native.Mathlib.Omega.{arith}
-use lib.ListN.{length, getD, drop, drop-of-length-le, List·getD-eq-default}
-use lib.Dec.{eqb}
-use borrow.Author.Tests.{ne-eqb}
-use denote.Ref.{now}
 use borrow.Author.Needs.{needs}
-use Rattle.text.specs.Strings.{decode}
-use Rattle.text.specs.Utf8.{conts}
-use Rattle.json.specs.Cursors.{rest}
-use Rattle.laws.specs.Order.{orderOf, same}
-use Rattle.laws.proofs.Places.{any-default, inside, drop-byte}
-use Rattle.json.proofs.Handed.{handed}
-use Rattle.laws.proofs.Orders.{agree, absent}
+use Rattle.json.proofs.Alike.{literal-differs}
 use Rattle.json.proofs.names.part_is.Statement.{statement}
 use Rattle.json.proofs.names.part_is.Tie as tie
 
-abbrev Inv-loop : tie.InvT-loop
-Inv-loop a lit x₀ i₀ x i = (same (rest a x) (drop i lit) ≡ same (decode a) lit) × (i ≤ length lit)
-
-abbrev μ-loop : tie.MeasureT-loop
-μ-loop a lit x₀ i₀ x i = length (rest a x)
-
-start-requires : tie.Need-start-requires Inv-loop μ-loop
-start-requires c κs = search needs
-
-loop-holds : tie.Need-loop-holds Inv-loop μ-loop
-unfolding conts
-loop-holds c = (rw (c .start .ensures) refl, search needs)
-
-peek-requires : tie.Need-peek-requires Inv-loop μ-loop
-peek-requires c κs = search needs
-
-next-byte-requires : tie.Need-next-byte-requires Inv-loop μ-loop
-next-byte-requires c κs = search needs
-
-enum-told : tie.Need-enum-told Inv-loop μ-loop
-enum-told c = search needs
-
--- where the name is over, the literal has to be
-over : (l : List ℕ) (i : ℕ) → getD l i 0 < 256 → eqb (getD l i 256) 256 ≡ same [] (drop i l)
-unfolding orderOf
-over l i small = elim (decLe (length l) i) [
-  | yes h ↦ rw (drop-of-length-le l h, List·getD-eq-default l 256 h)
-  | no h ↦
-      let k : i < length l = omega arith in
-      let b : getD l i 0 ≡ getD l i 256 = any-default 0 256 l i k in
-      rw (drop-byte l i k, ne-eqb (getD l i 256) 256 (omega arith))
-]
-
-returns : tie.Need-returns Inv-loop μ-loop
-returns c =
-    let l = now (c .before .before .before .before .before .before .before .before .args .lit) in
-    let i = c .before .before .before .before .loop .i in
-    let e : c .before .before .before .peek .result ≡ getD l i 256 = cc in
-    rw (
-      ← c .before .before .before .before .loop .inv .0,
-      ← c .before .before .next-byte .ensures .0,
-      c .enum-told .given .1,
-      e,
-    )
-    (over l i (omega (arith, c .before .before .before .before .before .before .shared-slice-known2 .given i)))
-
-enum-known-p : tie.Need-enum-known-p Inv-loop μ-loop
-enum-known-p c = search needs
-
-returns-2 : tie.Need-returns-2 Inv-loop μ-loop
+returns-2 : tie.Need-returns-2
 returns-2 c =
-    let l = now (c .before .before .before .before .before .before .before .before .before .before .args .lit) in
-    let i = c .before .before .before .before .before .before .loop .i in
-    let ne : (c .before .before .p .given .0 .0 ≡ getD l i 256 → ⊥) = omega arith in
-    rw (
-      ← c .before .before .before .before .before .before .loop .inv .0,
-      ← c .before .before .before .before .next-byte .ensures .0,
-      c .before .before .p .given .1,
-    )
-    (sym (absent l i _ _ ne))
-
-add-i : tie.Need-add-i Inv-loop μ-loop
-add-i c =
-    let l = now (c .before .before .before .before .before .before .before .before .before .before .args .lit) in
-    let i = c .before .before .before .before .before .before .loop .i in
-    let h : i < length l = inside l i (omega arith) in
-    omega arith
-
-loop-less : tie.Need-loop-less Inv-loop μ-loop
-loop-less c =
-    let a = now (c .before .before .before .before .before .before .before .before .before .before .args .a) in
-    let x = c .before .before .before .before .before .before .loop .x in
-    omega (arith, ap length (handed a x (c .before .before .before .before .next-byte .ensures .0) (c .before .before .p .given .1)))
-
-loop-again : tie.Need-loop-again Inv-loop μ-loop
-loop-again c =
-    let l = now (c .before .before .before .before .before .before .before .before .before .before .args .lit) in
-    let i = c .before .before .before .before .before .before .loop .i in
-    let h : i < length l = inside l i (omega arith) in (
-      rw (
-        ← c .before .before .before .before .before .before .loop .inv .0,
-        ← c .before .before .before .before .next-byte .ensures .0,
-        c .before .before .p .given .1,
-        drop-byte l i h,
-      )
-          (sym (agree _ _ _ _ (cc))),
-      omega arith,
-    )
+    let p = c .before .before in
+    let i = p .before in
+    let a = i .before .before .before .args in
+    rw (p .peek .ensures .0, c .peek2 .ensures .0)
+    (literal-differs (a .a .now) (a .lit .now) (i .alike .result) (i .alike .ensures) (λ z. c .before .if1 .left (p .peek .ensures .0 ∙ z))
+    (omega (arith, i .before .shared-slice-known2 .given (i .alike .result))))
 
 pub part-is-spec : {M : Type 1} → statement M
 part-is-spec =
     tie.close
-    (tie.spec
-    Inv-loop
-    μ-loop
-    start-requires
-    loop-holds
-    peek-requires
-    next-byte-requires
-    enum-told
-    returns
-    enum-known-p
-    (λ c. search needs)
-    returns-2
-    add-i
-    loop-less
-    loop-again)
+    (tie.spec (λ c κs. tt) (λ c κs. tt) (λ c κs. search needs)
+    (λ c. c .goes-on .ensures ∙ c .before .before .before .alike .ensures .common .literal) (λ c κs. tt) returns-2)

@@ -1,80 +1,33 @@
--- `json::read::read` meets its contract, from those of `clear_words` and `read_short`. Assumes nothing.
+-- `json::read::read` meets its contract: behind the rows that are used the table is cleared. Assumes nothing.
+use Prim.Native.Nat.{_*_, _≤_}
+use native.Mathlib.Omega.{arith}
 use lib.ListN.{length}
 use borrow.Author.Needs.{needs}
-use Rattle.text.specs.Limits.{base}
-use Rattle.text.specs.declared.Refusal.the-variants.{TooLong}
-use Rattle.text.proofs.Fewer.{long-text, whole-bad}
-use Rattle.json.proofs.Endings.{paper-rows, paper-refused}
+use Rattle.text.specs.Limits.{rowWords, base}
+use Rattle.text.specs.Whole.{wholeOf}
+use Rattle.json.proofs.Endings.{rows-fit, read-left}
 use Rattle.json.proofs.read.read.Statement.{statement}
 use Rattle.json.proofs.read.read.Tie as tie
 
-clear-words-requires : tie.Need-clear-words-requires
-clear-words-requires c κs = search needs
-
-same-length : tie.Need-same-length
-same-length c = search needs
+fit : (c : tie.After-rows-used)
+    → let a = c .before .before .before .before .before .before .before .args in c .rows-used .result * rowWords ≤ length (a .table .now)
+fit c =
+    let a = c .before .before .before .before .before .before .before .args in
+    let k = c .before .before .before .read-rows in
+    let f = rows-fit (wholeOf base (length (a .table .now)) (a .text .now)) (a .table .now) (k .last .1 .0) (k .result) (k .ensures) in
+    omega (arith, c .rows-used .ensures)
 
 returns : tie.Need-returns
 returns c =
-    let a = c .before .before .before .before .before .before .before .args in
-    let w = length (a .table .now) in
-    paper-refused w (a .text .now) (c .before .before .before .clear-words .last .0) TooLong
-    (whole-bad base w (a .text .now) TooLong (long-text base (a .text .now) (c .if1 .taken))) (c .before .before .before .clear-words .ensures)
-
-read-short-requires : tie.Need-read-short-requires
-read-short-requires c κs =
-    let k = c .before .before .before .before .clear-words in
-    (c .before .if1 .left, rw (k .kept .0) (k .ensures))
-
-enum-known-answer : tie.Need-enum-known-answer
-enum-known-answer c = search needs
-
-enum-known-answer-2 : tie.Need-enum-known-answer-2
-enum-known-answer-2 c = search needs
-
-clear-words-requires-2 : tie.Need-clear-words-requires-2
-clear-words-requires-2 c κs = search needs
-
-same-length-2 : tie.Need-same-length-2
-same-length-2 c = search needs
-
-returns-2 : tie.Need-returns-2
-returns-2 c =
-    let a = c .before .before .before .before .before .before .before .before .before .before .before .before .before .before .args in
-    let w = length (a .table .now) in
-    let k = c .before .before .before .before .before .before .before .before .before .before .clear-words in
-    let h = rw (k .kept .0) at (rw (c .before .answer .given .1) at (c .before .before .before .before .before .read-short .ensures)) in
-    paper-rows w (a .text .now) (c .before .before .before .before .before .read-short .last .1 .0) (c .before .answer .given .0 .0)
-    h
-
-same-length-3 : tie.Need-same-length-3
-same-length-3 c = search needs
-
-returns-3 : tie.Need-returns-3
-returns-3 c =
-    let a =
-    c .before .before .before .before .before .before .before .before .before .before .before .before .before .before .before .before .before .before
-    .args in
-    let w = length (a .table .now) in
-    let k = c .before .before .before .before .before .before .before .before .before .before .before .before .before .before .clear-words in
-    let s = c .before .before .before .before .before .before .before .before .before .read-short in
-    let h = rw (k .kept .0) at (rw (c .before .before .before .before .before .answer2 .given .1) at (s .ensures)) in
-    paper-refused w (a .text .now) (c .before .before .clear-words2 .last .0)
-    (c .before .before .before .before .before .answer2 .given .0 .0) h
-    (rw (← k .kept .0, ← s .kept .1 .0) (c .before .before .clear-words2 .ensures))
+    let u = c .before .before .before .before in
+    let k = u .before .before .before .read-rows in
+    let a = u .before .before .before .before .before .before .before .args in
+    read-left (a .text .now) (a .table .now) (k .last .1 .0) (k .result) (u .rows-used .result) (k .ensures) (k .kept .1 .0) (u .rows-used .ensures)
+    (c .before .before .clear-words .ensures)
 
 pub read-spec : {M : Type 1} → statement M
 read-spec =
     tie.close
-    (tie.spec
-    clear-words-requires
-    same-length
-    returns
-    read-short-requires
-    enum-known-answer
-    enum-known-answer-2
-    clear-words-requires-2
-    same-length-2
-    returns-2
-    same-length-3
-    returns-3)
+    (tie.spec (λ c κs. search needs) (λ c κs. search needs) (λ c. omega (arith, fit c)) (λ c. omega (arith, fit c))
+    (λ c. omega (arith, fit c, c .before .before .before .read-rows .kept .1 .0)) (λ c. omega (arith, fit c, c .before .before .before .read-rows .kept .1 .0))
+    (λ c. search needs) (λ c κs. search needs) (λ c. search needs) returns)

@@ -6,18 +6,6 @@ use Rattle.json.proofs.Endings.{again-good, again-bad}
 use Rattle.json.proofs.read.read_again.Statement.{statement}
 use Rattle.json.proofs.read.read_again.Tie as tie
 
-slice-aggregate-read-whole : tie.Need-slice-aggregate-read-whole
-slice-aggregate-read-whole c = search needs
-
-read-whole-requires : tie.Need-read-whole-requires
-read-whole-requires c κs = search needs
-
-enum-known-answer : tie.Need-enum-known-answer
-enum-known-answer c = search needs
-
-enum-known-answer-2 : tie.Need-enum-known-answer-2
-enum-known-answer-2 c = search needs
-
 returns : tie.Need-returns
 returns c =
     again-good (readOf base (c .before .before .before .before .before .before .before .args .text .now)) _ _ (c .before .answer .given .0 .0)
@@ -31,10 +19,4 @@ returns-2 c =
 pub read-again-spec : {M : Type 1} → statement M
 read-again-spec =
     tie.close
-    (tie.spec
-    slice-aggregate-read-whole
-    read-whole-requires
-    enum-known-answer
-    enum-known-answer-2
-    returns
-    returns-2)
+    (tie.spec (λ c. search needs) (λ c κs. search needs) (λ c. search needs) (λ c. search needs) returns returns-2)

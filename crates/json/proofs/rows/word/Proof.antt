@@ -13,23 +13,8 @@ returns c =
     let a = c .before .args in
     sym (List·getD-eq-default (a .table .now) 0 (omega arith))
 
-mul-at : tie.Need-mul-at
-mul-at c = search needs
-
-add-at : tie.Need-add-at
-add-at c = search needs
-
-mul-result : tie.Need-mul-result
-mul-result c = search needs
-
-shared-slice-read-result : tie.Need-shared-slice-read-result
-shared-slice-read-result c = search needs
-
 cast-result : tie.Need-cast-result
 cast-result c = omega (arith, c .shared-slice-known .given (c .before .before .before .args .row * rowWords + c .before .before .before .args .i))
-
-returns-2 : tie.Need-returns-2
-returns-2 c = search needs
 
 returns-3 : tie.Need-returns-3
 returns-3 c =
@@ -39,12 +24,4 @@ returns-3 c =
 pub word-spec : {M : Type 1} → statement M
 word-spec =
     tie.close
-    (tie.spec
-    returns
-    mul-at
-    add-at
-    mul-result
-    shared-slice-read-result
-    cast-result
-    returns-2
-    returns-3)
+    (tie.spec returns (λ c. search needs) (λ c. search needs) (λ c. search needs) (λ c. search needs) cast-result (λ c. search needs) returns-3)

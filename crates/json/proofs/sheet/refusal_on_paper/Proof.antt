@@ -4,48 +4,6 @@ use borrow.Author.Needs.{needs}
 use Rattle.json.proofs.sheet.refusal_on_paper.Statement.{statement}
 use Rattle.json.proofs.sheet.refusal_on_paper.Tie as tie
 
-enum-told : tie.Need-enum-told
-enum-told c = search needs
-
-line-requires : tie.Need-line-requires
-line-requires c κs = search needs
-
-enum-known-r : tie.Need-enum-known-r
-enum-known-r c = search needs
-
-line-requires-2 : tie.Need-line-requires-2
-line-requires-2 c κs = search needs
-
-enum-known-r-2 : tie.Need-enum-known-r-2
-enum-known-r-2 c = search needs
-
-line-requires-3 : tie.Need-line-requires-3
-line-requires-3 c κs = search needs
-
-enum-known-r-3 : tie.Need-enum-known-r-3
-enum-known-r-3 c = search needs
-
-line-requires-4 : tie.Need-line-requires-4
-line-requires-4 c κs = search needs
-
-enum-known-r-4 : tie.Need-enum-known-r-4
-enum-known-r-4 c = search needs
-
-line-requires-5 : tie.Need-line-requires-5
-line-requires-5 c κs = search needs
-
-enum-known-r-5 : tie.Need-enum-known-r-5
-enum-known-r-5 c = search needs
-
-line-requires-6 : tie.Need-line-requires-6
-line-requires-6 c κs = search needs
-
-enum-known-r-6 : tie.Need-enum-known-r-6
-enum-known-r-6 c = search needs
-
-line-requires-7 : tie.Need-line-requires-7
-line-requires-7 c κs = search needs
-
 returns : tie.Need-returns
 unfolding refused
 returns c = rw (c .before .enum-told .given .1) (c .line .ensures)
@@ -77,25 +35,6 @@ returns-7 c = rw (c .before .before .r6 .given .1) (c .line7 .ensures)
 pub refusal-on-paper-spec : {M : Type 1} → statement M
 refusal-on-paper-spec =
     tie.close
-    (tie.spec
-    enum-told
-    line-requires
-    enum-known-r
-    line-requires-2
-    enum-known-r-2
-    line-requires-3
-    enum-known-r-3
-    line-requires-4
-    enum-known-r-4
-    line-requires-5
-    enum-known-r-5
-    line-requires-6
-    enum-known-r-6
-    line-requires-7
-    returns
-    returns-2
-    returns-3
-    returns-4
-    returns-5
-    returns-6
-    returns-7)
+    (tie.spec (λ c. search needs) (λ c κs. search needs) (λ c. search needs) (λ c κs. search needs) (λ c. search needs) (λ c κs. search needs)
+    (λ c. search needs) (λ c κs. search needs) (λ c. search needs) (λ c κs. search needs) (λ c. search needs) (λ c κs. search needs)
+    (λ c. search needs) (λ c κs. search needs) returns returns-2 returns-3 returns-4 returns-5 returns-6 returns-7)

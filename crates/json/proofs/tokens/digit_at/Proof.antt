@@ -4,9 +4,6 @@ use Rattle.laws.proofs.Picks.{picks}
 use Rattle.json.proofs.tokens.digit_at.Statement.{statement}
 use Rattle.json.proofs.tokens.digit_at.Tie as tie
 
-peek-requires : tie.Need-peek-requires
-peek-requires c κs = search needs
-
 returns : tie.Need-returns
 returns c = rw (← c .before .peek .ensures .0) (search picks)
 
@@ -14,4 +11,4 @@ returns-2 : tie.Need-returns-2
 returns-2 c = rw (← c .before .peek .ensures .0) (search picks)
 
 pub digit-at-spec : {M : Type 1} → statement M
-digit-at-spec = tie.close (tie.spec peek-requires returns returns-2)
+digit-at-spec = tie.close (tie.spec (λ c κs. search needs) returns returns-2)

@@ -7,16 +7,10 @@ use Rattle.text.proofs.TokenEnds.{run-byte}
 use Rattle.json.proofs.tokens.digits.Statement.{statement}
 use Rattle.json.proofs.tokens.digits.Tie as tie
 
-digit-at-requires : tie.Need-digit-at-requires
-digit-at-requires c κs = search needs
-
 add-digits-end : tie.Need-add-digits-end
 add-digits-end c =
     omega
     (arith, run-byte isDigit (c .before .before .before .args .text .now) refl (c .before .before .before .args .at) (sym (c .before .digit-at .ensures) ∙ c .if1 .taken))
-
-digits-end-requires : tie.Need-digits-end-requires
-digits-end-requires c κs = search needs
 
 returns : tie.Need-returns
 unfolding digitsAt
@@ -28,4 +22,4 @@ returns-2 c = rw (← c .before .digit-at .ensures, c .if1 .left)
 
 pub digits-spec : {M : Type 1} → statement M
 digits-spec =
-    tie.close (tie.spec digit-at-requires add-digits-end digits-end-requires returns returns-2)
+    tie.close (tie.spec (λ c κs. search needs) add-digits-end (λ c κs. search needs) returns returns-2)

@@ -7,17 +7,8 @@ use Rattle.text.specs.Tokens.{expAt}
 use Rattle.json.proofs.tokens.exp.Statement.{statement}
 use Rattle.json.proofs.tokens.exp.Tie as tie
 
-peek-requires : tie.Need-peek-requires
-peek-requires c κs = search needs
-
 add-sign-end : tie.Need-add-sign-end
 add-sign-end c = let i = inside (c .before .before .before .args .text .now) (c .before .before .before .args .at) (omega arith) in omega arith
-
-sign-end-requires : tie.Need-sign-end-requires
-sign-end-requires c κs = search needs
-
-digits-requires : tie.Need-digits-requires
-digits-requires c κs = search needs
 
 returns : tie.Need-returns
 unfolding expAt
@@ -26,12 +17,6 @@ returns c = rw (← c .before .before .before .peek .ensures .0, ← c .before .
 add-sign-end-2 : tie.Need-add-sign-end-2
 add-sign-end-2 c =
     let i = inside (c .before .before .before .before .args .text .now) (c .before .before .before .before .args .at) (omega arith) in omega arith
-
-sign-end-requires-2 : tie.Need-sign-end-requires-2
-sign-end-requires-2 c κs = search needs
-
-digits-requires-2 : tie.Need-digits-requires-2
-digits-requires-2 c κs = search needs
 
 returns-2 : tie.Need-returns-2
 unfolding expAt
@@ -44,14 +29,5 @@ returns-3 c = rw (← c .before .before .peek .ensures .0) (search picks)
 pub exp-spec : {M : Type 1} → statement M
 exp-spec =
     tie.close
-    (tie.spec
-    peek-requires
-    add-sign-end
-    sign-end-requires
-    digits-requires
-    returns
-    add-sign-end-2
-    sign-end-requires-2
-    digits-requires-2
-    returns-2
-    returns-3)
+    (tie.spec (λ c κs. search needs) add-sign-end (λ c κs. search needs) (λ c κs. search needs) returns add-sign-end-2 (λ c κs. search needs)
+    (λ c κs. search needs) returns-2 returns-3)

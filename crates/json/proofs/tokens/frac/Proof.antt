@@ -7,14 +7,8 @@ use Rattle.text.specs.Tokens.{fracAt}
 use Rattle.json.proofs.tokens.frac.Statement.{statement}
 use Rattle.json.proofs.tokens.frac.Tie as tie
 
-peek-requires : tie.Need-peek-requires
-peek-requires c κs = search needs
-
 add-digits : tie.Need-add-digits
 add-digits c = let i = inside (c .before .before .before .args .text .now) (c .before .before .before .args .at) (omega arith) in omega arith
-
-digits-requires : tie.Need-digits-requires
-digits-requires c κs = search needs
 
 returns : tie.Need-returns
 unfolding fracAt
@@ -25,4 +19,4 @@ unfolding fracAt
 returns-2 c = rw (← c .before .peek .ensures .0) (search picks)
 
 pub frac-spec : {M : Type 1} → statement M
-frac-spec = tie.close (tie.spec peek-requires add-digits digits-requires returns returns-2)
+frac-spec = tie.close (tie.spec (λ c κs. search needs) add-digits (λ c κs. search needs) returns returns-2)

@@ -7,9 +7,6 @@ use Rattle.text.specs.Tokens.{minusEnd}
 use Rattle.json.proofs.tokens.minus_end.Statement.{statement}
 use Rattle.json.proofs.tokens.minus_end.Tie as tie
 
-peek-requires : tie.Need-peek-requires
-peek-requires c κs = search needs
-
 add-result : tie.Need-add-result
 add-result c = let i = inside (c .before .before .before .args .text .now) (c .before .before .before .args .at) (omega arith) in omega arith
 
@@ -22,4 +19,4 @@ unfolding minusEnd
 returns-2 c = rw (← c .before .peek .ensures .0) (search picks)
 
 pub minus-end-spec : {M : Type 1} → statement M
-minus-end-spec = tie.close (tie.spec peek-requires add-result returns returns-2)
+minus-end-spec = tie.close (tie.spec (λ c κs. search needs) add-result returns returns-2)

@@ -27,15 +27,6 @@ then-stopped c f = go (c .before .frac .result) refl
     go (No2 p) e = refl
     go (No3 p) e = refl
 
-minus-end-requires : tie.Need-minus-end-requires
-minus-end-requires c κs = search needs
-
-int-requires : tie.Need-int-requires
-int-requires c κs = search needs
-
-enum-known-whole : tie.Need-enum-known-whole
-enum-known-whole c = search needs
-
 returns : tie.Need-returns
 unfolding numberAt
 returns c =
@@ -43,21 +34,12 @@ returns c =
     rw (← c .before .before .minus-end .ensures, ← c .before .int .ensures, ← s)
     (first-stopped c (expAt (c .before .before .before .before .args .text .now)))
 
-frac-requires : tie.Need-frac-requires
-frac-requires c κs = search needs
-
-enum-known-part : tie.Need-enum-known-part
-enum-known-part c = search needs
-
 returns-2 : tie.Need-returns-2
 unfolding numberAt
 returns-2 c =
     rw
     (← c .before .before .before .before .before .before .minus-end .ensures, ← c .before .before .before .before .before .int .ensures, c .before .before .before .whole .given .1, ← c .before .frac .ensures)
     (then-stopped c (expAt (c .before .before .before .before .before .before .before .before .args .text .now)))
-
-exp-requires : tie.Need-exp-requires
-exp-requires c κs = search needs
 
 returns-3 : tie.Need-returns-3
 unfolding numberAt
@@ -69,13 +51,5 @@ returns-3 c =
 pub number-spec : {M : Type 1} → statement M
 number-spec =
     tie.close
-    (tie.spec
-    minus-end-requires
-    int-requires
-    enum-known-whole
-    returns
-    frac-requires
-    enum-known-part
-    returns-2
-    exp-requires
-    returns-3)
+    (tie.spec (λ c κs. search needs) (λ c κs. search needs) (λ c. search needs) returns (λ c κs. search needs) (λ c. search needs) returns-2
+    (λ c κs. search needs) returns-3)

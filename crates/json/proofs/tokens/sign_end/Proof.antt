@@ -7,9 +7,6 @@ use Rattle.text.specs.Tokens.{signEnd}
 use Rattle.json.proofs.tokens.sign_end.Statement.{statement}
 use Rattle.json.proofs.tokens.sign_end.Tie as tie
 
-peek-requires : tie.Need-peek-requires
-peek-requires c κs = search needs
-
 add-result : tie.Need-add-result
 add-result c = let i = inside (c .before .before .before .args .text .now) (c .before .before .before .args .at) (omega arith) in omega arith
 
@@ -31,4 +28,4 @@ returns-3 c = rw (← c .before .before .peek .ensures .0) (search picks)
 
 pub sign-end-spec : {M : Type 1} → statement M
 sign-end-spec =
-    tie.close (tie.spec peek-requires add-result returns add-result-2 returns-2 returns-3)
+    tie.close (tie.spec (λ c κs. search needs) add-result returns add-result-2 returns-2 returns-3)

@@ -4,9 +4,6 @@ use Rattle.laws.proofs.Picks.{picks}
 use Rattle.json.proofs.tokens.space_at.Statement.{statement}
 use Rattle.json.proofs.tokens.space_at.Tie as tie
 
-peek-requires : tie.Need-peek-requires
-peek-requires c κs = search needs
-
 returns : tie.Need-returns
 returns c = rw (← c .before .peek .ensures .0) (search picks)
 
@@ -20,4 +17,4 @@ returns-4 : tie.Need-returns-4
 returns-4 c = rw (← c .before .before .before .peek .ensures .0) (search picks)
 
 pub space-at-spec : {M : Type 1} → statement M
-space-at-spec = tie.close (tie.spec peek-requires returns returns-2 returns-3 returns-4)
+space-at-spec = tie.close (tie.spec (λ c κs. search needs) returns returns-2 returns-3 returns-4)

@@ -19,9 +19,6 @@ abbrev μ-loop : tie.MeasureT-loop
 loop-holds : tie.Need-loop-holds Inv-loop μ-loop
 loop-holds c = refl
 
-peek-requires : tie.Need-peek-requires Inv-loop μ-loop
-peek-requires c κs = search needs
-
 returns : tie.Need-returns Inv-loop μ-loop
 unfolding wordAt
 returns c =
@@ -29,9 +26,6 @@ returns c =
     let l = c .before .before .loop in
     let e = ended (a .lit .now) (l .i) (omega (arith, c .before .before .before .shared-slice-known2 .given (l .i))) (omega arith) in
     rw (← l .inv, drop-of-length-le (a .lit .now) e)
-
-peek-requires-2 : tie.Need-peek-requires-2 Inv-loop μ-loop
-peek-requires-2 c κs = search needs
 
 returns-2 : tie.Need-returns-2 Inv-loop μ-loop
 unfolding wordAt
@@ -69,15 +63,4 @@ loop-again c =
 pub word-spec : {M : Type 1} → statement M
 word-spec =
     tie.close
-    (tie.spec
-    Inv-loop
-    μ-loop
-    loop-holds
-    peek-requires
-    returns
-    peek-requires-2
-    returns-2
-    add-at
-    add-i
-    loop-less
-    loop-again)
+    (tie.spec Inv-loop μ-loop loop-holds (λ c κs. search needs) returns (λ c κs. search needs) returns-2 add-at add-i loop-less loop-again)

@@ -3,7 +3,7 @@ use mathlib.Core.Path.{refl}
 use native.Mathlib.Omega.{arith}
 use borrow.Author.Needs.{needs}
 use Rattle.json.specs.Parts.{Closable}
-use Rattle.json.specs.declared.values.Part.the-variants.{Next}
+use Rattle.json.specs.declared.values.Outcome.the-variants.{Next}
 use Rattle.json.proofs.values.close.Statement.{statement}
 use Rattle.json.proofs.values.close.Tie as tie
 
@@ -11,9 +11,6 @@ use Rattle.json.proofs.values.close.Tie as tie
 opened : (c : tie.After-put-row-arg)
     → Closable (c .before .before .before .before .before .args .count) (Next (c .before .before .inside .given .0 .0) (c .before .before .inside .given .0 .1 .0))
 opened c = rw (c .before .before .inside .given .1) at (c .before .before .before .before .before .pre .0)
-
-enum-known-inside : tie.Need-enum-known-inside
-enum-known-inside c = search needs
 
 sub-put-row : tie.Need-sub-put-row
 sub-put-row c = omega (arith, opened c)
@@ -35,12 +32,6 @@ put-row-requires c κs =
       below-fits = omega arith;
     }
 
-enum-known-inside-2 : tie.Need-enum-known-inside-2
-enum-known-inside-2 c = search needs
-
-same-length : tie.Need-same-length
-same-length c = search needs
-
 returns : tie.Need-returns
 returns c = rw (c .before .before .before .before .before .inside .given .1) (refl, c .before .before .put-row .ensures)
 
@@ -50,12 +41,4 @@ returns-2 c = rw (c .before .inside2 .given .1) refl
 pub close-spec : {M : Type 1} → statement M
 close-spec =
     tie.close
-    (tie.spec
-    enum-known-inside
-    sub-put-row
-    sub-put-row-2
-    put-row-requires
-    enum-known-inside-2
-    same-length
-    returns
-    returns-2)
+    (tie.spec (λ c. search needs) sub-put-row sub-put-row-2 put-row-requires (λ c. search needs) (λ c. search needs) returns returns-2)

@@ -23,29 +23,11 @@ returns c =
     let a = c .before .before .before .args in
     scalar-many (upTo (a .limit)) (a .text .now) (a .kind) (a .ns) (a .ne) (a .at) (a .count) (c .if1 .taken)
 
-token-end-requires : tie.Need-token-end-requires
-token-end-requires c κs = search needs
-
-enum-known-to : tie.Need-enum-known-to
-enum-known-to c = search needs
-
 put-row-requires : tie.Need-put-row-requires
 put-row-requires c κs =
     let s = ended (c .before .before) in
     let p = c .before .before .before .before .before .before .before .before .pre in
     omega arith
-
-add-after : tie.Need-add-after
-add-after c = search needs
-
-enum-known-p : tie.Need-enum-known-p
-enum-known-p c = search needs
-
-enum-known-p-2 : tie.Need-enum-known-p-2
-enum-known-p-2 c = search needs
-
-same-length : tie.Need-same-length
-same-length c = search needs
 
 returns-2 : tie.Need-returns-2
 unfolding size rowsOf
@@ -81,15 +63,5 @@ returns-4 c =
 pub read-scalar-spec : {M : Type 1} → statement M
 read-scalar-spec =
     tie.close
-    (tie.spec
-    returns
-    token-end-requires
-    enum-known-to
-    put-row-requires
-    add-after
-    enum-known-p
-    enum-known-p-2
-    same-length
-    returns-2
-    returns-3
-    returns-4)
+    (tie.spec returns (λ c κs. search needs) (λ c. search needs) put-row-requires (λ c. search needs) (λ c. search needs) (λ c. search needs)
+    (λ c. search needs) returns-2 returns-3 returns-4)

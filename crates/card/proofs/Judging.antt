@@ -1,0 +1,10 @@
+-- Judging: single values, the members of an object, the rules between them, the walk over a card's rows, and the verdict.
+pub mod Ids
+pub mod Counts
+pub mod Times
+pub mod Roles
+pub mod Values
+pub mod Separators
+pub mod Rules
+pub mod Walk
+pub mod Verdict

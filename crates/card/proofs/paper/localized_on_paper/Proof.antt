@@ -1,0 +1,18 @@
+-- `card::paper::localized_on_paper` meets its contract. Assumes nothing.
+use Rattle.contact.specs.Localize.{paperOfLocalized}
+use borrow.Author.Needs.{needs}
+use Rattle.card.proofs.paper.localized_on_paper.Statement.{statement}
+use Rattle.card.proofs.paper.localized_on_paper.Tie as tie
+
+returns : tie.Need-returns
+unfolding paperOfLocalized
+returns c = rw (c .before .before .a .given .1) (c .line .ensures)
+
+returns-2 : tie.Need-returns-2
+unfolding paperOfLocalized
+returns-2 c = rw (c .before .before .a2 .given .1) (c .local-on-paper .ensures)
+
+pub localized-on-paper-spec : {M : Type 1} → statement M
+localized-on-paper-spec =
+    tie.close
+    (tie.spec (λ c. search needs) (λ c κs. search needs) (λ c. search needs) (λ c κs. search needs) returns returns-2)

@@ -1,0 +1,102 @@
+-- Laws of two strings that are compared as written up to a place:
+--     common-start, common-more      from the start, and one byte further
+--     order-differs, same-differs    where neither goes on with a backslash, the bytes there decide
+--     literal-differs                the same of a string and a literal
+-- Assumes nothing.
+use Prim.Native.Nat.{ℕ, _+_, _≤_, _<_}
+use mathlib.Core.Path.{_≡_, refl, sym, ap, _∙_}
+use mathlib.Core.List.{List, [], _∷_}
+use mathlib.Core.Bool.{false}
+use native.Mathlib.Decide.{decLe}
+use native.Mathlib.Omega.{arith}
+use lib.ListN.{length, getD, drop-of-length-le, List·getD-eq-default}
+use lib.Dec.{eqb}
+use borrow.Author.Tests.{eq-eqb, ne-eqb, eqb-true, eqb-false}
+use Rattle.laws.specs.Order.{orderOf, isSame, same}
+use Rattle.laws.specs.declared.Order.{Order}
+use Rattle.laws.proofs.Bools.{byTest}
+use Rattle.laws.proofs.Branches.{if-equal, if-less}
+use Rattle.laws.proofs.Places.{inside, ended, drop-byte}
+use Rattle.laws.proofs.Orders.{order-less, order-more, order-on, agree, absent}
+use Rattle.text.specs.Text.{byteAt}
+use Rattle.text.specs.Strings.{stop, piece, pieceBy, decodeFrom, decode}
+use Rattle.text.proofs.Walks.{decode-at}
+use Rattle.json.specs.Names.{Common, Alike, orderAt}
+
+-- ---- decoding where no backslash stands
+
+decode-over : (t : List ℕ) (i : ℕ) → byteAt t i ≡ 256 → decodeFrom t i ≡ []
+unfolding pieceBy
+decode-over t i e = decode-at t i stop (rw (eq-eqb _ _ e))
+
+decode-byte : (t : List ℕ) (i : ℕ) → (byteAt t i ≡ 92 → ⊥) → (byteAt t i ≡ 256 → ⊥) → decodeFrom t i ≡ byteAt t i ∷ decodeFrom t (i + 1)
+unfolding pieceBy
+decode-byte t i s e = decode-at t i (piece (byteAt t i ∷ []) 1) (rw (ne-eqb _ _ e, ne-eqb _ _ s))
+
+-- ---- what is in common
+
+pub common-start : (a b : List ℕ) → Common a b 0
+common-start a b = record { ordered = refl; literal = refl; within = omega arith }
+
+pub common-more : (a b : List ℕ) (i : ℕ) → Common a b i → (byteAt a i ≡ 92 → ⊥) → byteAt a i < 256 → byteAt a i ≡ byteAt b i → Common a b (i + 1)
+common-more a b i c s h e =
+    let x = byteAt a i in
+    let y = byteAt b i in
+    let k = inside b i (omega arith) in
+    let d = decode-byte a i s (λ z. omega arith) in
+    let f = decode-byte b i (λ z. s (e ∙ z)) (λ z. omega arith) in
+    record {
+      ordered = sym (rw (d, f) (order-on x y _ _ (omega arith) (omega arith))) ∙ c .ordered;
+      literal = sym (rw (d, drop-byte b i k) (agree x y _ _ e)) ∙ c .literal;
+      within = omega arith;
+    }
+
+-- ---- at the first difference
+
+byNumber : {G : Type 0} (a b : ℕ) → (a ≡ b → G) → ((a ≡ b → ⊥) → G) → G
+byNumber a b f g = byTest (eqb a b) (λ e. f (eqb-true a b e)) (λ e. g (eqb-false a b e))
+
+apart : (x y : ℕ) → y ≤ x → (x ≡ y → ⊥) → y < x
+apart x y h e = omega arith
+
+-- where no 256 stands a list goes on
+there : (l : List ℕ) (i : ℕ) → (byteAt l i ≡ 256 → ⊥) → i < length l
+there l i e = elim (decLe (length l) i) [
+  | yes h ↦ absurd (e (List·getD-eq-default l 256 h))
+  | no h ↦ omega arith
+]
+
+same-at : (p q : ℕ) → isSame (orderAt p q) ≡ eqb p q
+unfolding orderAt
+same-at p q =
+    byNumber p q (λ e. rw (eq-eqb p q e))
+    (λ e. rw (ne-eqb p q e) (if-equal (λ (o : Order). isSame o ≡ false) p 256 (λ o. refl)
+    (λ o. if-equal (λ (o : Order). isSame o ≡ false) q 256 (λ z. refl) (λ z. if-less (λ (o : Order). isSame o ≡ false) p q (λ l. refl) (λ l. refl)))))
+
+module _ (a b : List ℕ) (i : ℕ) (h : Alike a b i) (s : byteAt a i ≡ 92 → ⊥) where
+  differs : (byteAt b i ≡ 92 → ⊥) → orderAt (byteAt a i) (byteAt b i) ≡ orderOf (decodeFrom a i) (decodeFrom b i)
+  unfolding orderAt orderOf
+  differs z =
+      let P : Order → Type 0 = λ o. o ≡ orderOf (decodeFrom a i) (decodeFrom b i) in
+      if-equal P (byteAt a i) (byteAt b i) (λ e. rw (decode-over a i (h .stops e s), decode-over b i (sym e ∙ h .stops e s)))
+      (λ e. if-equal P (byteAt a i) 256 (λ o. rw (decode-over a i o, decode-byte b i z (λ q. e (o ∙ sym q))))
+      (λ o. if-equal P (byteAt b i) 256 (λ q. rw (decode-byte a i s o, decode-over b i q))
+      (λ q. if-less P (byteAt a i) (byteAt b i)
+      (λ l. rw (decode-byte a i s o, decode-byte b i z q) (sym (order-less (byteAt a i) (byteAt b i) (decodeFrom a (i + 1)) (decodeFrom b (i + 1)) l)))
+      (λ l. rw (decode-byte a i s o, decode-byte b i z q) (sym (order-more (byteAt a i) (byteAt b i) (decodeFrom a (i + 1)) (decodeFrom b (i + 1)) (apart (byteAt a i) (byteAt b i) l e)))))))
+
+  pub order-differs : (byteAt b i ≡ 92 → ⊥) → orderAt (byteAt a i) (byteAt b i) ≡ orderOf (decode a) (decode b)
+  order-differs z = differs z ∙ h .common .ordered
+
+  pub same-differs : (byteAt b i ≡ 92 → ⊥) → eqb (byteAt a i) (byteAt b i) ≡ same (decode a) (decode b)
+  same-differs z = sym (same-at (byteAt a i) (byteAt b i)) ∙ ap isSame (order-differs z)
+
+  -- small: the literal has bytes only
+  pub literal-differs : getD b i 0 < 256 → eqb (byteAt a i) (byteAt b i) ≡ same (decode a) b
+  unfolding orderOf
+  literal-differs small =
+      byNumber (byteAt a i) (byteAt b i)
+      (λ e. let o = h .stops e s in rw (eq-eqb _ _ e, ← h .common .literal, decode-over a i o, drop-of-length-le b (ended b i small (sym e ∙ o))))
+      (λ e. byNumber (byteAt a i) 256
+      (λ o. rw (ne-eqb _ _ e, ← h .common .literal, decode-over a i o, drop-byte b i (there b i (λ q. e (o ∙ sym q)))))
+      (λ o. rw (ne-eqb _ _ e, ← h .common .literal, decode-byte a i s o) (sym (absent b i (byteAt a i) (decodeFrom a (i + 1)) e))))

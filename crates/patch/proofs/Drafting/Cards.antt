@@ -1,0 +1,117 @@
+-- A card whose rows are in the table:
+--     card-held          it stands there from row 0 on, in no more rows than a card can have
+--     card-countable     what the entries of its PatchObject make of it is short enough to be counted
+--     for-nothing, for-other, for-object     what it has for a language: nothing, no object, or a PatchObject
+-- Assumes nothing.
+use Prim.Native.Nat.{ℕ}
+use mathlib.Core.Path.{_≡_, refl, sym, ap, subst, _∙_}
+use mathlib.Core.List.{List}
+use mathlib.Core.Option.{none, some}
+use native.Mathlib.Omega.{arith}
+use lib.ListN.{length}
+use Rattle.text.specs.Limits.{base}
+use Rattle.text.specs.Tree.{Forest}
+use Rattle.text.specs.Standing.{Stands}
+use Rattle.text.specs.Firsts.{insideAt}
+use Rattle.text.specs.Doc.{Name, Doc, scalar, array, object, kindOf, Members, property, membersOf, docOf}
+use Rattle.text.specs.Reader.{good}
+use Rattle.text.specs.Whole.{readOf}
+use Rattle.text.specs.Promised.{Promised}
+use Rattle.text.proofs.Promise.{promised, whole-good, filled-stands, placed-kinds, doc-object}
+use Rattle.contact.specs.Pointer.{find}
+use Rattle.contact.specs.Localize.{patchAt}
+use Rattle.contact.specs.Conditions.{PatchOf}
+use Rattle.contact.specs.declared.LocalRefusal.the-variants.{NoLanguage}
+use Rattle.contact.proofs.Judging.{judging}
+use Rattle.contact.proofs.Patching.Readback.{card-shorter}
+use Rattle.json.specs.Rows.{kindIn}
+use Rattle.json.specs.Lookup.{firstMember}
+use Rattle.patch.specs.Language.{Held, PropertyAt, PropertyFound}
+use Rattle.json.specs.declared.lookup.Found.{Found}
+use Rattle.json.specs.declared.lookup.Found.the-variants.{Row, Nothing}
+use Rattle.patch.specs.Entries.{mostEntries}
+use Rattle.patch.specs.Drafts.{refusal, valueDraft, entriesDraft, draftOf, CardIn, Countable, Makes, MakesFor}
+use Rattle.patch.specs.declared.compose.Attempt.{Attempt}
+use Rattle.patch.specs.declared.compose.Attempt.the-variants.{Refused}
+use Rattle.patch.proofs.Putting.Walks.{value-row}
+use Rattle.patch.proofs.Drafting.Children.{value-kind}
+
+module _ {t table : List ℕ} {f : Forest} (c : CardIn t table f) where
+  -- it was read
+  card-read : (to : ℕ) × (readOf base t ≡ good f to)
+  card-read =
+      let (to, w, keeps) = judging .accepted base (length table) t f .0 (c .passes) in
+      (to, whole-good base (length table) t f to w .read)
+
+  card-promised : Promised base t f
+  card-promised = promised base t f (card-read .0) (card-read .1)
+
+  pub card-held : Held table mostEntries 0 f
+  card-held =
+      let p = card-promised in
+      record {
+        value =
+            record {
+              some = p .some;
+              kinds = placed-kinds (p .placed);
+              stands = subst (λ (l : List ℕ). Stands l 0 f) (sym (c .rows)) (filled-stands (length table) f .stands);
+            };
+        within = omega (arith, p .few);
+      }
+
+  pub card-countable : (lang : Name) (ms : Members) → PatchOf (docOf t f) lang ms → Countable (docOf t f) ms
+  card-countable lang ms patch nc pt =
+      let p = card-promised in
+      omega (arith, card-shorter base refl (length table) t f (c .passes) lang ms patch nc pt, p .short)
+
+-- ---- what the card has for a language
+
+none-draft : (card : Doc) (lang : Name) → find (patchAt lang) card ≡ none → draftOf card lang ≡ refusal NoLanguage
+unfolding draftOf
+none-draft card lang e = rw e
+
+other-draft : (card d : Doc) → (kindOf d ≡ 7 → ⊥) → valueDraft card d ≡ refusal NoLanguage
+other-draft card (scalar kind token) h = refl
+other-draft card (array ms) h = refl
+other-draft card (object ms) h = absurd (h refl)
+
+module _ {t table : List ℕ} {f : Forest} (c : CardIn t table f) (lang : Name) {m : ℕ} (a : PropertyAt t table mostEntries (find (patchAt lang) (docOf t f)) m)
+  where
+    value-draft : draftOf (docOf t f) lang ≡ valueDraft (docOf t f) (docOf t (a .found))
+    unfolding draftOf
+    value-draft = rw (a .is)
+
+    no-object-for : (kindIn table m ≡ 7 → ⊥) → draftOf (docOf t f) lang ≡ refusal NoLanguage
+    no-object-for h = value-draft ∙ other-draft (docOf t f) (docOf t (a .found)) (λ e. h (sym (value-kind (a .held .value) t) ∙ e))
+
+    abbrev inPatch : Members
+    inPatch = membersOf t (insideAt (a .found))
+
+    module _ (seven : kindIn table m ≡ 7) where
+      is-object : docOf t (a .found) ≡ object inPatch
+      is-object = let v = a .held .value in doc-object t (a .found) (v .some) (v .kinds) (sym (value-row v .kind) ∙ seven)
+
+      object-for : draftOf (docOf t f) lang ≡ entriesDraft (docOf t f) inPatch
+      object-for = value-draft ∙ ap (valueDraft (docOf t f)) is-object
+
+      countable-for : Countable (docOf t f) inPatch
+      countable-for =
+          let label = firstMember t (a .found) .label in
+          card-countable c lang inPatch (record { label = label; stands = a .is ∙ ap (λ (d : Doc). some (property label d)) is-object })
+
+-- by the row that was found for it
+module _ {t table : List ℕ} (lang : Name) {found : Found}
+    (leads : (g : Forest) (limit : ℕ) → Held table limit 0 g → PropertyFound t table limit (find (patchAt lang) (docOf t g)) found) where
+  pub for-nothing : (old : List ℕ) → found ≡ Nothing → MakesFor t table lang old old (Refused NoLanguage)
+  for-nothing old e f c = rw (none-draft (docOf t f) lang (rw e at (leads f mostEntries (card-held c)))) (refl, refl)
+
+  module _ {m : ℕ} (e : found ≡ Row m) where
+    at-it : {f : Forest} → CardIn t table f → PropertyAt t table mostEntries (find (patchAt lang) (docOf t f)) m
+    at-it {f} c = rw e at (leads f mostEntries (card-held c))
+
+    pub for-other : (old : List ℕ) → (kindIn table m ≡ 7 → ⊥) → MakesFor t table lang old old (Refused NoLanguage)
+    for-other old h f c = rw (no-object-for c lang (at-it c) h) (refl, refl)
+
+    pub for-object : (old new : List ℕ) (r : Attempt) → kindIn table m ≡ 7 → Makes t table t table m old new r → MakesFor t table lang old new r
+    for-object old new r h made f c =
+        rw (object-for c lang (at-it c) h) (made f (at-it c .found) (card-held c .value) (at-it c .held) (countable-for c lang (at-it c) h))

@@ -1,0 +1,210 @@
+-- Laws of an object as the entries of a patch leave it, member by member:
+--     linked              the bytes of a member that is written, or not, and of those after it
+--     based-object, based-other     a value as the entries leave it, by its kind
+--     kept-linked         the members of the object, one after the other
+--     added-linked        the members that ascending entries add, one entry after the other: they stand in the order of the entries
+--     adds-null, adds-down, adds-last     what an entry adds
+--     passed-none, passed-some     a member that is not written, and one that is
+--     there-out, there-found, there-none      the member of a name, where one is left out
+-- Assumes nothing.
+use Prim.Native.Nat.{ℕ, _<_}
+use mathlib.Core.Path.{_≡_, refl, ap, _∙_}
+use mathlib.Core.Bool.{Bool, true, false, not, cond}
+use mathlib.Core.List.{List, [], _∷_, _++_, append-assoc}
+use mathlib.Core.Option.{Option, none, some}
+use native.Mathlib.Omega.{arith}
+use lib.ListN.{length}
+use borrow.Author.Tests.{eq-eqb, ne-eqb}
+use Rattle.laws.specs.Lists.{partOf}
+use Rattle.laws.specs.Order.{same, before}
+use Rattle.laws.specs.declared.Order.the-variants.{Less}
+use Rattle.laws.proofs.Orders.{same-eq, same-sym}
+use Rattle.text.specs.Text.{bytes}
+use Rattle.text.specs.Tree.{Forest}
+use Rattle.text.specs.Strings.{decode}
+use Rattle.text.specs.Doc.{Name, Doc, scalar, array, object, Members, empty, member, Property, property, seek, isThere, kindOf}
+use Rattle.text.specs.Writing.{spelled, written, writtenMembers}
+use Rattle.json.specs.Rows.{nameStartIn, nameEndIn}
+use Rattle.json.specs.Cursors.{rest}
+use Rattle.json.specs.declared.decode.Cursor.{Cursor}
+use Rattle.contact.specs.Pointer.{Pointer, last, down, pointerOf, firstPart}
+use Rattle.contact.specs.Patch.{Change, remove, set, Entry, entry, mine, under, insert, fresh, added, keep, applied, kept, without, changeOf}
+use Rattle.patch.specs.Pointers.{pointerOrder, strip}
+use Rattle.patch.specs.Runs.{BeforeAll, leads-more, InOrder, asc-more}
+use Rattle.patch.specs.Patched.{based, basedAll, isOut, keptBy, stays, freshly, adds, pointerIn, link, piece, since, Passed}
+use Rattle.patch.specs.Written.{full, Wrote}
+use Rattle.json.specs.Lookup.{KnownAt}
+use Rattle.patch.specs.Copied.{headOf}
+use Rattle.patch.specs.declared.writing.Spot.{Spot}
+use Rattle.patch.proofs.Putting.Walks.{value-row}
+use Rattle.patch.proofs.Putting.Bytes.{wrote-none, wrote-then}
+
+-- ---- one member ----
+
+pub linked : (o : Option Doc) (n label : List ℕ) (ms : Members) (first : Bool)
+    → writtenMembers (link o n label ms) first ≡ piece o first label ++ writtenMembers ms (since o first)
+linked none n label ms first = refl
+linked (some d) n label ms first = simp append-assoc
+
+-- ---- a value ----
+
+pub based-object : (root : Bool) (ms : Members) (es : List Entry)
+    → written (applied (based root (object ms)) es) ≡ 123 ∷ writtenMembers (kept (basedAll root ms) es (added (basedAll root ms) es)) true
+based-object true ms es = refl
+based-object false ms es = refl
+
+pub based-other : (root : Bool) (d : Doc) (es : List Entry) → (kindOf d ≡ 7 → ⊥) → applied (based root d) es ≡ d
+based-other true (scalar kind token) es ne = refl
+based-other true (array ms) es ne = refl
+based-other true (object ms) es ne = absurd (ne refl)
+based-other false (scalar kind token) es ne = refl
+based-other false (array ms) es ne = refl
+based-other false (object ms) es ne = absurd (ne refl)
+
+-- ---- the members of the object ----
+
+keep-link : (o : Option Change) (n label : List ℕ) (d : Doc) (ms : Members) → keep o n label d ms ≡ link (keptBy o d) n label ms
+keep-link none n label d ms = refl
+keep-link (some remove) n label d ms = refl
+keep-link (some (set v)) n label d ms = refl
+
+pub kept-linked : (root : Bool) (n label : List ℕ) (d : Doc) (ms : Members) (es : List Entry) (more : Members)
+    → kept (basedAll root (member n label d ms)) es more ≡ link (stays root n es d) n label (kept (basedAll root ms) es more)
+unfolding stays
+kept-linked false n label d ms es more = keep-link (mine n es) n label (applied d (under n es)) (kept ms es more)
+kept-linked true n label d ms es more = go (same n (bytes "localizations"))
+  where
+    go : (b : Bool) → let rest = basedAll true ms in
+        kept (cond b rest (member n label d rest)) es more ≡ link (cond b none (keptBy (mine n es) (applied d (under n es)))) n label (kept rest es more)
+    go true = refl
+    go false = keep-link (mine n es) n label (applied d (under n es)) (kept (basedAll true ms) es more)
+
+-- ---- the members that are added ----
+
+-- the name stands before that of the first member
+abbrev Heads : Name → Members → Type 0
+Heads n empty = Prim.Unit {0}
+Heads n (member m label d ms) = before n m ≡ true
+
+first-in : (n : Name) (v : Doc) (ms : Members) → Heads n ms → insert n v ms ≡ member n (spelled n) v ms
+first-in n v empty h = refl
+first-in n v (member m label d ms) h = rw h
+
+heads-insert : (n m : Name) (v : Doc) (ms : Members) → before n m ≡ true → Heads n ms → Heads n (insert m v ms)
+heads-insert n m v empty e h = e
+heads-insert n m v (member k label d ms) e h = go (before m k)
+  where
+    go : (b : Bool) → Heads n (cond b (member m (spelled m) v (member k label d ms)) (member k label d (insert m v ms)))
+    go true = e
+    go false = h
+
+heads-fresh : (n m : Name) (v : Doc) (o : Option Property) (ms : Members) → before n m ≡ true → Heads n ms → Heads n (fresh o m v ms)
+heads-fresh n m v none ms e h = heads-insert n m v ms e h
+heads-fresh n m v (some p) ms e h = h
+
+less-before : (n m : Name) → pointerOrder (last n) (last m) ≡ Less → before n m ≡ true
+unfolding pointerOrder
+less-before n m e = rw e
+
+-- it stands before the names of all members that later entries add
+heads-added : (n : Name) (ms : Members) (es : List Entry) → BeforeAll (last n) es → Heads n (added ms es)
+heads-added n ms [] l = tt
+heads-added n ms (entry (last m) remove ∷ es) (leads-more e l) = heads-added n ms es l
+heads-added n ms (entry (last m) (set v) ∷ es) (leads-more e l) = heads-fresh n m v (seek m ms) (added ms es) (less-before n m e) (heads-added n ms es l)
+heads-added n ms (entry (down m p) c ∷ es) (leads-more e l) = heads-added n ms es l
+
+pub added-linked : (ms : Members) (p : Pointer) (c : Change) (es : List Entry) → InOrder (entry p c ∷ es)
+    → added ms (entry p c ∷ es) ≡ link (adds ms (entry p c)) (firstPart p) (spelled (firstPart p)) (added ms es)
+added-linked ms (last n) remove es a = refl
+added-linked ms (down n p) c es a = refl
+added-linked ms (last n) (set v) es (asc-more l a) = go (seek n ms)
+  where
+    go : (o : Option Property) → fresh o n v (added ms es) ≡ link (freshly o v) n (spelled n) (added ms es)
+    go none = first-in n v (added ms es) (heads-added n ms es l)
+    go (some p) = refl
+
+-- ---- the member of a name ----
+
+-- without a member of a name: that one is not there, and the others are as they were
+module _ (n out : Name) where
+  without-it : same n out ≡ true → (ms : Members) → seek n (without out ms) ≡ none
+  without-it e empty = refl
+  without-it e (member m label d ms) = go (same m out) refl (without out ms) (without-it e ms)
+    where
+      go : (b : Bool) → same m out ≡ b → (left : Members) → seek n left ≡ none → seek n (cond b left (member m label d left)) ≡ none
+      go true q left h = h
+      go false q left h = rw (ap (same m) (same-eq n out e) ∙ q) h
+
+  without-other : same n out ≡ false → (ms : Members) → seek n (without out ms) ≡ seek n ms
+  without-other e empty = refl
+  without-other e (member m label d ms) = go (same m out) refl (without out ms) (without-other e ms)
+    where
+      go : (b : Bool) → same m out ≡ b → (left : Members) → seek n left ≡ seek n ms
+          → seek n (cond b left (member m label d left)) ≡ cond (same m n) (some (property label d)) (seek n ms)
+      go true q left h = rw (ap (λ (k : Name). same k n) (same-eq m out q) ∙ same-sym n out ∙ e) h
+      go false q left h = rw h
+
+-- the same by what is left out at the root
+pub there-out : (root : Bool) (n : Name) (ms : Members) → isOut root n ≡ true → false ≡ isThere (seek n (basedAll root ms))
+there-out true n ms e = rw (without-it n (bytes "localizations") e ms)
+there-out false n ms e = let z : _≡_ {A = ℕ} 0 1 = cc in absurd (omega arith)
+
+seek-based : (root : Bool) (n : Name) (ms : Members) → isOut root n ≡ false → seek n (basedAll root ms) ≡ seek n ms
+seek-based true n ms e = without-other n (bytes "localizations") e ms
+seek-based false n ms e = refl
+
+pub there-found : (root : Bool) (n : Name) (ms : Members) → isOut root n ≡ false → {p : Property} → seek n ms ≡ some p
+    → true ≡ isThere (seek n (basedAll root ms))
+there-found root n ms e h = rw (seek-based root n ms e, h)
+
+pub there-none : (root : Bool) (n : Name) (ms : Members) → isOut root n ≡ false → seek n ms ≡ none → false ≡ isThere (seek n (basedAll root ms))
+there-none root n ms e h = rw (seek-based root n ms e, h)
+
+-- ---- what an entry adds ----
+
+-- null removes, another value is set
+pub change-null : (d : Doc) → kindOf d ≡ 1 → changeOf d ≡ remove
+change-null (scalar kind token) e = rw (eq-eqb kind 1 e)
+change-null (array ms) e = absurd (omega arith)
+change-null (object ms) e = absurd (omega arith)
+
+pub change-set : (d : Doc) → (kindOf d ≡ 1 → ⊥) → changeOf d ≡ set d
+change-set (scalar kind token) ne = rw (ne-eqb kind 1 ne)
+change-set (array ms) ne = refl
+change-set (object ms) ne = refl
+
+pub adds-null : (ms : Members) (p : Pointer) (d : Doc) → kindOf d ≡ 1 → adds ms (entry p (changeOf d)) ≡ none
+adds-null ms (last n) d e = rw (change-null d e)
+adds-null ms (down n p) d e = refl
+
+pub adds-down : (ms : Members) (p : Pointer) (c : Change) {n : Name} {q : Pointer} → p ≡ down n q → adds ms (entry p c) ≡ none
+adds-down ms p c e = rw e
+
+-- it ends there and is not null: is there a member of the name?
+module _ (ms : Members) (p : Pointer) (d : Doc) {there : Bool} (ends : p ≡ last (firstPart p)) (some-value : kindOf d ≡ 1 → ⊥)
+    (is : there ≡ isThere (seek (firstPart p) ms)) where
+  pub adds-last : adds ms (entry p (changeOf d)) ≡ cond (not there) (some d) none
+  adds-last = rw (ends, change-set d some-value, is) (go (seek (firstPart p) ms))
+    where
+      go : (o : Option Property) → freshly o d ≡ cond (not (isThere o)) (some d) none
+      go none = refl
+      go (some q) = refl
+
+-- the part of an entry's key at which a cursor stands
+pub at-part : (t : List ℕ) (parts : ℕ) {table : List ℕ} {row : ℕ} {h : Forest} (key : List ℕ) (c : Cursor) → KnownAt table row h
+    → key ≡ partOf t (nameStartIn table row) (nameEndIn table row) → pointerOf (rest key c) ≡ strip parts (pointerOf (decode key))
+    → pointerOf (rest key c) ≡ pointerIn t parts h
+at-part t parts key c v k e = e ∙ rw (k, value-row v .name-start, value-row v .name-end)
+
+-- the same of the entry, by an answer
+pub adds-is : (ms : Members) {p q : Pointer} (c : Change) {o : Option Doc} → p ≡ q → adds ms (entry p c) ≡ o → adds ms (entry q c) ≡ o
+adds-is ms c e f = rw e at f
+
+-- ---- one member, written or not ----
+
+pub passed-none : {old : List ℕ} (s : Spot) {o : Option Doc} {label : List ℕ} → length old < full → o ≡ none → Passed old s o label old s
+passed-none s fits e = rw e (record { wrote = wrote-none (s .to) fits; next = refl })
+
+pub passed-some : {old : List ℕ} {s : Spot} {o : Option Doc} {label : List ℕ} (d : Doc) {one two : List ℕ} {p q : ℕ} → o ≡ some d
+    → Wrote old (s .to) (headOf 7 (s .first) label) one p → Wrote one p (written d) two q → Passed old s o label two (record { to = q; first = false })
+passed-some {s = s} {label = label} d e a b = rw e (record { wrote = wrote-then (headOf 7 (s .first) label) (written d) a b; next = refl })

@@ -1,0 +1,168 @@
+-- Laws of values that are written as the entries of a run leave them:
+--     ends-by, no-end           whether the first entry of a run ends with the part at hand
+--     stays-out, stays-ends, stays-goes     what becomes of a member, by the run that is between two bounds
+--     restBy, patch-turn, patch-end         a walk along the members of an object, and the members that are added
+--     idle-value                            a value of which nothing is said
+-- Assumes nothing.
+use Prim.Native.Nat.{ℕ, _+_, _≤_, _<_}
+use mathlib.Core.Path.{_≡_, refl, sym, ap, _∙_}
+use mathlib.Core.Bool.{Bool, true, false}
+use mathlib.Core.List.{List, _++_}
+use mathlib.Core.Option.{Option, none, some}
+use native.Mathlib.Omega.{arith}
+use borrow.Author.Tests.{eqb-true}
+use Rattle.text.specs.Tree.{Forest}
+use Rattle.text.specs.Tree as T
+use Rattle.text.specs.Firsts.{HasFirst, nameStart, nameEnd, restAt}
+use Rattle.text.specs.Strings.{nameOf}
+use Rattle.text.specs.Doc.{Name, Doc, Members, empty, member, membersOf, labelAt, docOf}
+use Rattle.text.specs.Writing.{writtenMembers}
+use Rattle.text.proofs.Promise.{members-first, members-none}
+use Rattle.json.specs.Rows.{belowIn}
+use Rattle.contact.specs.Pointer.{Pointer, last, down, pointerOf, firstPart}
+use Rattle.contact.specs.Patch.{Change, Entry, changeOf, mine, under, kept, applied}
+use Rattle.contact.proofs.Patching.Untouched.{applied-nil}
+use Rattle.patch.specs.Pointers.{strip}
+use Rattle.patch.specs.Entries.{stripped}
+use Rattle.patch.specs.Runs.{InOrder}
+use Rattle.patch.specs.Written.{Wrote}
+use Rattle.patch.specs.Patched.{Said, based, basedAll, isOut, keptBy, stays, pointerIn, isLast, isEnd, endsFirst, idle, piece, since, Passed}
+use Rattle.patch.specs.Parts.{Goes}
+use Rattle.patch.specs.declared.parts.Onward.{Onward}
+use Rattle.patch.specs.declared.parts.Onward.the-variants.{Last, Part}
+use Rattle.patch.specs.declared.writing.Spot.{Spot}
+use Rattle.patch.proofs.Putting.Bytes.{left-on, left-as, left-last}
+use Rattle.patch.proofs.Putting.Walks.{Walk, walk-here, walk-on, walk-end}
+use Rattle.patch.proofs.Listing.Members.{Middle, run-ends, Deep, deep-none, deep, deep-mine, deep-under, deep-ascending, Named}
+use Rattle.patch.proofs.Putting.Kept.{linked, kept-linked}
+use Rattle.patch.proofs.Putting.Additions.{memberOf, First, none-said}
+
+-- ---- the first entry of a run ----
+
+pub goes-last : {p q : Pointer} (key : List ℕ) (o : Onward) → p ≡ q → Goes key p o → isLast q ≡ isEnd o
+goes-last {p} key Last e f = rw (← e, f)
+goes-last {p} key (Part c) e f = rw (← e, f)
+
+pub ends-by : (t : List ℕ) {table rows : List ℕ} {lo hi parts : ℕ} {ms : Members} {r : Bool} (f : First t table rows lo hi parts ms)
+    → isLast (pointerIn t parts (f .tree)) ≡ r → r ≡ endsFirst (stripped parts ms)
+unfolding stripped
+ends-by t f e = rw (f .is) (sym e)
+
+pub no-end : {t table rows : List ℕ} {lo hi parts : ℕ} {ms : Members} → Said t table rows lo hi parts ms → hi ≤ lo
+    → false ≡ endsFirst (stripped parts ms)
+unfolding stripped
+no-end s h = rw (none-said (s .listed) h)
+
+last-ends : (p : Pointer) → isLast p ≡ true → p ≡ last (firstPart p)
+last-ends (last n) e = refl
+last-ends (down n p) e = let z : _≡_ {A = ℕ} 0 1 = cc in absurd (omega arith)
+
+down-goes : (p : Pointer) → isLast p ≡ false → (q : Pointer) × (p ≡ down (firstPart p) q)
+down-goes (last n) e = let z : _≡_ {A = ℕ} 0 1 = cc in absurd (omega arith)
+down-goes (down n p) e = (p, refl)
+
+-- ---- what becomes of a member ----
+
+pub stays-out : (root : Bool) (n : Name) (es : List Entry) (d : Doc) → isOut root n ≡ true → stays root n es d ≡ none
+unfolding stays
+stays-out root n es d e = rw e
+
+stays-by : (root : Bool) (n : Name) (es : List Entry) (d : Doc) → isOut root n ≡ false → stays root n es d ≡ keptBy (mine n es) (applied d (under n es))
+unfolding stays
+stays-by root n es d e = rw e
+
+module _ {t table rows : List ℕ} {lo hi parts : ℕ} {n : Name} {ms : Members} (m : Middle t table rows lo hi parts n ms) (root : Bool) (d : Doc)
+    (kept-in : isOut root n ≡ false) where
+  -- its first pointer ends there: the entry decides
+  pub stays-ends : (f : First t table rows lo hi parts (m .run)) → true ≡ endsFirst (stripped parts (m .run))
+      → stays root n (stripped parts ms) d ≡ keptBy (some (changeOf (docOf t (f .tree)))) (applied d (under n (stripped parts ms)))
+  unfolding stripped
+  stays-ends f e =
+      let g = f .tree in
+      let key = nameOf t (nameStart g) (nameEnd g) in
+      let label = labelAt t (nameStart g) (nameEnd g) in
+      let ends : true ≡ isLast (pointerIn t parts g) = e ∙ ap (λ (l : Members). endsFirst (stripped parts l)) (f .is) in
+      let names : Named n (stripped parts (memberOf t g (f .more))) = rw (f .is) at (m .names) in
+      let its : mine n (stripped parts (memberOf t g (f .more))) ≡ some (changeOf (docOf t g)) =
+      run-ends parts n key label (docOf t g) (f .more) names (last-ends (pointerIn t parts g) (sym ends)) in
+      stays-by root n (stripped parts ms) d kept-in
+      ∙ ap (λ (o : Option Change). keptBy o (applied d (under n (stripped parts ms))))
+      (m .its-mine ∙ ap (λ (l : Members). mine n (stripped parts l)) (f .is) ∙ its)
+
+  -- it goes on, or there is none: the run is for the member's value, one part further
+  goes-deep : false ≡ endsFirst (stripped parts (m .run)) → Deep parts n (m .run)
+  unfolding stripped
+  goes-deep e = go (m .run) (m .said .ascending) (m .names) e
+    where
+      go : (ls : Members) → InOrder (stripped parts ls) → Named n (stripped parts ls) → false ≡ endsFirst (stripped parts ls) → Deep parts n ls
+      go empty a h q = deep-none
+      go (member key label v ls) a h q =
+          let g = down-goes (strip parts (pointerOf key)) (sym q) in
+          deep parts n key label v ls (g .0) a h (g .1)
+
+  module _ (e : false ≡ endsFirst (stripped parts (m .run))) where
+    pub stays-goes : stays root n (stripped parts ms) d ≡ some (applied d (stripped (parts + 1) (m .run)))
+    stays-goes =
+        let h = goes-deep e in
+        stays-by root n (stripped parts ms) d kept-in
+        ∙ rw (m .its-mine, m .its-under, deep-mine parts n h, deep-under parts n h)
+
+    pub said-further : Said t table rows lo hi (parts + 1) (m .run)
+    said-further = record { listed = m .said .listed; ascending = deep-ascending parts n (goes-deep e) (m .said .ascending) }
+
+-- ---- the members of an object ----
+
+-- the bytes from the values vs on, with the members `more` after them
+abbrev pub restBy : (t : List ℕ) → (root : Bool) → List Entry → (more : Members) → Forest → (first : Bool) → List ℕ
+restBy t root es more vs first = writtenMembers (kept (basedAll root (membersOf t vs)) es more) first
+
+module _ (t : List ℕ) (root : Bool) (es : List Entry) (more : Members) where
+  rest-first : (g : Forest) → HasFirst g → (first : Bool)
+      → let o = stays root (nameOf t (nameStart g) (nameEnd g)) es (docOf t g) in
+      restBy t root es more g first ≡ piece o first (labelAt t (nameStart g) (nameEnd g)) ++ restBy t root es more (restAt g) (since o first)
+  rest-first g s first =
+      let n = nameOf t (nameStart g) (nameEnd g) in
+      let label = labelAt t (nameStart g) (nameEnd g) in
+      ap (λ (ms : Members). writtenMembers (kept (basedAll root ms) es more) first) (members-first t g s)
+      ∙ ap (λ (ms : Members). writtenMembers ms first) (kept-linked root n label (docOf t g) (membersOf t (restAt g)) es more)
+      ∙ linked (stays root n es (docOf t g)) n label (kept (basedAll root (membersOf t (restAt g))) es more) first
+
+  rest-none : (first : Bool) → restBy t root es more T.none first ≡ writtenMembers more first
+  rest-none first = rw (members-none t) (go root)
+    where
+      go : (b : Bool) → writtenMembers (kept (basedAll b empty) es more) first ≡ writtenMembers more first
+      go true = refl
+      go false = refl
+
+  module _ {table : List ℕ} {end : ℕ} {old : List ℕ} {at : ℕ} {total new : List ℕ} {s : Spot} {m : ℕ}
+      (w : Walk table end (restBy t root es more) old at total new (s .to) (s .first) m) where
+    -- one member more is written, or left out
+    pub patch-turn : (h : m < end) {new′ : List ℕ} {s′ : Spot} → let g = w .values in
+        Passed new s (stays root (nameOf t (nameStart g) (nameEnd g)) es (docOf t g)) (labelAt t (nameStart g) (nameEnd g)) new′ s′
+        → (next : ℕ) → next ≡ m + 1 + belowIn table m → Walk table end (restBy t root es more) old at total new′ (s′ .to) (s′ .first) next
+    patch-turn h p next e =
+        let g = w .values in
+        let o = stays root (nameOf t (nameStart g) (nameEnd g)) es (docOf t g) in
+        walk-on w h next e
+        (rw (p .next)
+        (left-on (piece o (s .first) (labelAt t (nameStart g) (nameEnd g))) (restBy t root es more (restAt g) (since o (s .first)))
+        (left-as (rest-first g (walk-here w h .some) (s .first)) (w .left)) (p .wrote)))
+
+    -- all are
+    pub patch-end : end ≤ m → {last : List ℕ} {r : ℕ} → Wrote new (s .to) (writtenMembers more (s .first)) last r → Wrote old at total last r
+    patch-end h a = left-last (writtenMembers more (s .first)) (left-as (rest-none (s .first)) (walk-end w h)) a
+
+-- ---- values that stay as they are ----
+
+idle-by : (root : Bool) (lo hi : ℕ) → idle root lo hi ≡ true → (root ≡ false) × (lo ≡ hi)
+idle-by true lo hi e = let z : _≡_ {A = ℕ} 0 1 = cc in absurd (omega arith)
+idle-by false lo hi e = (refl, eqb-true lo hi e)
+
+-- nothing is said of them
+pub idle-value : {t table rows : List ℕ} (root : Bool) {lo hi parts : ℕ} {ms : Members} (d : Doc) → idle root lo hi ≡ true
+    → Said t table rows lo hi parts ms
+    → applied (based root d) (stripped parts ms) ≡ d
+unfolding stripped
+idle-value root {lo} {hi} d e s =
+    let h = idle-by root lo hi e in
+    rw (h .0, none-said (s .listed) (omega (arith, h .1))) (applied-nil d)

@@ -1,0 +1,12 @@
+-- `patch::writing::put_card` meets its contract. Assumes nothing.
+use Rattle.patch.proofs.Putting.Cards.{stripped-all}
+use borrow.Author.Needs.{needs}
+use Rattle.patch.proofs.writing.put_card.Statement.{statement}
+use Rattle.patch.proofs.writing.put_card.Tie as tie
+
+returns : tie.Need-returns
+returns c =
+    λ g ms v l s. rw (← stripped-all ms) (c .before .before .put-value .ensures g ms v (record { listed = l; ascending = s }))
+
+pub put-card-spec : {M : Type 1} → statement M
+put-card-spec = tie.close (tie.spec (λ c κs. search needs) (λ c. search needs) returns)

@@ -1,0 +1,12 @@
+pub mod Parts
+pub mod Pointers
+pub mod Children
+pub mod Entries
+pub mod Paths
+pub mod Runs
+pub mod Written
+pub mod Copied
+pub mod Language
+pub mod Conditions
+pub mod Patched
+pub mod Drafts

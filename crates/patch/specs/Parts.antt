@@ -1,0 +1,43 @@
+-- What a cursor over a key still has of its part, and what follows the part. Assumes nothing: these are definitions.
+use Prim.Native.Nat.{ℕ}
+use mathlib.Core.Path.{_≡_}
+use mathlib.Core.Bool.{Bool, true, false, cond}
+use mathlib.Core.List.{List, [], _∷_}
+use lib.Dec.{eqb}
+use Rattle.text.specs.Doc.{Name}
+use Rattle.json.specs.Cursors.{rest}
+use Rattle.json.specs.declared.decode.Cursor.{Cursor}
+use Rattle.json.specs.declared.decode.Next.{Next}
+use Rattle.json.specs.declared.decode.Next.the-variants.{Byte, Over}
+use Rattle.contact.specs.Pointer.{Pointer, last, down, pointerOf, firstPart}
+use Rattle.patch.specs.declared.parts.Onward.{Onward}
+use Rattle.patch.specs.declared.parts.Onward.the-variants.{Last, Part}
+
+-- the first part of decoded bytes that are left of a key
+abbrev pub partLeft : List ℕ → Name
+partLeft bs = firstPart (pointerOf bs)
+
+-- what an answer about the part at a cursor stands for
+abbrev pub partUnread : List ℕ → Next → Name
+partUnread key (Byte b c) = b ∷ partLeft (rest key c)
+partUnread key Over = []
+
+-- what is left of a part whose `~` has just been read
+unfoldable pub tildeLeft : List ℕ → Name
+tildeLeft [] = 126 ∷ []
+tildeLeft (b ∷ bs) = cond (eqb b 49) (47 ∷ partLeft bs) (cond (eqb b 48) (126 ∷ partLeft bs) (126 ∷ partLeft (b ∷ bs)))
+
+-- what is left at a cursor of a part of a pointer, or of a whole name
+abbrev pub nameLeft : (part : Bool) → List ℕ → Cursor → Name
+nameLeft true key c = partLeft (rest key c)
+nameLeft false key c = rest key c
+
+-- what an answer about a part or a name stands for
+abbrev pub nameUnread : (part : Bool) → List ℕ → Next → Name
+nameUnread part key (Byte b c) = b ∷ nameLeft part key c
+nameUnread part key Over = []
+
+-- a pointer that ends with its first part, or goes on where the cursor stands
+abbrev pub Goes : List ℕ → Pointer → Onward → Type 0
+Goes key p Last = p ≡ last (firstPart p)
+Goes key p (Part c) = p ≡ down (firstPart p) (pointerOf (rest key c))

@@ -1,0 +1,89 @@
+// The localized card, written for a lent output: all entries of the language's PatchObject, or a refusal from 21 to 27.
+use crate::conditions::Condition;
+use crate::conditions::first_broken;
+use crate::entries::MOST_ENTRIES;
+use crate::entries::collect;
+use crate::language::patch_row;
+use crate::sort::sort_rows;
+use crate::writing::put_card;
+use contact::LocalRefusal;
+use json::lookup::Found;
+use json::lookup::next_row;
+use json::rows::OBJECT;
+use json::rows::kind;
+ghost use mathlib.Core.Path.{_≡_};
+ghost use Prim.Native.Nat.{_≤_, _<_};
+ghost use lib.ListN.{length};
+ghost use Rattle.patch.specs.Entries.{mostEntries};
+ghost use Rattle.patch.specs.Drafts.{fittingOf, PutSorted, Makes, MakesFor};
+
+// So many bytes were written, or nothing that counts.
+pub enum Attempt {
+    Bytes(usize),
+    Refused(LocalRefusal),
+}
+
+// The card as the listed entries leave it, which do not clash: they are sorted, and then it is written in one walk.
+fn put_sorted(
+    card: &[u8],
+    card_table: &[u32],
+    text: &[u8],
+    table: &[u32],
+    rows: &mut [u32],
+    n: usize,
+    out: &mut [u8],
+) -> usize
+    requires { ⌜ n ≤ length (now rows) ⌝ }
+    requires { ⌜ n ≤ mostEntries ⌝ }
+    ensures { λ r. ⌜ PutSorted (now (card .entry)) (now («card_table» .entry)) (now (text .entry)) (now (table .entry)) (now (rows .entry)) n (now (out .entry)) (now (out .exit)) r ⌝ }
+{
+    let mut scratch = [0u32; MOST_ENTRIES];
+    sort_rows(text, table, rows, &mut scratch, n);
+    put_card(card, card_table, text, table, rows, n, out)
+}
+
+// So many bytes, if they have room; else 27.
+fn fitting(count: usize, room: usize) -> Attempt
+    ensures { λ r. ⌜ r ≡ fittingOf count room ⌝ }
+{
+    if room < count {
+        return Attempt::Refused(LocalRefusal::Short(count));
+    }
+    Attempt::Bytes(count)
+}
+
+// The card as the PatchObject at a row of the patch leaves it, if no condition from 22 to 27 is broken.
+fn compose(
+    card: &[u8],
+    card_table: &[u32],
+    text: &[u8],
+    table: &[u32],
+    patch: usize,
+    out: &mut [u8],
+) -> Attempt
+    requires { ⌜ patch < length (now table) ⌝ }
+    ensures { λ r. ⌜ Makes (now (card .entry)) (now («card_table» .entry)) (now (text .entry)) (now (table .entry)) patch (now (out .entry)) (now (out .exit)) r ⌝ }
+{
+    let first = patch + 1;
+    let end = next_row(table, patch);
+    let mut rows = [0u32; MOST_ENTRIES];
+    let n = collect(table, first, end, &mut rows);
+    if let Condition::Broken(r) = first_broken(card, card_table, text, table, &rows, n) {
+        return Attempt::Refused(r);
+    }
+    let count = put_sorted(card, card_table, text, table, &mut rows, n, out);
+    fitting(count, out.len())
+}
+
+// The card as the PatchObject that it has for a language leaves it.
+pub fn compose_for(text: &[u8], table: &[u32], language: &[u8], out: &mut [u8]) -> Attempt
+    ensures { λ r. ⌜ MakesFor (now (text .entry)) (now (table .entry)) (now (language .entry)) (now (out .entry)) (now (out .exit)) r ⌝ }
+{
+    let Found::Row(patch) = patch_row(text, table, language) else {
+        return Attempt::Refused(LocalRefusal::NoLanguage);
+    };
+    if kind(table, patch) != OBJECT {
+        return Attempt::Refused(LocalRefusal::NoLanguage);
+    }
+    compose(text, table, text, table, patch, out)
+}

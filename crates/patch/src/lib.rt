@@ -1,0 +1,25 @@
+// Localizing a card: the patch of a language applied to it. From the single part of a pointer up:
+//   parts       one part of a pointer, read off a key as the key is decoded
+//   pointers    keys as pointers: prefixes, order, bad tildes
+//   children    the members of an object by their rows
+//   paths       where a pointer leads
+//   entries     the entries of a PatchObject, listed
+//   conditions  which of 22 to 26 a patch breaks first
+//   sort        rows of entries, in the order of their pointers
+//   runs        where a name parts a run of sorted entries
+//   output      bytes, runs of a text and names, counted always and stored where they fit
+//   writing     values written as they are, or as the entries of a patch leave them
+//   language    the PatchObject of a language
+//   compose     the localized card, written or refused
+mod children;
+pub mod compose;
+mod conditions;
+mod entries;
+mod language;
+mod output;
+mod parts;
+mod paths;
+mod pointers;
+mod runs;
+mod sort;
+mod writing;

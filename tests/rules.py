@@ -1,0 +1,81 @@
+"""Holds the examples of docs/RULES.md (section 1.3 has their notation) to the second implementation, and the files that it names to what is there:
+python3 tests/rules.py"""
+import os
+import re
+import sys
+
+from store import ROOT
+
+import intake
+from rulings import MUST
+
+ROW = re.compile(r"^\| (read|judge|localize) \| (.*) \| (.*) \|$", re.M)
+PIECE = re.compile(r"(?:([\d,]+) × )?`([^`]*)`")
+LENT = re.compile(r", (?:(table) of (\d+) words|(output) of (\d+) bytes|(language) `([^`]*)`)$")
+
+
+def bytes_of(piece):
+    """What a piece in backquotes stands for."""
+    text = piece.encode()
+    if text.startswith(b"{M"):
+        text = b"{" + MUST + text[2:]
+    return re.sub(rb"<([0-9A-F]{2})>", lambda found: bytes([int(found[1], 16)]), text)
+
+
+def case_of(said):
+    """The text of an input, and what is lent with it."""
+    words, room, language = 12288, None, b"de"
+    lent = LENT.search(said)
+    if lent:
+        said = said[:lent.start()]
+        words = int(lent[2]) if lent[1] else words
+        room = int(lent[4]) if lent[3] else room
+        language = lent[6].encode() if lent[5] else language
+    text = b"".join(bytes_of(piece) * int((count or "1").replace(",", "")) for count, piece in PIECE.findall(said))
+    return text, words, len(text) if room is None else room, language
+
+
+def answer_of(service, text, words, room, language):
+    """An answer in the page's words."""
+    if service == "localize":
+        number, second, written, _, output = intake.localize(text, language, words, room)
+    else:
+        number, second, _ = getattr(intake, service)(text, words)
+    if number == 0:
+        return bytes(output[:written]) if service == "localize" else f"{second} row" + "s" * (second != 1)
+    return f"{number} at {second}" if 2 <= number <= 14 and number != 7 else f"{number}, {second}"
+
+
+def examples(page):
+    """Each example: its service, its case, and the answer that the page gives."""
+    for service, said, wanted in ROW.findall(page):
+        yield service, case_of(said), bytes_of(wanted.strip("`")) if wanted.startswith("`") else wanted
+
+
+def missing(page):
+    """The files that the page names, `crate/specs/{One,Other}.antt`, and nobody has."""
+    for folder, names in re.findall(r"`(\w+/specs/)\{?([\w,]+)\}?\.antt`", page):
+        for name in names.split(","):
+            if not os.path.exists(os.path.join(ROOT, "crates", folder, name + ".antt")):
+                yield f"{folder}{name}.antt"
+
+
+def main():
+    count = faults = 0
+    with open(os.path.join(ROOT, "docs", "RULES.md"), encoding="utf-8") as file:
+        page = file.read()
+    for name in missing(page):
+        faults += 1
+        print(f"{name} is nowhere")
+    for service, case, wanted in examples(page):
+        answer = answer_of(service, *case)
+        count += 1
+        if answer != wanted:
+            faults += 1
+            print(f"{service} {case[0][:200]!r}: the page says {wanted}, answered {answer}")
+    print(f"rules: {count} examples, {faults} faults")
+    return 1 if faults or not count else 0
+
+
+if __name__ == "__main__":
+    sys.exit(main())

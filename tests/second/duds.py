@@ -1,0 +1,110 @@
+"""A stored case against each wrong program: the must-fail edits that it tells apart, the case with the right answer, and what such a program would answer.
+
+`OTHER` stands for other rows, other bytes or another sum, with the same first two numbers. An edit that no call shows is in UNSEEN, with the reason.
+tests/docs.py sees that every must-fail edit is here.
+"""
+from rulings import OK, RULINGS, SPECIMENS, judge, localize, read, whole
+
+OTHER = "other contents"
+GIVEN = b'"name":{"full":"A","components":[{"kind":"given","value":"A"}]}'
+
+
+def patch(entries, own=b""):
+    return b"{.." + own + b',"localizations":{"de":{' + entries + b"}}}"
+
+
+DUDS = [
+    # the duds of the rules paper
+    ("bezinkol/refuses_all contact/judge_refuses_all bezinkol/fixed_answer contact/judge_fixed_answer", judge(b"{..}", OK), (12, 0)),
+    ("contact/judge_passes_all contact/judge_fixed_answer bezinkol/fixed_answer", judge(b'{..,"kind":5}', (11, 50)), OK),
+    ("bezinkol/invented_rows contact/judge_invented_rows json/one_row_more", judge(b'{..,"x":[1,2,3]}', OK), OTHER),
+    ("card/localize_refuses_all contact/refuses_all", localize(patch(b""), b"{..}"), (21, 0)),
+    ("contact/refuses_by_28", localize(patch(b'"z":1'), b'{..,"z":1}'), (28, 12)),
+    ("patch/unpatched contact/unpatched contact/nothing_said", localize(patch(b'"z":2', b',"z":1'), b'{..,"z":2}'), b'{..,"z":1}'),
+    ("card/nothing_done", localize(patch(b'"z":null', b',"z":1'), b"{..}"), b""),
+    ("bezinkol/invented_length contact/length_plus_one bezinkol/words_swapped text/second_and_written_swapped",
+     localize(patch(b'"zz":"y"'), b'{..,"zz":"y"}'), OTHER),
+    # errors trainees hand in
+    ("json/names_undecoded text/names_undecoded", judge(rb'{..,"\u0075id":"u2"}', (4, 43)), OK),
+    ("json/last_of_two_names text/repeated_accepted", judge(b'{..,"uid":"u2"}', (4, 43)), OK),
+    ("patch/order_decides contact/half_patched", localize(patch(b'"n":{},"n/x":1'), (24, 0)), b'{..,"n":{"x":1}}'),
+    ("patch/order_decides contact/half_patched", localize(patch(b'"no/a":1,"y/b":1', b',"y":{}'), (26, 0)), b'{..,"y":{"b":1}}'),
+    ("patch/order_decides", localize(patch(b'"y/b":1,"no/a":1', b',"y":{}'), (26, 0)), OK),
+    ("patch/tilde_zero_is_slash contact/tilde_undone_twice", localize(patch(b'"~01":1'), b'{..,"~1":1}'), b'{..,"/":1}'),
+    ("card/never_judged contact/never_judged", localize(
+        patch(b'"name/full":null,"name/components":null', b"," + GIVEN), (28, 14)), b'{..,"name":{}}'),
+    ("patch/prefix_by_bytes contact/prefix_by_bytes", localize(
+        patch(b'"emails/e1":null,"emails/e10":null', b',"emails":{"e1":{"address":"a"},"e10":{"address":"b"}}'), b'{..,"emails":{}}'), (24, 0)),
+    ("card/output_left_dirty laws/first_word_left", localize(patch(b'"uid":null'), (28, 12), room=100), OTHER),
+    # reading
+    ("text/refuses_all", read(b"1", OK), (2, 1)),
+    ("json/lone_surrogate text/lone_low_taken", read(rb'"\uDC00"', (3, 1)), OK),
+    ("json/noncharacter_range text/noncharacter_taken", read(b'"\xef\xb7\xaf"', (3, 1)), OK),
+    ("json/overlong_form", read(b'"\xe0\x9f\xbf"', (3, 1)), OK),
+    ("text/overlong_taken", read(b'"\xc1\x80"', (3, 1)), OK),
+    ("text/place_of_token", read(b"[truu]", (2, 4)), (2, 1)),
+    ("text/later_fault", read(rb'"\uD800\u00G0"', (3, 1)), (2, 11)),
+    ("text/six_before_five", read(b"[" * 32 + b"0," * 2016 + b"[", (5, 4064)), (6, 4064)),
+    ("json/depth_33", read(b"[" * 33 + b"]" * 33, (5, 32)), OK),
+    ("text/small_table_first", read(b'{"a":1,"a":2}', (4, 7), words=6), (7, 3)),
+    ("text/row_end text/row_words_swapped", read(b'{"a": [1] }', OK), OTHER),
+    ("text/form_feed", read(b"1\x0c", (2, 1)), OK),
+    ("text/leading_zeros", read(b"[00]", (2, 2)), OK),
+    ("text/nul_ends", read(b"1\x00x", (2, 1)), OK),
+    ("text/closing_swapped", read(b"[1}", (2, 2)), OK),
+    ("text/content_undecoded", judge(rb'{..,"kind":"gro\u0075p","members":{"a":true}}', OK), (14, 0)),
+    ("text/label_unquoted", localize(patch(b"", b',"z":1'), b'{..,"z":1}'), b"{..,z:1}"),
+    # judging
+    ("contact/judge_not_nested", judge(b'{..,"name":{"full":"A","isOrdered":1}}', (11, 74)), OK),
+    ("contact/judge_wrong_row", judge(b'{..,"x":[1,[2]],"kind":5}', (11, 62)), (11, 48)),
+    ("contact/leap_every_four", judge(b'{..,"created":"1900-02-29T00:00:00Z"}', (13, 53)), OK),
+    ("contact/pref_to_101", judge(b'{..,"phones":{"p":{"number":"5","pref":101}}}', (13, 78)), OK),
+    ("contact/type_exchanged", judge(b'{..,"prodId":"p"}', OK), (11, 52)),
+    ("contact/name_misspelt", judge(b'{..,"addresses":{"a":{"coordinates":5}}}', (11, 75)), OK),
+    ("contact/optional_for_mandatory", judge(b'{..,"phones":{"p":{}}}', (12, 57)), OK),
+    ("contact/separator_misspelt", judge(b'{..,"name":{"components":[{"kind":"given","value":"A"}],"defaultSeparator":","}}', (14, 50)), OK),
+    ("contact/members_without_group contact/rule_left_out", judge(b'{..,"members":{"a":true}}', (14, 0)), OK),
+    ("card/name_with_neither contact/name_with_neither", judge(b'{..,"name":{}}', (14, 50)), OK),
+    ("contact/wrong_kind_counts", judge(b'{..,"name":{"full":5}}', (14, 50)), (11, 58)),
+    ("contact/id_as_written", judge(rb'{..,"addresses":{"\u0061":{}}}', OK), (13, 65)),
+    ("contact/fraction_of_noughts", judge(b'{..,"updated":"2010-10-10T10:10:10.0Z"}', (13, 53)), OK),
+    # localizing
+    ("contact/prefix_missed", localize(patch(b'"name":null,"name/full":"B"', b',"name":{"full":"A"}'), (24, 0)), b"{..}"),
+    ("contact/array_entered", localize(patch(b'"x/0":1', b',"x":[]'), (25, 0)), OK),
+    ("contact/lost_before_array", localize(patch(b'"no/a":1,"x/0":1', b',"x":[]'), (25, 0)), (26, 0)),
+    ("patch/added_in_text_order contact/unsorted", localize(patch(b'"b":1,"a":2'), b'{..,"a":2,"b":1}'), b'{..,"b":1,"a":2}'),
+    ("laws/prefix_comes_after", localize(patch(b'"ab":1,"a":2'), b'{..,"a":2,"ab":1}'), b'{..,"ab":1,"a":2}'),
+    ("text/capital_hex", localize(patch(rb'"\u001F":1'), rb'{..,"\u001f":1}'), rb'{..,"\u001F":1}'),
+    ("contact/removes_only", localize(patch(b'"z":2', b',"z":1'), b'{..,"z":2}'), b"{..}"),
+    ("contact/name_respelled", localize(patch(b'"z":2', rb',"\u007a":1'), rb'{..,"\u007a":2}'), b'{..,"z":2}'),
+    ("contact/room_one_short", localize(patch(b""), b"{..}", room=len(whole(b"{..}"))), (27, len(whole(b"{..}")))),
+    ("contact/language_ignored", localize(b'{..,"localizations":{"":{"z":1},"de":{"z":2}}}', b'{..,"z":2}'), b'{..,"z":1}'),
+    ("contact/all_own", localize(patch(b'"y/a":1', b',"y":{}'), b'{..,"y":{"a":1}}'), (23, 0)),
+    ("contact/second_numbers", localize(b"{..}", (21, 0)), (21, 1)),
+    ("contact/second_numbers", localize(patch(b'"kind":5'), (28, 11)), (28, 12)),
+    ("contact/localizations_kept", localize(patch(b""), b"{..}"), patch(b"")),
+    ("contact/start_moved", localize(
+        b'{"uid":"u1","@type":"Card","z":1,"version":"1.0","localizations":{"de":{"z":null}}}', b'{"uid":"u1","@type":"Card","version":"1.0"}'),
+     b'{"@type":"Card","version":"1.0","uid":"u1"}'),
+    ("contact/start_moved", localize(
+        b'{"@type":"Card","z":1,"uid":"u1","version":"1.0","localizations":{"de":{}}}', b'{"@type":"Card","z":1,"uid":"u1","version":"1.0"}'),
+     b'{"uid":"u1","@type":"Card","z":1,"version":"1.0"}'),
+    ("text/colon_left_out", localize(patch(b'"z":1'), b'{..,"z":1}'), b'{..,"z"1}'),
+    ("text/comma_before_first", localize(patch(b'"z":[1]'), b'{..,"z":[1]}'), b'{..,"z":[,1]}'),
+]
+
+UNSEEN = {
+    "contact/largest_key": "the key at fault is in no answer",
+    "contact/first_of_pair": "the key at fault is in no answer",
+    "patch/pair_made_up": "the rows of a clash are in no answer",
+    "contact/type_not_chosen": "no line of the table hangs on `@type`",
+    "bezinkol/output_unsaid": "an edit of what a contract says, not of a program",
+}
+
+# All inputs with an answer that a person wrote down.
+ASKED = RULINGS + SPECIMENS + [case for _, case, _ in DUDS]
+
+
+def edits():
+    """The must-fail edits that are told apart, or said to be unseen."""
+    return {edit for some, _, _ in DUDS for edit in some.split()} | set(UNSEEN)

@@ -1,0 +1,86 @@
+"""Runs the wrong programs: each must-fail edit of the code below `cases_run` is applied to a copy, and the copy's program, unproved, must miss a case that
+tests/second/duds.py has against it: python3 tests/try_duds.py [CRATE/EDIT ..]
+
+It takes some minutes and isn't part of tests/run. Edits of definitions make no program, and those of `bezinkol` are in no program of the kit.
+"""
+import glob
+import os
+import re
+import shutil
+import subprocess
+import sys
+import tempfile
+
+from store import ROOT, Case, answer_of, line_of
+
+from duds import DUDS, UNSEEN
+
+CALLED = {"read": "reading", "judge": "judging", "localize": "localizing"}
+CRATES = ("laws", "json", "patch", "card")
+WORDS = 600  # of a table: the interpreter takes so many steps and no more
+
+
+def code_edits():
+    """The edits of code: the crate, the name, the file, and what is to be replaced by what."""
+    for crate in CRATES:
+        for path in sorted(glob.glob(os.path.join(ROOT, "crates", crate, "must-fail", "*.edit"))):
+            with open(path, encoding="utf-8") as file:
+                said = file.read()
+            place = re.search(r"^file: (src/.*)$", said, re.M)
+            if place:
+                pairs = list(zip(re.findall(r"^old: (.*)$", said, re.M), re.findall(r"^new: (.*)$", said, re.M)))
+                yield f"{crate}/{os.path.basename(path)[:-len('.edit')]}", os.path.join("crates", crate, place[1]), pairs
+
+
+def cases_against(edit):
+    for edits, case, _ in DUDS:
+        if edit in edits.split():
+            extra = (case["room"], case["language"]) if case["service"] == "localize" else ()
+            yield Case(CALLED[case["service"]], min(case["words"], WORDS), case["text"], *extra)
+
+
+def write(path, text):
+    with open(path, "w", encoding="latin-1", newline="\n") as file:
+        file.write(text)
+
+
+def run(room, cases):
+    """Runs the copy's program on some cases."""
+    write(os.path.join(room, "crates", "cases_run", "stdin"), "".join(f"@{case.service}\n{line_of(case)}\n" for case in cases))
+    write(os.path.join(room, "crates", "cases_run", "stdout"), "".join(answer_of(case) + "\n" for case in cases))
+    return subprocess.run(["rt", "try", "cases_run"], cwd=room, stdin=subprocess.DEVNULL, capture_output=True, check=False)
+
+
+def told(room, edit, path, pairs):
+    """Does the program with the edit miss one of its cases?"""
+    with open(os.path.join(ROOT, path), encoding="utf-8") as file:
+        text = file.read()
+    for old, new in pairs:
+        assert text.count(old) == 1, (edit, old)
+        text = text.replace(old, new)
+    with open(os.path.join(room, path), "w", encoding="utf-8") as file:
+        file.write(text)
+    done = run(room, list(cases_against(edit)))
+    shutil.copy(os.path.join(ROOT, path), os.path.join(room, path))
+    return b"did not write what is expected" in done.stdout + done.stderr
+
+
+def main(wanted):
+    faults = count = 0
+    with tempfile.TemporaryDirectory() as room:
+        shutil.copytree(os.path.join(ROOT, "crates"), os.path.join(room, "crates"))
+        shutil.copy(os.path.join(ROOT, "crates.txt"), room)
+        tried = [one for one in code_edits() if one[0] not in UNSEEN and (not wanted or one[0] in wanted)]
+        if run(room, [case for edit, _, _ in tried for case in cases_against(edit)]).returncode:
+            sys.exit("wrong programs: the right one fails their cases")
+        for edit, path, pairs in tried:
+            count += 1
+            if not told(room, edit, path, pairs):
+                faults += 1
+                print(f"{edit}: the wrong program answers its cases rightly, or didn't run")
+    print(f"wrong programs: {count} run, {faults} not told apart")
+    return 1 if faults or not count else 0
+
+
+if __name__ == "__main__":
+    sys.exit(main(sys.argv[1:]))
