@@ -18,7 +18,7 @@ use Rattle.text.specs.Reader.{good, bad, Reader, scalarWith, scalarAt, closeOf,
 use Rattle.text.specs.declared.Token.the-variants.{End, No2, No3}
 use Rattle.text.specs.declared.Refusal.the-variants.{Grammar, Character, Repeated, Deep, Many}
 use Rattle.text.proofs.Laws.{value-parts}
-use Rattle.json.specs.Parts.{bracketOf, containerAt, itemsAt}
+use Rattle.json.specs.Parts.{containerOf, bracketOf, containerAt, itemsAt}
 use Rattle.json.specs.declared.containers.Container.{Container}
 use Rattle.json.specs.declared.containers.Container.the-variants.{Array, Object}
 
@@ -42,6 +42,31 @@ module _ (L : Limits) (t : List ℕ) (kind ns ne at n : ℕ) where
     unfolding scalarAt scalarWith
     scalar-no3 p e = rw (lt-leb _ _ h, e)
 
+-- ---- kinds ----
+
+-- where a byte begins a value, the text has not ended; and no kind is above 7
+pub kind-inside : (t : List ℕ) (at kind : ℕ) → kind ≡ kindBy (byteAt t at) → (kind ≡ 0 → ⊥) → at < length t
+unfolding kindBy
+kind-inside t at kind k h = elim (decLe (length t) at) [
+  | yes l ↦ absurd (h (k ∙ ap kindBy (List·getD-eq-default t 256 l)))
+  | no l ↦ omega arith
+]
+
+small-cond : (b : Bool) (x y : ℕ) → x < 8 → y < 8 → cond b x y < 8
+small-cond true x y p q = p
+small-cond false x y p q = q
+
+pub kind-small : (b : ℕ) → kindBy b < 8
+unfolding kindBy
+kind-small b =
+    small-cond (eqb b 110) 1 _ (omega arith)
+    (small-cond (eqb b 102) 2 _ (omega arith)
+    (small-cond (eqb b 116) 3 _ (omega arith)
+    (small-cond (eqb b 45) 4 _ (omega arith)
+    (small-cond (eqb b 34) 5 _ (omega arith)
+    (small-cond (eqb b 91) 6 _ (omega arith)
+    (small-cond (eqb b 123) 7 _ (omega arith) (small-cond (isDigit b) 4 0 (omega arith) (omega arith))))))))
+
 -- ---- a value by the kind of its first byte ----
 
 module _ (L : Limits) (t : List ℕ) (ns ne at n depth : ℕ) where
@@ -50,17 +75,24 @@ module _ (L : Limits) (t : List ℕ) (ns ne at n depth : ℕ) where
     unfolding valueWith
     value-none h = value-parts L t depth ns ne at n ∙ rw (← k, h)
 
-    pub value-array : kind ≡ 6 → valueAt L t depth ns ne at n ≡ arrayAt L t depth ns ne at n
+    value-array : kind ≡ 6 → valueAt L t depth ns ne at n ≡ arrayAt L t depth ns ne at n
     unfolding valueWith
     value-array h = value-parts L t depth ns ne at n ∙ rw (← k, h)
 
-    pub value-object : kind ≡ 7 → valueAt L t depth ns ne at n ≡ objectAt L t depth ns ne at n
+    value-object : kind ≡ 7 → valueAt L t depth ns ne at n ≡ objectAt L t depth ns ne at n
     unfolding valueWith
     value-object h = value-parts L t depth ns ne at n ∙ rw (← k, h)
 
-    pub value-scalar : (kind ≡ 0 → ⊥) → (kind ≡ 6 → ⊥) → (kind ≡ 7 → ⊥) → valueAt L t depth ns ne at n ≡ scalarAt L t kind ns ne at n
+    pub value-container : 6 ≤ kind → valueAt L t depth ns ne at n ≡ containerAt (containerOf kind) L t depth ns ne at n
+    value-container h = elim (decLe kind 6) [
+      | yes l ↦ let e : kind ≡ 6 = omega arith in value-array e ∙ rw e
+      | no l ↦ let e : kind ≡ 7 = omega (arith, k, kind-small (byteAt t at)) in value-object e ∙ rw e
+    ]
+
+    pub value-scalar : (kind ≡ 0 → ⊥) → kind < 6 → valueAt L t depth ns ne at n ≡ scalarAt L t kind ns ne at n
     unfolding valueWith
-    value-scalar h₁ h₂ h₃ = value-parts L t depth ns ne at n ∙ rw (← k, ne-eqb _ _ h₁, ne-eqb _ _ h₂, ne-eqb _ _ h₃)
+    value-scalar h l =
+        value-parts L t depth ns ne at n ∙ rw (← k, ne-eqb _ _ h, ne-eqb kind 6 (λ e. omega arith), ne-eqb kind 7 (λ e. omega arith))
 
 -- ---- containers ----
 
@@ -120,28 +152,3 @@ module _ (L : Limits) (t : List ℕ) (value : Reader) (done : Forest) (at n : �
       pub member-new : named t (nameOf t (at + 1) (end - 1)) done ≡ false → memberOf L t value done at n ≡ colonAt t value at end n
       unfolding memberOf memberWith
       member-new k = rw (eq-eqb _ _ h, e, u, k)
-
--- ---- kinds ----
-
--- where a byte begins a value, the text has not ended; and no kind is above 7
-pub kind-inside : (t : List ℕ) (at kind : ℕ) → kind ≡ kindBy (byteAt t at) → (kind ≡ 0 → ⊥) → at < length t
-unfolding kindBy
-kind-inside t at kind k h = elim (decLe (length t) at) [
-  | yes l ↦ absurd (h (k ∙ ap kindBy (List·getD-eq-default t 256 l)))
-  | no l ↦ omega arith
-]
-
-small-cond : (b : Bool) (x y : ℕ) → x < 8 → y < 8 → cond b x y < 8
-small-cond true x y p q = p
-small-cond false x y p q = q
-
-pub kind-small : (b : ℕ) → kindBy b < 8
-unfolding kindBy
-kind-small b =
-    small-cond (eqb b 110) 1 _ (omega arith)
-    (small-cond (eqb b 102) 2 _ (omega arith)
-    (small-cond (eqb b 116) 3 _ (omega arith)
-    (small-cond (eqb b 45) 4 _ (omega arith)
-    (small-cond (eqb b 34) 5 _ (omega arith)
-    (small-cond (eqb b 91) 6 _ (omega arith)
-    (small-cond (eqb b 123) 7 _ (omega arith) (small-cond (isDigit b) 4 0 (omega arith) (omega arith))))))))

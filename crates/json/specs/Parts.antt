@@ -2,6 +2,8 @@
 use Prim.Native.Nat.{ℕ, _+_, _-_, _*_, _≤_, _<_}
 use mathlib.Core.Path.{_≡_}
 use mathlib.Core.List.{List}
+use mathlib.Core.Bool.{cond}
+use lib.Dec.{eqb}
 use lib.ListN.{length}
 use lib.Seq.{sets}
 use Rattle.text.specs.Limits.{Limits, rowWords, base}
@@ -67,6 +69,10 @@ Closes kind ns ne at n (Next to after) old new r =
 Closes kind ns ne at n (Stop x) old new r = r ≡ Stop x
 
 -- ---- the two containers
+
+-- the container of a kind: an array, or else an object
+abbrev pub containerOf : (kind : ℕ) → Container
+containerOf kind = cond (eqb kind 6) Array Object
 
 -- a container's bracket
 abbrev pub bracketOf : Container → Bracket

@@ -12,7 +12,7 @@ ghost use lib.ListN.{length};
 ghost use Rattle.text.specs.Grammar as grammar;
 ghost use Rattle.text.specs.Tree as tree;
 ghost use Rattle.json.specs.Rows.{Word};
-ghost use Rattle.json.specs.Parts.{bracketOf, ItemRead};
+ghost use Rattle.json.specs.Parts.{containerOf, bracketOf, ItemRead};
 
 // The two containers: they differ in their kind, their closing byte and their items.
 pub enum Container {
@@ -24,6 +24,16 @@ pub enum Container {
 pub enum Item {
     At(usize, usize, usize),
     Wrong(Refusal),
+}
+
+// The container of a kind: an array, or else an object.
+pub(crate) fn container_of(kind: usize) -> Container
+    ensures { λ r. ⌜ r ≡ containerOf kind ⌝ }
+{
+    if kind == ARRAY {
+        return Container::Array;
+    }
+    Container::Object
 }
 
 // The kind in a container's row.

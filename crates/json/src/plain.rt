@@ -1,4 +1,5 @@
 // Bytes of a string that stand for themselves, eight at a time.
+use crate::bytes::peek;
 ghost use mathlib.Core.Path.{_≡_};
 ghost use Prim.Native.Nat.{_+_, _*_, _<_, _≤_};
 ghost use lib.ListN.{length};
@@ -40,10 +41,14 @@ fn plain_bytes(w: u64) -> usize
     (u64::trailing_zeros(marks) / 8) as usize
 }
 
-// A place that plain bytes lead to from a place inside a string; fewer than eight of them may follow.
+// A place that plain bytes lead to from a place inside a string; fewer than eight of them may follow. A byte above 127 ends them at once, so that a space
+// between words of another script costs no eight bytes.
 pub(crate) fn plain_end(text: &[u8], from: usize) -> usize
     ensures { λ r. ⌜ PlainTo (now (text .entry)) from r ⌝ }
 {
+    if 127 < peek(text, from) {
+        return from;
+    }
     if text.len() < 8 {
         return from;
     }

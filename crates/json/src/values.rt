@@ -4,10 +4,10 @@ use crate::bytes::peek;
 use crate::containers::Container;
 use crate::containers::Item;
 use crate::containers::closing;
+use crate::containers::container_of;
 use crate::containers::item_at;
 use crate::containers::kind_in;
 use crate::rows::ARRAY;
-use crate::rows::OBJECT;
 use crate::rows::put_row;
 use crate::tokens::kind_of;
 use crate::tokens::skip;
@@ -21,7 +21,7 @@ ghost use Rattle.text.specs.Text.{byteAt};
 ghost use Rattle.text.specs.Tokens as tokens;
 ghost use Rattle.text.specs.Tree.{Forest};
 ghost use Rattle.text.specs.Standing.{StandsTo};
-ghost use Rattle.text.specs.Reader.{scalarAt, arrayAt, objectAt, valueAt};
+ghost use Rattle.text.specs.Reader.{scalarAt, valueAt};
 ghost use Rattle.json.specs.Rows.{Row};
 ghost use Rattle.json.specs.Parts.{upTo, ItemAsks, NamePlaces, Took, Closable, Closes, containerAt, itemsAt, itemOf};
 
@@ -110,72 +110,14 @@ pub(crate) fn read_value(
     if kind == 0 {
         return Outcome::Stop(Refusal::Grammar(at));
     }
-    if kind == ARRAY {
-        return read_array(text, table, limit, depth, ns, ne, at, count);
-    }
-    if kind == OBJECT {
-        return read_object(text, table, limit, depth, ns, ne, at, count);
+    if ARRAY <= kind {
+        let of = container_of(kind);
+        return read_container(text, table, limit, depth, of, ns, ne, at, count);
     }
     read_scalar(text, table, limit, kind, ns, ne, at, count)
 }
 
-// The array whose bracket is at a place.
-fn read_array(
-    text: &[u8],
-    table: &mut [u32],
-    limit: usize,
-    depth: usize,
-    ns: usize,
-    ne: usize,
-    at: usize,
-    count: usize,
-) -> Outcome
-    requires { ⌜ ItemAsks (now text) (now table) limit (at + 1) count ⌝ }
-    requires { ⌜ NamePlaces (now text) ns ne ⌝ }
-    ensures { λ r. ⌜ Took (arrayAt (upTo limit) (now (text .entry)) depth ns ne at count) (now (text .entry)) limit at count (now (table .entry)) (now (table .exit)) r ⌝ }
-{
-    read_container(
-        text,
-        table,
-        limit,
-        depth,
-        Container::Array,
-        ns,
-        ne,
-        at,
-        count,
-    )
-}
-
-// The object whose bracket is at a place.
-fn read_object(
-    text: &[u8],
-    table: &mut [u32],
-    limit: usize,
-    depth: usize,
-    ns: usize,
-    ne: usize,
-    at: usize,
-    count: usize,
-) -> Outcome
-    requires { ⌜ ItemAsks (now text) (now table) limit (at + 1) count ⌝ }
-    requires { ⌜ NamePlaces (now text) ns ne ⌝ }
-    ensures { λ r. ⌜ Took (objectAt (upTo limit) (now (text .entry)) depth ns ne at count) (now (text .entry)) limit at count (now (table .entry)) (now (table .exit)) r ⌝ }
-{
-    read_container(
-        text,
-        table,
-        limit,
-        depth,
-        Container::Object,
-        ns,
-        ne,
-        at,
-        count,
-    )
-}
-
-// The container whose bracket is at a place.
+// The array or object whose bracket is at a place. One function for both: with two, a deep text costs twice the time.
 fn read_container(
     text: &[u8],
     table: &mut [u32],

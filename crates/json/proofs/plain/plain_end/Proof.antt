@@ -18,11 +18,11 @@ abbrev μ-loop : tie.MeasureT-loop
 -- the bytes that were counted lead on
 on : (c : tie.After-plain-bytes Inv-loop μ-loop)
     → let l = c .before .before .before in
-    let s = l .before .before .before in
+    let s = l .before .before .before .before .before in
     PlainTo (s .args .text .now) (s .args .from) (l .loop .at + c .plain-bytes .result)
 on c =
     let l = c .before .before .before in
-    let k = l .before .before in
+    let k = l .before .before .before .before in
     let p = c .plain-bytes .ensures in
     record {
       later = omega (arith, l .loop .inv .later);
@@ -39,6 +39,6 @@ loop-again c = let e : c .before .plain-bytes .result ≡ 8 = omega (arith, c .b
 pub plain-end-spec : {M : Type 1} → statement M
 plain-end-spec =
     tie.close
-    (tie.spec Inv-loop μ-loop (λ c. record { later = search needs; ends = refl }) (λ c. search needs) (λ c. record { later = search needs; ends = refl })
+    (tie.spec Inv-loop μ-loop (λ c κs. search needs) (λ c. record { later = search needs; ends = refl }) (λ c. record { later = search needs; ends = refl }) (λ c. search needs) (λ c. record { later = search needs; ends = refl })
     (λ c κs. search needs) (λ c κs. search needs) (λ c. search needs) (λ c. on (c .before)) (λ c. search needs) (λ c. search needs) loop-again
     (λ c. search needs))

@@ -6,10 +6,10 @@ use Rattle.json.proofs.Ways.{container-deep, container-many, container-
 use Rattle.json.proofs.Closing.{kind-fits, closable, closed}
 use Rattle.json.proofs.values.read_container.Reads as container
 use Rattle.json.proofs.values.read_items.Reads as items
-use Rattle.json.proofs.values.+read_array+read_container+read_item+read_items+read_object+read_value.Lts-read_container as lts
+use Rattle.json.proofs.values.+read_container+read_item+read_items+read_value.Lts-read_container as lts
 use Rattle.json.proofs.containers.kind_in.Reads as kind-in-reads
 use Rattle.json.proofs.values.close.Reads as close-reads
-use Rattle.json.proofs.values.+read_array+read_container+read_item+read_items+read_object+read_value.Proof.Measures.{at, below, of-container, of-items}
+use Rattle.json.proofs.values.+read_container+read_item+read_items+read_value.Proof.Measures.{at, below, of-container, of-items}
 
 -- what is known of the functions that it calls
 abbrev pub calls : ℕ → lts.Claims

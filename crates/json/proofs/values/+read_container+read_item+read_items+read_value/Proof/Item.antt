@@ -8,8 +8,8 @@ use Rattle.json.proofs.Closing.{took-from}
 use Rattle.json.proofs.containers.item_at.Reads as item-at-reads
 use Rattle.json.proofs.values.read_item.Reads as item
 use Rattle.json.proofs.values.read_value.Reads as value
-use Rattle.json.proofs.values.+read_array+read_container+read_item+read_items+read_object+read_value.Lts-read_item as lts
-use Rattle.json.proofs.values.+read_array+read_container+read_item+read_items+read_object+read_value.Proof.Measures.{at, below, of-item, of-value}
+use Rattle.json.proofs.values.+read_container+read_item+read_items+read_value.Lts-read_item as lts
+use Rattle.json.proofs.values.+read_container+read_item+read_items+read_value.Proof.Measures.{at, below, of-item, of-value}
 
 -- what is known of the functions that it calls
 abbrev pub calls : ℕ → lts.Claims

@@ -13,11 +13,11 @@ use Rattle.text.proofs.Grammar.Sound.{byte-closing}
 use Rattle.json.proofs.Items.{Upto, Open, inside-none, upto-none, upto-length, upto-stands, upto-stop, upto-bad, upto-done, upto-more, more-later}
 use Rattle.json.proofs.values.read_items.Reads as items
 use Rattle.json.proofs.values.read_item.Reads as item
-use Rattle.json.proofs.values.+read_array+read_container+read_item+read_items+read_object+read_value.Lts-read_items as lts
+use Rattle.json.proofs.values.+read_container+read_item+read_items+read_value.Lts-read_items as lts
 use Rattle.json.proofs.containers.closing.Reads as closing-reads
 use Rattle.json.proofs.tokens.skip.Reads as skip-reads
 use Rattle.json.proofs.bytes.peek.Reads as peek-reads
-use Rattle.json.proofs.values.+read_array+read_container+read_item+read_items+read_object+read_value.Proof.Measures.{at, below, of-item, of-items}
+use Rattle.json.proofs.values.+read_container+read_item+read_items+read_value.Proof.Measures.{at, below, of-item, of-items}
 
 abbrev pub Inv-loop : lts.InvT-loop
 Inv-loop text table₀ limit depth of from first z start b at₀ count₀ table at count =
