@@ -11,6 +11,33 @@ use Rattle.text.specs.Rfc.{mark, Rfc, RfcText}
 use Rattle.text.proofs.Grammar.Quotes.{star-join}
 use Rattle.text.proofs.Grammar.Sound.{glue-end}
 
+-- ---- the same bytes, put together in another order
+
+full-lists : (o z : ℕ) (a b c d p q r : List ℕ)
+    → mark o a b ((p ++ (q ++ r)) ++ mark z c d []) ≡ a ++ ((o ∷ (b ++ p) ++ ((q ++ (r ++ c)) ++ z ∷ [])) ++ d)
+full-lists o z a b c d p q r = simp (append-assoc, append-nil)
+
+bare-full-lists : (o z : ℕ) (b q r : List ℕ) → o ∷ b ++ ((q ++ r) ++ z ∷ []) ≡ mark o [] b (q ++ mark z r [] []) ++ []
+bare-full-lists o z b q r = simp (append-assoc, append-nil)
+
+member-lists : (x : ℕ) (a b c p q r : List ℕ) → c ++ mark x a b (p ++ (q ++ r)) ≡ [] ++ ((c ++ (a ++ x ∷ ((b ++ p) ++ q))) ++ r)
+member-lists x a b c p q r = simp append-assoc
+
+bare-member-lists : (x : ℕ) (a b c q r : List ℕ) → c ++ mark x a b (q ++ r) ≡ (c ++ mark x a b q) ++ r
+bare-member-lists x a b c q r = simp append-assoc
+
+comma-lists : (x : ℕ) (a b p q r s t u : List ℕ)
+    → (p ++ (q ++ r)) ++ mark x a b (s ++ (t ++ u)) ≡ p ++ ((q ++ ((r ++ a) ++ x ∷ ((b ++ s) ++ t))) ++ u)
+comma-lists x a b p q r s t u = simp append-assoc
+
+bare-comma-lists : (x : ℕ) (a b q r t u : List ℕ) → (q ++ r) ++ mark x a b (t ++ u) ≡ (q ++ mark x (r ++ a) b t) ++ u
+bare-comma-lists x a b q r t u = simp append-assoc
+
+text-lists : (a p q r s : List ℕ) → a ++ ((p ++ (q ++ r)) ++ s) ≡ (a ++ p) ++ (q ++ (r ++ s))
+text-lists a p q r s = simp append-assoc
+
+-- ---- from the RFC's arrangement
+
 -- a part with white space around it, and items with white space before them
 record Padded (a : Phrase) (w : List ℕ) : Type 0 where
   before : List ℕ
@@ -40,7 +67,9 @@ padded (Rfc.full {a} {b} {c} {d} {w} k p q e r s) =
       is = full k (star-join q (h .space-before)) u;
       space-before = p;
       space-behind = s;
-      all = ap (λ (l : List ℕ). mark (opening k) a b (l ++ mark (closing k) c d [])) (h .all) ∙ simp (append-assoc, append-nil);
+      all =
+          ap (λ (l : List ℕ). mark (opening k) a b (l ++ mark (closing k) c d [])) (h .all)
+          ∙ full-lists (opening k) (closing k) a b c d (h .before) (h .core) (h .behind);
     }
 padded (Rfc.element e) = let h = padded e in record {
   before = h .before;
@@ -60,7 +89,7 @@ padded (Rfc.member {m} {a} {b} {w} g p q e) =
       is = member g p (star-join q (h .space-before)) (h .is);
       space-before = Star.none;
       space-behind = h .space-behind;
-      all = ap (λ (l : List ℕ). m ++ mark 58 a b l) (h .all) ∙ simp append-assoc;
+      all = ap (λ (l : List ℕ). m ++ mark 58 a b l) (h .all) ∙ member-lists 58 a b m (h .before) (h .core) (h .behind);
     }
 padded (Rfc.one e) =
     let h = padded e in
@@ -83,13 +112,17 @@ padded (Rfc.comma {v} {a} {b} {w} e p q f) =
       is = comma (h .is) (star-join (h .space-behind) p) (star-join q (g .space-before)) (g .is);
       space-before = h .space-before;
       space-behind = g .space-behind;
-      all = ap (λ (l : List ℕ). l ++ mark 44 a b w) (h .all) ∙ ap (λ (l : List ℕ). (h .before ++ (h .core ++ h .behind)) ++ mark 44 a b l) (g .all) ∙ simp append-assoc;
+      all =
+          ap (λ (l : List ℕ). l ++ mark 44 a b w) (h .all)
+          ∙ ap (λ (l : List ℕ). (h .before ++ (h .core ++ h .behind)) ++ mark 44 a b l) (g .all)
+          ∙ comma-lists 44 a b (h .before) (h .core) (h .behind) (g .before) (g .core) (g .behind);
     }
 
 pub from-rfc : {t : List ℕ} → RfcText t → JsonText t
 from-rfc (RfcText.json-text {s} {w} {r} p d q) =
     let h = padded d in
-    let e : (s ++ h .before) ++ (h .core ++ (h .behind ++ r)) ≡ s ++ (w ++ r) = sym (ap (λ (l : List ℕ). s ++ (l ++ r)) (h .all) ∙ simp append-assoc) in
+    let e : (s ++ h .before) ++ (h .core ++ (h .behind ++ r)) ≡ s ++ (w ++ r) =
+    sym (ap (λ (l : List ℕ). s ++ (l ++ r)) (h .all) ∙ text-lists s (h .before) (h .core) (h .behind) r) in
     rw e at (json-text (star-join p (h .space-before)) (h .is) (star-join (h .space-behind) q))
 
 -- and the other way: what is left over is white space behind the part
@@ -117,7 +150,9 @@ bare (full {s} {w} k p d) =
       behind = [];
       is = Rfc.full k Star.none p (h .is) (h .space-behind) Star.none;
       space-behind = Star.none;
-      all = ap (λ (l : List ℕ). opening k ∷ s ++ (l ++ closing k ∷ [])) (h .all) ∙ simp (append-assoc, append-nil);
+      all =
+          ap (λ (l : List ℕ). opening k ∷ s ++ (l ++ closing k ∷ [])) (h .all)
+          ∙ bare-full-lists (opening k) (closing k) s (h .core) (h .behind);
     }
 bare (element d) = let h = bare d in record { core = h .core; behind = h .behind; is = Rfc.element (h .is); space-behind = h .space-behind; all = h .all }
 bare (member {m} {s} {r} {w} g p o d) =
@@ -127,7 +162,7 @@ bare (member {m} {s} {r} {w} g p o d) =
       behind = h .behind;
       is = Rfc.member g p o (h .is);
       space-behind = h .space-behind;
-      all = ap (λ (l : List ℕ). m ++ mark 58 s r l) (h .all) ∙ simp append-assoc;
+      all = ap (λ (l : List ℕ). m ++ mark 58 s r l) (h .all) ∙ bare-member-lists 58 s r m (h .core) (h .behind);
     }
 bare (one {v} {s} d p) =
     let h = bare d in
@@ -140,7 +175,10 @@ bare (comma {v} {s} {r} {w} d p o e) =
       behind = g .behind;
       is = Rfc.comma (h .is) (star-join (h .space-behind) p) o (g .is);
       space-behind = g .space-behind;
-      all = ap (λ (l : List ℕ). l ++ mark 44 s r w) (h .all) ∙ ap (λ (l : List ℕ). (h .core ++ h .behind) ++ mark 44 s r l) (g .all) ∙ simp append-assoc;
+      all =
+          ap (λ (l : List ℕ). l ++ mark 44 s r w) (h .all)
+          ∙ ap (λ (l : List ℕ). (h .core ++ h .behind) ++ mark 44 s r l) (g .all)
+          ∙ bare-comma-lists 44 s r (h .core) (h .behind) (g .core) (g .behind);
     }
 
 pub to-rfc : {t : List ℕ} → JsonText t → RfcText t
