@@ -126,7 +126,7 @@ pub record ReadingAndJudging (L : Limits) (serve : Call → Left) : Type 0 where
   -- a quoted text, as the fixed spellings are, stands for the codes of its characters
   pub letters : (s : String) → Codes s (bytes s)
   -- what types and properties the rules are about: the table is what the signatures of RFC 9553 say. Which rules between members a type has is data
-  -- (Schema.antt), shown by specimens alone
+  -- (Schema.antt), and shown case by case (RuleCases.antt)
   pub signed : AsSigned
 
 -- ---- demand 3: localizing

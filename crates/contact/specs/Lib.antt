@@ -11,8 +11,9 @@ pub mod Rules
 pub mod Judge
 pub mod Verdict
 pub mod Judging
--- That the table is what the signatures of RFC 9553 say.
+-- That the table is what the signatures of RFC 9553 say, and has each rule between members.
 pub mod Signatures
+pub mod RuleCases
 -- How a localization is applied, and what localizing answers.
 pub mod Pointer
 pub mod PointerText
@@ -25,7 +26,6 @@ pub mod Entries
 pub mod Conditions
 pub mod Likeness
 pub mod Patching
--- The services as a caller sees them, the three demands, and the specimens.
+-- The services as a caller sees them, and the three demands. The specimens stand in a crate of their own.
 pub mod Services
 pub mod Demands
-pub mod Specimens
