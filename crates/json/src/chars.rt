@@ -1,7 +1,23 @@
-// What stands at a place inside a string: one step, used by reading and by decoding.
+// What stands at a place inside a string (docs/RULES.md, 3.4): one step, used by reading and by decoding.
 use crate::bytes::BACKSLASH;
+use crate::bytes::LARGE_A;
+use crate::bytes::LARGE_F;
+use crate::bytes::LARGE_TEN;
+use crate::bytes::NINE;
+use crate::bytes::OVER;
 use crate::bytes::QUOTE;
+use crate::bytes::SLASH;
+use crate::bytes::SMALL_A;
+use crate::bytes::SMALL_B;
+use crate::bytes::SMALL_F;
+use crate::bytes::SMALL_N;
+use crate::bytes::SMALL_O;
+use crate::bytes::SMALL_R;
+use crate::bytes::SMALL_T;
+use crate::bytes::SMALL_TEN;
 use crate::bytes::SMALL_U;
+use crate::bytes::SPACE;
+use crate::bytes::ZERO;
 use crate::bytes::peek;
 use text::Hex;
 use text::Step;
@@ -15,9 +31,9 @@ fn digit(b: u16) -> u32
     ensures { λ r. ⌜ r ≡ digitOf b ⌝ }
 {
     match b {
-        48..=57 => (b - 48) as u32,
-        65..=70 => (b - 55) as u32,
-        97..=102 => (b - 87) as u32,
+        ZERO..=NINE => (b - ZERO) as u32,
+        LARGE_A..=LARGE_F => (b - LARGE_TEN) as u32,
+        SMALL_A..=SMALL_F => (b - SMALL_TEN) as u32,
         _ => 16,
     }
 }
@@ -57,34 +73,34 @@ fn hex4(text: &[u8], at: usize) -> Hex
 fn letter(b: u16) -> u32
     ensures { λ r. ⌜ r ≡ letterOf b ⌝ }
 {
-    if b < 98 {
-        if b == 34 {
+    if b < SMALL_B {
+        if b == QUOTE {
             return 34;
         }
-        if b == 47 {
+        if b == SLASH {
             return 47;
         }
-        if b == 92 {
+        if b == BACKSLASH {
             return 92;
         }
         return 0;
     }
-    if b < 111 {
-        if b == 98 {
+    if b < SMALL_O {
+        if b == SMALL_B {
             return 8;
         }
-        if b == 102 {
+        if b == SMALL_F {
             return 12;
         }
-        if b == 110 {
+        if b == SMALL_N {
             return 10;
         }
         return 0;
     }
-    if b == 114 {
+    if b == SMALL_R {
         return 13;
     }
-    if b == 116 {
+    if b == SMALL_T {
         return 9;
     }
     0
@@ -121,7 +137,7 @@ fn tail(b: u16) -> u32
     ensures { λ r. ⌜ r ≡ tailOf b ⌝ }
 {
     match b {
-        128..=191 => (b - 128) as u32,
+        0x80..=0xBF => (b - 0x80) as u32,
         _ => 64,
     }
 }
@@ -180,19 +196,19 @@ fn raw(text: &[u8], at: usize, b: u16) -> Step
     requires { ⌜ at < length (now text) ⌝ }
     ensures { λ r. ⌜ r ≡ rawAt (now (text .entry)) at b ⌝ }
 {
-    if b < 192 {
+    if b < 0xC0 {
         return Step::Bad3(at);
     }
     let x = tail_at(text, at + 1);
-    if b < 224 {
+    if b < 0xE0 {
         return checked(at, code2(b, x), 2);
     }
     let y = tail_at(text, at + 2);
-    if b < 240 {
+    if b < 0xF0 {
         return checked(at, code3(b, x, y), 3);
     }
     let z = tail_at(text, at + 3);
-    if b < 248 {
+    if b < 0xF8 {
         return checked(at, code4(b, x, y, z), 4);
     }
     Step::Bad3(at)
@@ -265,13 +281,13 @@ pub(crate) fn step_at(text: &[u8], at: usize) -> Step
     if b == BACKSLASH {
         return escape(text, at);
     }
-    if b < 32 {
+    if b < SPACE {
         return Step::Bad2(at);
     }
-    if b < 128 {
+    if b < 0x80 {
         return Step::Char(b as u32, 1);
     }
-    if b < 256 {
+    if b < OVER {
         return raw(text, at, b);
     }
     Step::Bad2(at)

@@ -1,5 +1,6 @@
-// A string's decoded bytes, handed out one at a time; nothing is copied.
+// A string's decoded bytes (docs/RULES.md, 3.4), handed out one at a time; nothing is copied.
 use crate::bytes::BACKSLASH;
+use crate::bytes::OVER;
 use crate::bytes::peek;
 use crate::chars::escape;
 use text::Step;
@@ -60,7 +61,7 @@ fn fresh_byte(name: &[u8], at: usize) -> Next
     ensures is { λ r. ⌜ r ≡ freshOf (now (name .entry)) at ⌝ }
 {
     let b = peek(name, at);
-    if b == 256 {
+    if b == OVER {
         return Next::Over;
     }
     if b != BACKSLASH {

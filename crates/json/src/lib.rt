@@ -1,4 +1,4 @@
-// Reading: a text becomes rows, or is refused.
+// Reading: a text becomes rows, or is refused (docs/RULES.md, 3).
 //   limits      the limits of reading
 //   bytes       the byte at a place
 //   chars       one step inside a string

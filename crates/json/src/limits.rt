@@ -1,4 +1,4 @@
-// The limits of reading: the code has their values here alone, the definitions in `base`.
+// The limits of reading (docs/RULES.md, 3.1): the code has their values here alone, the definitions in `base`.
 
 // The bytes of a text.
 pub const BYTES: usize = 65536;

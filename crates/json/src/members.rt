@@ -1,4 +1,4 @@
-// An object's members: their names, and whether a name is there already.
+// An object's members: their names, and whether a name is there already (docs/RULES.md, 3.5).
 use crate::bytes::COLON;
 use crate::bytes::QUOTE;
 use crate::bytes::peek;

@@ -1,6 +1,7 @@
-// Names compared decoded: with each other and with a byte string. They are compared as written up to a backslash, and decoded from there on; a
+// Names compared decoded (docs/RULES.md, 3.5): with each other and with a byte string. They are compared as written up to a backslash, and decoded from there on; a
 // comparison stops at the first difference.
 use crate::bytes::BACKSLASH;
+use crate::bytes::OVER;
 use crate::bytes::peek;
 use crate::decode::Cursor;
 use crate::decode::Next;
@@ -24,7 +25,7 @@ fn alike(a: &[u8], b: &[u8]) -> usize
         if p == BACKSLASH {
             return i;
         }
-        if p == 256 {
+        if p == OVER {
             return i;
         }
         let q = peek(b, i);
@@ -79,10 +80,10 @@ fn order_at(p: u16, q: u16) -> Order
     if p == q {
         return Order::Same;
     }
-    if p == 256 {
+    if p == OVER {
         return Order::Less;
     }
-    if q == 256 {
+    if q == OVER {
         return Order::More;
     }
     if p < q { Order::Less } else { Order::More }
@@ -146,7 +147,7 @@ fn goes_on(a: &[u8], lit: &[u8], from: usize) -> bool
         let want = peek(lit, i);
         match next_byte(a, x) {
             Next::Over => {
-                return want == 256;
+                return want == OVER;
             }
             Next::Byte(p, x2) => {
                 if p as u16 != want {

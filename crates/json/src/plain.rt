@@ -46,7 +46,7 @@ fn plain_bytes(w: u64) -> usize
 pub(crate) fn plain_end(text: &[u8], from: usize) -> usize
     ensures { λ r. ⌜ PlainTo (now (text .entry)) from r ⌝ }
 {
-    if 127 < peek(text, from) {
+    if 0x7F < peek(text, from) {
         return from;
     }
     if text.len() < 8 {

@@ -1,4 +1,4 @@
-// Reading a whole text into a lent table.
+// Reading a whole text into a lent table (docs/RULES.md, 3.6 and 7).
 use crate::limits::BYTES;
 use crate::limits::DEPTH;
 use crate::limits::ROW_WORDS;

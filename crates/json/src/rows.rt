@@ -1,4 +1,4 @@
-// Rows of a lent table. No other module knows which word of a row says what.
+// Rows of a lent table (docs/RULES.md, 4). No other module knows which word of a row says what.
 use crate::limits::ROW_WORDS;
 ghost use mathlib.Core.Path.{_≡_};
 ghost use Prim.Native.Nat.{_*_, _<_};

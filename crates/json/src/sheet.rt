@@ -1,4 +1,4 @@
-// The answer of reading in the refusal sheet's numbers.
+// The answer of reading in the refusal sheet's numbers (docs/RULES.md, 2.1).
 use text::Paper;
 use text::Reading;
 use text::Refusal;

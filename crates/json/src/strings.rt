@@ -1,4 +1,4 @@
-// Where a string ends.
+// Where a string ends (docs/RULES.md, 3.4).
 use crate::chars::step_at;
 use crate::plain::plain_end;
 use text::Step;

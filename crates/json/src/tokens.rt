@@ -1,9 +1,12 @@
-// White space, and the tokens of the values that hold no others: literals, numbers, strings.
+// White space, and the tokens of the values that hold no others: literals, numbers, strings (docs/RULES.md, 3.2).
+use crate::bytes::BEHIND_NINE;
 use crate::bytes::LARGE_E;
 use crate::bytes::LINE_FEED;
 use crate::bytes::MINUS;
+use crate::bytes::NINE;
 use crate::bytes::OPEN_ARRAY;
 use crate::bytes::OPEN_OBJECT;
+use crate::bytes::OVER;
 use crate::bytes::PLUS;
 use crate::bytes::POINT;
 use crate::bytes::QUOTE;
@@ -53,10 +56,10 @@ fn digit_at(text: &[u8], at: usize) -> bool
     ensures { λ r. ⌜ r ≡ tokens.isDigit (byteAt (now (text .entry)) at) ⌝ }
 {
     let b = peek(text, at);
-    if b < 48 {
+    if b < ZERO {
         return false;
     }
-    b < 58
+    b < BEHIND_NINE
 }
 
 // The place after the white space from a place on.
@@ -89,7 +92,7 @@ fn word(text: &[u8], lit: &[u8], from: usize) -> Token
     let mut i: usize = 0;
     loop {
         let want = peek(lit, i);
-        if want == 256 {
+        if want == OVER {
             return Token::End(at);
         }
         let b = peek(text, at);
@@ -193,7 +196,7 @@ pub(crate) fn kind_of(b: u16) -> usize
         QUOTE => STRING,
         OPEN_ARRAY => ARRAY,
         OPEN_OBJECT => OBJECT,
-        48..=57 => NUMBER,
+        ZERO..=NINE => NUMBER,
         _ => 0,
     }
 }

@@ -1,4 +1,5 @@
-// Values, arrays and objects, whose readers call each other. Each call has one container less to open, or stands further on in the text.
+// Values, and the arrays and objects that hold some (docs/RULES.md, 3.2), whose readers call each other. Each call has one container less to open, or
+// stands further on in the text.
 use crate::bytes::COMMA;
 use crate::bytes::peek;
 use crate::containers::Container;
