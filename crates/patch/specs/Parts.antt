@@ -44,7 +44,7 @@ nameUnread part key Over = []
 abbrev pub leftAt : (part : Bool) → List ℕ → (at : ℕ) → Name
 leftAt part key at = nameLeft part key (cursor at 0 0)
 
--- what a glyph says of its place: 256 that nothing is left, 257 nothing, and less which byte comes first and where the others begin
+-- what a glyph says of its place: below 256 it is the next byte, which `len` bytes of the key spell; at 256 nothing is left; 257 says nothing
 pub record Shows (part : Bool) (key : List ℕ) (at : ℕ) (g : Glyph) : Type 0 where
   pub most : g .value ≤ 257
   pub over : g .value ≡ 256 → leftAt part key at ≡ []

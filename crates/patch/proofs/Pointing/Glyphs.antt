@@ -1,9 +1,9 @@
 -- Laws of keys that are read as written, up to a backslash:
---     left-fresh, order-fresh                   a cursor where a character begins is a place
+--     order-fresh                                         a cursor where a character begins is a place
 --     coded-glyph, name-glyph, part-glyph, slash-glyph    what a byte shows
---     tilde-one, tilde-zero, tilde-alone        what a `~` and the byte after it show
---     shown-order, shown-ends, shown-on         two glyphs that are compared
---     later-self, later-fresh, later-on         a run of bytes that stays in its part
+--     tilde-one, tilde-zero, tilde-alone                  what a `~` and the byte after it show
+--     shown-order, shown-ends, shown-on                   two glyphs that are compared
+--     later-self, later-fresh, later-on                   a run of bytes that stays in its part
 -- Assumes nothing.
 use Prim.Native.Nat.{ℕ, _+_, _≤_, _<_}
 use mathlib.Core.Path.{_≡_, refl, ap, sym, _∙_}
@@ -48,7 +48,7 @@ left-fresh false t c e = fresh t c e
 pub order-fresh : (key name : List ℕ) (part : Bool) (x y : Cursor) → x .left ≡ 0 → y .left ≡ 0
     → orderOf (leftAt true key (x .at)) (leftAt part name (y .at)) ≡ orderOf (partLeft (rest key x)) (nameLeft part name y)
 order-fresh key name part x y e f =
-    sym (ap (λ (n : Name). orderOf n (nameLeft part name y)) (left-fresh true key x e) ∙ ap (λ (n : Name). orderOf (leftAt true key (x .at)) n) (left-fresh part name y f))
+    rw (left-fresh part name y f) (sym (ap (λ (n : Name). orderOf n (leftAt part name (y .at))) (left-fresh true key x e)))
 
 module _ (t : List ℕ) (at : ℕ) where
   rest-over : byteAt t at ≡ 256 → rest t (cursor at 0 0) ≡ []
@@ -67,7 +67,7 @@ glyph value len = record { value = value; len = len }
 pub coded-glyph : (part : Bool) (t : List ℕ) (at : ℕ) → Shows part t at (glyph 257 1)
 coded-glyph part t at = record { most = omega arith; over = λ e. absurd (omega arith); byte = λ h. absurd (omega arith); within = λ h. absurd (omega arith) }
 
--- a byte that is spelled by some
+-- a glyph that is a byte
 shows : (part : Bool) (t : List ℕ) (at value len : ℕ) → value < 256 → at + len ≤ length t → leftAt part t at ≡ value ∷ leftAt part t (at + len)
     → Shows part t at (glyph value len)
 shows part t at value len small within e =
