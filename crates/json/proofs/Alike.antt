@@ -1,5 +1,7 @@
 -- Laws of two strings that are compared as written up to a place:
+--     decode-over, decode-byte       decoding where no backslash stands
 --     common-start, common-more      from the start, and one byte further
+--     order-heads                    the order of two runs by their first bytes
 --     order-differs, same-differs    where neither goes on with a backslash, the bytes there decide
 --     literal-differs                the same of a string and a literal
 -- Assumes nothing.
@@ -25,11 +27,11 @@ use Rattle.json.specs.Names.{Common, Alike, orderAt}
 
 -- ---- decoding where no backslash stands
 
-decode-over : (t : List ℕ) (i : ℕ) → byteAt t i ≡ 256 → decodeFrom t i ≡ []
+pub decode-over : (t : List ℕ) (i : ℕ) → byteAt t i ≡ 256 → decodeFrom t i ≡ []
 unfolding pieceBy
 decode-over t i e = decode-at t i stop (rw (eq-eqb _ _ e))
 
-decode-byte : (t : List ℕ) (i : ℕ) → (byteAt t i ≡ 92 → ⊥) → (byteAt t i ≡ 256 → ⊥) → decodeFrom t i ≡ byteAt t i ∷ decodeFrom t (i + 1)
+pub decode-byte : (t : List ℕ) (i : ℕ) → (byteAt t i ≡ 92 → ⊥) → (byteAt t i ≡ 256 → ⊥) → decodeFrom t i ≡ byteAt t i ∷ decodeFrom t (i + 1)
 unfolding pieceBy
 decode-byte t i s e = decode-at t i (piece (byteAt t i ∷ []) 1) (rw (ne-eqb _ _ e, ne-eqb _ _ s))
 
@@ -66,6 +68,18 @@ there l i e = elim (decLe (length l) i) [
   | no h ↦ omega arith
 ]
 
+-- two runs by their first bytes, 256 where one is over, which are the same only if both are over
+pub order-heads : (p q : ℕ) (xs ys : List ℕ) {xs' ys' : List ℕ} → (p ≡ 256 → xs ≡ []) → ((p ≡ 256 → ⊥) → xs ≡ p ∷ xs') → (q ≡ 256 → ys ≡ [])
+    → ((q ≡ 256 → ⊥) → ys ≡ q ∷ ys') → (p ≡ q → p ≡ 256) → orderAt p q ≡ orderOf xs ys
+unfolding orderAt orderOf
+order-heads p q xs ys {xs'} {ys'} ends heads ends' heads' stops =
+    let P : Order → Type 0 = λ o. o ≡ orderOf xs ys in
+    if-equal P p q (λ e. rw (ends (stops e), ends' (sym e ∙ stops e)))
+    (λ e. if-equal P p 256 (λ o. rw (ends o, heads' (λ z. e (o ∙ sym z))))
+    (λ o. if-equal P q 256 (λ z. rw (heads o, ends' z))
+    (λ z. if-less P p q (λ l. rw (heads o, heads' z) (sym (order-less p q xs' ys' l)))
+    (λ l. rw (heads o, heads' z) (sym (order-more p q xs' ys' (apart p q l e)))))))
+
 same-at : (p q : ℕ) → isSame (orderAt p q) ≡ eqb p q
 unfolding orderAt
 same-at p q =
@@ -74,19 +88,11 @@ same-at p q =
     (λ o. if-equal (λ (o : Order). isSame o ≡ false) q 256 (λ z. refl) (λ z. if-less (λ (o : Order). isSame o ≡ false) p q (λ l. refl) (λ l. refl)))))
 
 module _ (a b : List ℕ) (i : ℕ) (h : Alike a b i) (s : byteAt a i ≡ 92 → ⊥) where
-  differs : (byteAt b i ≡ 92 → ⊥) → orderAt (byteAt a i) (byteAt b i) ≡ orderOf (decodeFrom a i) (decodeFrom b i)
-  unfolding orderAt orderOf
-  differs z =
-      let P : Order → Type 0 = λ o. o ≡ orderOf (decodeFrom a i) (decodeFrom b i) in
-      if-equal P (byteAt a i) (byteAt b i) (λ e. rw (decode-over a i (h .stops e s), decode-over b i (sym e ∙ h .stops e s)))
-      (λ e. if-equal P (byteAt a i) 256 (λ o. rw (decode-over a i o, decode-byte b i z (λ q. e (o ∙ sym q))))
-      (λ o. if-equal P (byteAt b i) 256 (λ q. rw (decode-byte a i s o, decode-over b i q))
-      (λ q. if-less P (byteAt a i) (byteAt b i)
-      (λ l. rw (decode-byte a i s o, decode-byte b i z q) (sym (order-less (byteAt a i) (byteAt b i) (decodeFrom a (i + 1)) (decodeFrom b (i + 1)) l)))
-      (λ l. rw (decode-byte a i s o, decode-byte b i z q) (sym (order-more (byteAt a i) (byteAt b i) (decodeFrom a (i + 1)) (decodeFrom b (i + 1)) (apart (byteAt a i) (byteAt b i) l e)))))))
-
   pub order-differs : (byteAt b i ≡ 92 → ⊥) → orderAt (byteAt a i) (byteAt b i) ≡ orderOf (decode a) (decode b)
-  order-differs z = differs z ∙ h .common .ordered
+  order-differs z =
+      order-heads (byteAt a i) (byteAt b i) (decodeFrom a i) (decodeFrom b i) (decode-over a i) (decode-byte a i s) (decode-over b i) (decode-byte b i z)
+      (λ e. h .stops e s)
+      ∙ h .common .ordered
 
   pub same-differs : (byteAt b i ≡ 92 → ⊥) → eqb (byteAt a i) (byteAt b i) ≡ same (decode a) (decode b)
   same-differs z = sym (same-at (byteAt a i) (byteAt b i)) ∙ ap isSame (order-differs z)

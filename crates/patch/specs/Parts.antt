@@ -1,15 +1,18 @@
 -- What a cursor over a key still has of its part, and what follows the part. Assumes nothing: these are definitions.
-use Prim.Native.Nat.{ℕ}
+use Prim.Native.Nat.{ℕ, _+_, _≤_, _<_}
 use mathlib.Core.Path.{_≡_}
 use mathlib.Core.Bool.{Bool, true, false, cond}
 use mathlib.Core.List.{List, [], _∷_}
+use mathlib.Core.Option.{Option, none, some}
+use lib.ListN.{length}
 use lib.Dec.{eqb}
 use Rattle.text.specs.Doc.{Name}
-use Rattle.json.specs.Cursors.{rest}
+use Rattle.json.specs.Cursors.{rest, cursor}
 use Rattle.json.specs.declared.decode.Cursor.{Cursor}
 use Rattle.json.specs.declared.decode.Next.{Next}
 use Rattle.json.specs.declared.decode.Next.the-variants.{Byte, Over}
 use Rattle.contact.specs.Pointer.{Pointer, last, down, pointerOf, firstPart}
+use Rattle.patch.specs.declared.parts.Glyph.{Glyph}
 use Rattle.patch.specs.declared.parts.Onward.{Onward}
 use Rattle.patch.specs.declared.parts.Onward.the-variants.{Last, Part}
 
@@ -36,6 +39,27 @@ nameLeft false key c = rest key c
 abbrev pub nameUnread : (part : Bool) → List ℕ → Next → Name
 nameUnread part key (Byte b c) = b ∷ nameLeft part key c
 nameUnread part key Over = []
+
+-- the same from a place on where a character begins
+abbrev pub leftAt : (part : Bool) → List ℕ → (at : ℕ) → Name
+leftAt part key at = nameLeft part key (cursor at 0 0)
+
+-- what a glyph says of its place: below 256 it is the next byte, which `len` bytes of the key spell; at 256 nothing is left; 257 says nothing
+pub record Shows (part : Bool) (key : List ℕ) (at : ℕ) (g : Glyph) : Type 0 where
+  pub most : g .value ≤ 257
+  pub over : g .value ≡ 256 → leftAt part key at ≡ []
+  pub byte : g .value < 256 → leftAt part key at ≡ g .value ∷ leftAt part key (at + g .len)
+  pub within : g .value < 256 → at + g .len ≤ length key
+
+-- what follows the first part, if anything does
+abbrev pub tailOf : Pointer → Option Pointer
+tailOf (last n) = none
+tailOf (down n p) = some p
+
+-- a cursor that stands in the same part as another, no earlier
+pub record Later (key : List ℕ) (c d : Cursor) : Type 0 where
+  pub follows : tailOf (pointerOf (rest key d)) ≡ tailOf (pointerOf (rest key c))
+  pub fewer : length (rest key d) ≤ length (rest key c)
 
 -- a pointer that ends with its first part, or goes on where the cursor stands
 abbrev pub Goes : List ℕ → Pointer → Onward → Type 0

@@ -1,13 +1,34 @@
 // One part of a pointer, read off a key while the key is decoded: nothing is copied. In a part `~1` is `/` and `~0` is `~`.
+// Up to a backslash keys are compared, and passed, as they are written.
+use json::bytes::peek;
 use json::decode::Cursor;
 use json::decode::Next;
 use json::decode::next_byte;
 use laws::Order;
 ghost use mathlib.Core.Path.{_≡_};
+ghost use mathlib.Core.Bool.{true};
 ghost use Rattle.laws.specs.Order.{orderOf, same};
-ghost use Rattle.json.specs.Cursors.{rest};
+ghost use Rattle.text.specs.Text.{byteAt};
+ghost use Rattle.json.specs.Cursors.{rest, cursor};
+ghost use Rattle.json.specs.Names.{orderAt};
 ghost use Rattle.contact.specs.Pointer.{pointerOf};
-ghost use Rattle.patch.specs.Parts.{partLeft, partUnread, nameLeft, Goes, nameUnread, tildeLeft};
+ghost use Rattle.patch.specs.Parts.{partLeft, partUnread, nameLeft, Goes, nameUnread, tildeLeft, leftAt, Shows, Later};
+
+// Bytes that are told apart as written, as wide as what `peek` gives.
+const SLASH: u16 = b'/' as u16;
+
+const TILDE: u16 = b'~' as u16;
+
+const BACKSLASH: u16 = b'\\' as u16;
+
+const ZERO: u16 = b'0' as u16;
+
+const ONE: u16 = b'1' as u16;
+
+// A glyph's value where it is no byte: at the end, and where a backslash has to be decoded.
+const END: u16 = 256;
+
+const CODED: u16 = 257;
 
 // What follows a part: another, where the cursor stands, or none.
 pub(crate) enum Onward {
@@ -57,14 +78,94 @@ fn name_byte(part: bool, key: &[u8], c: Cursor) -> Next
     next_byte(key, c)
 }
 
-// The order of the part at a cursor and another part, or a name, from its cursor on; `is_part` says which.
-pub(crate) fn part_order(
-    key: &[u8],
-    from: Cursor,
-    is_part: bool,
-    name: &[u8],
-    name_from: Cursor,
-) -> Order
+// What is written at a place of a part, or of a name: a byte and how many written bytes spell it, or no byte.
+struct Glyph {
+    pub value: u16,
+    pub len: usize,
+}
+
+// A cursor at a place where a character begins.
+fn place(at: usize) -> Cursor
+    ensures { λ r. ⌜ r ≡ cursor at 0 0 ⌝ }
+{
+    Cursor {
+        at,
+        code: 0,
+        left: 0,
+    }
+}
+
+// What a `~` of a part and the byte after it spell.
+fn tilde_at(key: &[u8], at: usize) -> Glyph
+    requires { ⌜ byteAt (now key) at ≡ 126 ⌝ }
+    ensures { λ r. ⌜ Shows true (now (key .entry)) at r ⌝ }
+{
+    let b = peek(key, at + 1);
+    if b == ONE {
+        return Glyph {
+            value: SLASH,
+            len: 2,
+        };
+    }
+    if b == ZERO {
+        return Glyph {
+            value: TILDE,
+            len: 2,
+        };
+    }
+    if b == BACKSLASH {
+        return Glyph {
+            value: CODED,
+            len: 1,
+        };
+    }
+    Glyph {
+        value: TILDE,
+        len: 1,
+    }
+}
+
+// The glyph at a place of a part, or of a name.
+fn glyph_at(part: bool, key: &[u8], at: usize) -> Glyph
+    ensures { λ r. ⌜ Shows part (now (key .entry)) at r ⌝ }
+{
+    let b = peek(key, at);
+    if b == BACKSLASH {
+        return Glyph {
+            value: CODED,
+            len: 1,
+        };
+    }
+    if !part {
+        return Glyph { value: b, len: 1 };
+    }
+    if b == SLASH {
+        return Glyph { value: END, len: 1 };
+    }
+    if b == TILDE {
+        return tilde_at(key, at);
+    }
+    Glyph { value: b, len: 1 }
+}
+
+// The order by the first two glyphs that differ.
+fn order_at(p: u16, q: u16) -> Order
+    ensures { λ r. ⌜ r ≡ orderAt p q ⌝ }
+{
+    if p == q {
+        return Order::Same;
+    }
+    if p == END {
+        return Order::Less;
+    }
+    if q == END {
+        return Order::More;
+    }
+    if p < q { Order::Less } else { Order::More }
+}
+
+// The order of a part and another part, or a name, decoded from their cursors on; `is_part` says which.
+fn order_from(key: &[u8], from: Cursor, is_part: bool, name: &[u8], name_from: Cursor) -> Order
     ensures { λ r. ⌜ r ≡ orderOf (partLeft (rest (now (key .entry)) from)) (nameLeft «is_part» (now (name .entry)) «name_from») ⌝ }
 {
     let mut x = from;
@@ -96,6 +197,53 @@ pub(crate) fn part_order(
     }
 }
 
+// The same from places where a character begins: they are compared as written, up to a backslash.
+fn written_order(key: &[u8], from: usize, is_part: bool, name: &[u8], name_from: usize) -> Order
+    ensures { λ r. ⌜ r ≡ orderOf (leftAt true (now (key .entry)) from) (leftAt «is_part» (now (name .entry)) «name_from») ⌝ }
+{
+    let mut i = from;
+    let mut j = name_from;
+    loop {
+        let p = glyph_at(true, key, i);
+        let q = glyph_at(is_part, name, j);
+        let x = p.value;
+        let y = q.value;
+        if x == CODED {
+            return order_from(key, place(i), is_part, name, place(j));
+        }
+        if y == CODED {
+            return order_from(key, place(i), is_part, name, place(j));
+        }
+        if x != y {
+            return order_at(x, y);
+        }
+        if x == END {
+            return Order::Same;
+        }
+        i = i + p.len;
+        j = j + q.len;
+    }
+}
+
+// The order of the part at a cursor and another part, or a name, from its cursor on; `is_part` says which.
+pub(crate) fn part_order(
+    key: &[u8],
+    from: Cursor,
+    is_part: bool,
+    name: &[u8],
+    name_from: Cursor,
+) -> Order
+    ensures { λ r. ⌜ r ≡ orderOf (partLeft (rest (now (key .entry)) from)) (nameLeft «is_part» (now (name .entry)) «name_from») ⌝ }
+{
+    if from.left != 0 {
+        return order_from(key, from, is_part, name, name_from);
+    }
+    if name_from.left != 0 {
+        return order_from(key, from, is_part, name, name_from);
+    }
+    written_order(key, from.at, is_part, name, name_from.at)
+}
+
 // Are they the same?
 pub(crate) fn part_same(
     key: &[u8],
@@ -113,13 +261,43 @@ pub(crate) fn part_same(
     }
 }
 
+// Past the bytes from a place on that are neither a slash nor a backslash.
+fn run_end(key: &[u8], from: usize) -> usize
+    ensures { λ r. ⌜ Later (now (key .entry)) (cursor from 0 0) (cursor r 0 0) ⌝ }
+{
+    let mut at = from;
+    loop {
+        let b = peek(key, at);
+        if b == SLASH {
+            return at;
+        }
+        if b == BACKSLASH {
+            return at;
+        }
+        if b == END {
+            return at;
+        }
+        at += 1;
+    }
+}
+
+// Past such bytes, if a character begins at the cursor.
+fn run_after(key: &[u8], c: Cursor) -> Cursor
+    ensures { λ r. ⌜ Later (now (key .entry)) c r ⌝ }
+{
+    if c.left != 0 {
+        return c;
+    }
+    place(run_end(key, c.at))
+}
+
 // What follows the part at the cursor.
 pub(crate) fn next_part(key: &[u8], from: Cursor) -> Onward
     ensures { λ r. ⌜ Goes (now (key .entry)) (pointerOf (rest (now (key .entry)) from)) r ⌝ }
 {
     let mut c = from;
     loop {
-        match next_byte(key, c) {
+        match next_byte(key, run_after(key, c)) {
             Next::Over => {
                 return Onward::Last;
             }

@@ -1,6 +1,6 @@
 -- Laws of pointers as they are read byte by byte:
 --     part-plain, part-tilde          the first part of a key, by its first byte
---     tailOf, tail-on                 what follows the first part
+--     tail-on                         what follows the first part
 --     ends, goes                      a pointer by what follows its first part
 --     by-part, by-name                a name that is read as a part, or as it is
 --     taken, over                     what is read of a part, and what is left of it
@@ -8,14 +8,14 @@
 use mathlib.Core.Path.{_≡_, refl, ap, sym, _∙_}
 use mathlib.Core.Bool.{true, false}
 use mathlib.Core.List.{List, [], _∷_}
-use mathlib.Core.Option.{Option, none, some}
+use mathlib.Core.Option.{none, some}
 use Prim.Native.Nat.{ℕ}
 use native.Mathlib.Omega.{arith}
 use native.Mathlib.Decide.{ℕ-discrete}
 use borrow.Author.Tests.{ne-eqb}
 use Rattle.text.specs.Doc.{Name}
 use Rattle.contact.specs.Pointer.{Pointer, last, down, push, split, plain, plainParts, pointerOf, firstPart}
-use Rattle.patch.specs.Parts.{partLeft, partUnread, tildeLeft, nameUnread}
+use Rattle.patch.specs.Parts.{partLeft, partUnread, tildeLeft, nameUnread, tailOf}
 use Rattle.json.specs.Cursors.{rest, unread}
 use Rattle.json.specs.declared.decode.Cursor.{Cursor}
 use Rattle.json.specs.declared.decode.Next.{Next}
@@ -74,10 +74,6 @@ part-tilde (c ∷ cs) =
     ]
 
 -- ---- what follows the first part ----
-
-abbrev pub tailOf : Pointer → Option Pointer
-tailOf (last n) = none
-tailOf (down n p) = some p
 
 tail-push : (b : ℕ) (p : Pointer) → tailOf (plainParts (push b p)) ≡ tailOf (plainParts p)
 tail-push b (last n) = refl

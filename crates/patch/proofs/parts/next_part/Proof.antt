@@ -7,7 +7,8 @@ use borrow.Author.Needs.{needs}
 use Rattle.json.proofs.Unread.{byte-left}
 use Rattle.json.specs.Cursors.{rest}
 use Rattle.contact.specs.Pointer.{pointerOf}
-use Rattle.patch.proofs.Pointing.Parts.{tailOf, tail-on, ends, goes}
+use Rattle.patch.specs.Parts.{tailOf}
+use Rattle.patch.proofs.Pointing.Parts.{tail-on, ends, goes}
 use Rattle.patch.proofs.parts.next_part.Statement.{statement}
 use Rattle.patch.proofs.parts.next_part.Tie as tie
 
@@ -21,28 +22,32 @@ loop-holds : tie.Need-loop-holds Inv-loop μ-loop
 loop-holds c = refl
 
 returns : tie.Need-returns Inv-loop μ-loop
-returns c = ends _ (rw (← c .before .before .before .loop .inv, ← c .before .before .next-byte .ensures .0, c .enum-told .given .1))
+returns c =
+    let run-after = c .before .before .before .run-after in
+    ends _ (rw (← c .before .before .before .before .loop .inv, ← run-after .ensures .follows, ← c .before .before .next-byte .ensures .0, c .enum-told .given .1))
 
 returns-2 : tie.Need-returns-2 Inv-loop μ-loop
 returns-2 c =
-    let loop = c .before .before .before .before .before .loop in
     let next-byte = c .before .before .before .before .next-byte in
-    goes _ _ (rw (← loop .inv, ← next-byte .ensures .0, c .before .before .b .given .1, c .if1 .taken))
+    let run-after = c .before .before .before .before .before .run-after in
+    let loop = c .before .before .before .before .before .before .loop in
+    goes _ _ (rw (← loop .inv, ← run-after .ensures .follows, ← next-byte .ensures .0, c .before .before .b .given .1, c .if1 .taken))
 
 loop-less : tie.Need-loop-less Inv-loop μ-loop
 loop-less c =
-    let a = c .before .before .before .before .before .before .before .args in
-    let loop = c .before .before .before .before .before .loop in
     let next-byte = c .before .before .before .before .next-byte in
-    omega (arith, ap length (byte-left (now (a .key)) (loop .c) (next-byte .ensures .0) (c .before .before .b .given .1)))
+    let run-after = c .before .before .before .before .before .run-after in
+    let a = c .before .before .before .before .before .before .before .before .args in
+    omega (arith, ap length (byte-left (now (a .key)) (run-after .result) (next-byte .ensures .0) (c .before .before .b .given .1)), run-after .ensures .fewer)
 
 loop-again : tie.Need-loop-again Inv-loop μ-loop
 loop-again c =
-    let a = c .before .before .before .before .before .before .before .args in
-    let loop = c .before .before .before .before .before .loop in
     let next-byte = c .before .before .before .before .next-byte in
+    let run-after = c .before .before .before .before .before .run-after in
+    let loop = c .before .before .before .before .before .before .loop in
+    let a = c .before .before .before .before .before .before .before .before .args in
     let b = c .before .before .b in
-    rw (← loop .inv, ← next-byte .ensures .0, b .given .1) (sym (tail-on _ (rest (now (a .key)) (b .given .0 .1 .0)) (c .if1 .left)))
+    rw (← loop .inv, ← run-after .ensures .follows, ← next-byte .ensures .0, b .given .1) (sym (tail-on _ (rest (now (a .key)) (b .given .0 .1 .0)) (c .if1 .left)))
 
 pub next-part-spec : {M : Type 1} → statement M
 next-part-spec =
@@ -51,6 +56,7 @@ next-part-spec =
     Inv-loop
     μ-loop
     loop-holds
+    (λ c κs. search needs)
     (λ c κs. search needs)
     (λ c. search needs)
     returns
