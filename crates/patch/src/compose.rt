@@ -1,9 +1,9 @@
 // The localized card, written for a lent output: all entries of the language's PatchObject, or a refusal from 21 to 27.
+use crate::children::child_row;
 use crate::conditions::Condition;
 use crate::conditions::first_broken;
 use crate::entries::MOST_ENTRIES;
 use crate::entries::collect;
-use crate::language::patch_row;
 use crate::sort::sort_rows;
 use crate::writing::put_card;
 use contact::LocalRefusal;
@@ -27,6 +27,7 @@ pub enum Attempt {
 fn put_sorted(
     card: &[u8],
     card_table: &[u32],
+    leave: usize,
     text: &[u8],
     table: &[u32],
     rows: &mut [u32],
@@ -35,11 +36,11 @@ fn put_sorted(
 ) -> usize
     requires { ⌜ n ≤ length (now rows) ⌝ }
     requires { ⌜ n ≤ mostEntries ⌝ }
-    ensures { λ r. ⌜ PutSorted (now (card .entry)) (now («card_table» .entry)) (now (text .entry)) (now (table .entry)) (now (rows .entry)) n (now (out .entry)) (now (out .exit)) r ⌝ }
+    ensures { λ r. ⌜ PutSorted (now (card .entry)) (now («card_table» .entry)) leave (now (text .entry)) (now (table .entry)) (now (rows .entry)) n (now (out .entry)) (now (out .exit)) r ⌝ }
 {
     let mut scratch = [0u32; MOST_ENTRIES];
     sort_rows(text, table, rows, &mut scratch, n);
-    put_card(card, card_table, text, table, rows, n, out)
+    put_card(card, card_table, leave, text, table, rows, n, out)
 }
 
 // So many bytes, if they have room; else 27.
@@ -56,13 +57,14 @@ fn fitting(count: usize, room: usize) -> Attempt
 fn compose(
     card: &[u8],
     card_table: &[u32],
+    leave: usize,
     text: &[u8],
     table: &[u32],
     patch: usize,
     out: &mut [u8],
 ) -> Attempt
     requires { ⌜ patch < length (now table) ⌝ }
-    ensures { λ r. ⌜ Makes (now (card .entry)) (now («card_table» .entry)) (now (text .entry)) (now (table .entry)) patch (now (out .entry)) (now (out .exit)) r ⌝ }
+    ensures { λ r. ⌜ Makes (now (card .entry)) (now («card_table» .entry)) leave (now (text .entry)) (now (table .entry)) patch (now (out .entry)) (now (out .exit)) r ⌝ }
 {
     let first = patch + 1;
     let end = next_row(table, patch);
@@ -71,7 +73,7 @@ fn compose(
     if let Condition::Broken(r) = first_broken(card, card_table, text, table, &rows, n) {
         return Attempt::Refused(r);
     }
-    let count = put_sorted(card, card_table, text, table, &mut rows, n, out);
+    let count = put_sorted(card, card_table, leave, text, table, &mut rows, n, out);
     fitting(count, out.len())
 }
 
@@ -79,11 +81,14 @@ fn compose(
 pub fn compose_for(text: &[u8], table: &[u32], language: &[u8], out: &mut [u8]) -> Attempt
     ensures { λ r. ⌜ MakesFor (now (text .entry)) (now (table .entry)) (now (language .entry)) (now (out .entry)) (now (out .exit)) r ⌝ }
 {
-    let Found::Row(patch) = patch_row(text, table, language) else {
+    let Found::Row(all) = child_row(text, table, 0, b"localizations") else {
+        return Attempt::Refused(LocalRefusal::NoLanguage);
+    };
+    let Found::Row(patch) = child_row(text, table, all, language) else {
         return Attempt::Refused(LocalRefusal::NoLanguage);
     };
     if kind(table, patch) != OBJECT {
         return Attempt::Refused(LocalRefusal::NoLanguage);
     }
-    compose(text, table, text, table, patch, out)
+    compose(text, table, all, text, table, patch, out)
 }
