@@ -9,21 +9,26 @@ use Rattle.patch.proofs.compose.compose_for.Statement.{statement}
 use Rattle.patch.proofs.compose.compose_for.Tie as tie
 
 returns : tie.Need-returns
-returns c = for-none (now (c .before .before .before .before .before .before .before .before .args .language)) (c .before .before .child-row .ensures) _ (c .enum-told .given .1)
+returns c =
+    let a = c .before .before .before .before .before .before .before .before .args in
+    for-none (now (a .language)) (c .before .before .child-row .ensures) _ (c .enum-told .given .1)
 
 returns-2 : tie.Need-returns-2
 returns-2 c =
-    let all = c .before .before .before .before .all in
+    let all = c .before .before .before .before in
+    let child-row = all .before .before .child-row in
     let child-row2 = c .before .before .child-row2 in
-    for-nothing (now (c .before .before .before .before .before .before .before .before .before .before .before .before .args .language)) (c .before .before .before .before .before .before .child-row .ensures) (all .given .1) (child-row2 .result) (child-row2 .ensures) _
-    (c .enum-told2 .given .1)
+    let a = all .before .before .before .before .before .before .before .before .args in
+    for-nothing (now (a .language)) (child-row .ensures) (all .all .given .1) (child-row2 .result) (child-row2 .ensures) _ (c .enum-told2 .given .1)
 
 returns-3 : tie.Need-returns-3
 returns-3 c =
-    let patch = c .before .before .before .patch in
+    let all = c .before .before .before .before .before .before .before in
+    let child-row = all .before .before .child-row in
     let child-row2 = c .before .before .before .before .before .child-row2 in
-    let all = c .before .before .before .before .before .before .before .all in
-    for-other (now (c .before .before .before .before .before .before .before .before .before .before .before .before .before .before .before .args .language)) (c .before .before .before .before .before .before .before .before .before .child-row .ensures) (all .given .1) (child-row2 .result) (child-row2 .ensures) (patch .given .1) _
+    let patch = c .before .before .before .patch in
+    let a = all .before .before .before .before .before .before .before .before .args in
+    for-other (now (a .language)) (child-row .ensures) (all .all .given .1) (child-row2 .result) (child-row2 .ensures) (patch .given .1) _
     (λ e. c .if1 .taken (c .before .kind .ensures ∙ e))
 
 compose-requires : tie.Need-compose-requires
@@ -34,13 +39,15 @@ compose-requires c κs =
 
 returns-4 : tie.Need-returns-4
 returns-4 c =
-    let compose = c .before .before .compose in
-    let if1 = c .before .before .before .before .if1 in
-    let kind = c .before .before .before .before .before .kind in
-    let patch = c .before .before .before .before .before .before .before .patch in
+    let all = c .before .before .before .before .before .before .before .before .before .before .before in
+    let child-row = all .before .before .child-row in
     let child-row2 = c .before .before .before .before .before .before .before .before .before .child-row2 in
-    let all = c .before .before .before .before .before .before .before .before .before .before .before .all in
-    for-object (now (c .before .before .before .before .before .before .before .before .before .before .before .before .before .before .before .before .before .before .before .args .language)) (c .before .before .before .before .before .before .before .before .before .before .before .before .before .child-row .ensures) (all .given .1) (child-row2 .result) (child-row2 .ensures) (patch .given .1) _ _
+    let patch = c .before .before .before .before .before .before .before .patch in
+    let kind = c .before .before .before .before .before .kind in
+    let if1 = c .before .before .before .before .if1 in
+    let compose = c .before .before .compose in
+    let a = all .before .before .before .before .before .before .before .before .args in
+    for-object (now (a .language)) (child-row .ensures) (all .all .given .1) (child-row2 .result) (child-row2 .ensures) (patch .given .1) _ _
     (compose .result) (sym (kind .ensures) ∙ if1 .left) (compose .ensures)
 
 pub compose-for-spec : {M : Type 1} → statement M

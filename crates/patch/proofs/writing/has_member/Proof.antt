@@ -23,7 +23,8 @@ returns-2 c =
     let start = c .before .before .before .before .before .before .before .before .before in
     let a = start .args in
     let n = partLeft (rest (now (a .key)) (a .c)) in
-    let next = row-after (now (a .table)) (a .row) (c .before .before .before .before .next-row .ensures) (omega (arith, c .before .before .before .before .before .if1 .left, start .good .1 .0 .0)) in
+    let if1 = c .before .before .before .before .before .if1 in
+    let next = row-after (now (a .table)) (a .row) (c .before .before .before .before .next-row .ensures) (omega (arith, if1 .left, start .good .1 .0 .0)) in
     let here = members-stand (b .value .some) (b .value .stands) next in
     let found = standing (rw (c .before .m .given .1) at (c .before .before .before .member-row .ensures (insideAt g) here)) in
     there-found root n (membersOf (now (a .text)) (insideAt g)) (eqb (c .before .m .given .0 .0) (a .leave))
@@ -35,7 +36,8 @@ returns-3 c =
     let start = c .before .before .before .before .before .before .before .before in
     let a = start .args in
     let n = partLeft (rest (now (a .key)) (a .c)) in
-    let next = row-after (now (a .table)) (a .row) (c .before .before .before .next-row .ensures) (omega (arith, c .before .before .before .before .if1 .left, start .good .1 .0 .0)) in
+    let if1 = c .before .before .before .before .if1 in
+    let next = row-after (now (a .table)) (a .row) (c .before .before .before .next-row .ensures) (omega (arith, if1 .left, start .good .1 .0 .0)) in
     let here = members-stand (b .value .some) (b .value .stands) next in
     there-none root n (membersOf (now (a .text)) (insideAt g))
     (rw (c .enum-told .given .1) at (c .before .before .member-row .ensures (insideAt g) here))

@@ -67,7 +67,9 @@ module _ (t : ℕ) where
 
   in-rows : (c : lts.After-bound2 (given t) (member-at t) member.Post)
       → InRows (now (c .before .before .before .before .before .before .before .before .before .before .args .rows)) (c .before .bound .result) (c .bound2 .result)
-  in-rows c = record { ordered = c .bound2 .ensures .low; inside = omega (arith, c .bound2 .ensures .high, c .before .before .before .before .before .before .before .before .before .before .pre .1 .0 .inside) }
+  in-rows c =
+      let p = c .before .before .before .before .before .before .before .before .before .before .pre in
+      record { ordered = c .bound2 .ensures .low; inside = omega (arith, c .bound2 .ensures .high, p .1 .0 .inside) }
 
   pub returns : lts.Need-returns (given t) (member-at t) member.Post
   returns c =
@@ -91,7 +93,9 @@ module _ (t : ℕ) where
   ends-first-requires c κs = in-rows c
 
   pub mul-e : lts.Need-mul-e (given t) (member-at t) member.Post
-  mul-e c = omega (arith, c .before .ends-first .ensures .some (c .if2 .taken), in-rows (c .before .before) .inside, c .before .before .before .before .before .before .before .before .before .before .before .before .good .1 .1 .1 .1 .1 .1 .0 .1)
+  mul-e c =
+      let good = c .before .before .before .before .before .before .before .before .before .before .before .before .good in
+      omega (arith, c .before .ends-first .ensures .some (c .if2 .taken), in-rows (c .before .before) .inside, good .1 .1 .1 .1 .1 .1 .0 .1)
 
   pub shared-slice-read-e : lts.Need-shared-slice-read-e (given t) (member-at t) member.Post
   shared-slice-read-e c = omega (arith, c .before .before .ends-first .ensures .some (c .before .if2 .taken), in-rows (c .before .before .before) .inside)
@@ -113,16 +117,18 @@ module _ (t : ℕ) where
   pub returns-2 : lts.Need-returns-2 (given t) (member-at t) member.Post
   returns-2 c =
       λ root g ms v o s.
-      let a = c .before .before .before .before .before .before .before .before .before .before .before .before .before .before .before .before .before .args in
+      let early = c .before .before .before .before .before .before .before in
+      let a = early .before .before .before .before .before .before .before .before .before .before .args in
       let ends-first = c .before .before .before .before .before .before .ends-first in
       let if2 = c .before .before .before .before .before .if2 in
       let text = now (a .text) in
       let n = nameOf text (nameStart g) (nameEnd g) in
       let es = stripped (a .run .parts) ms in
-      let m = its-run (c .before .before .before .before .before .before .before) v s in
+      let m = its-run early v s in
       let f = first-said (m .said) (ends-first .ensures .some (if2 .taken)) in
       let ends = sym (if2 .taken) ∙ ends-first .ensures .is (m .run) (m .said) in
-      rw (stays-ends m root (docOf text g) (kept-in (c .before .before .before .before .before .before .before .before .before .before) o) f ends, ← label-is text v)
+      let stays-in = kept-in (early .before .before .before) o in
+      rw (stays-ends m root (docOf text g) stays-in f ends, ← label-is text v)
       (c .before .before .put-replaced .ensures (f .tree) (applied (docOf text g) (under n es)) (f .value))
 
   pub put-head-requires : lts.Need-put-head-requires (given t) (member-at t) member.Post
@@ -132,36 +138,56 @@ module _ (t : ℕ) where
   copy-value-requires c κs = tt
 
   pub same-length-2 : lts.Need-same-length-2 (given t) (member-at t) member.Post
-  same-length-2 c = c .before .before .copy-value .kept .1 .1 .1 .0 ∙ c .before .before .before .before .before .before .before .put-head .kept .1 .1 .1 .1 .1 .0
+  same-length-2 c =
+      let put-head = c .before .before .before .before .before .before .before .put-head in
+      c .before .before .copy-value .kept .1 .1 .1 .0 ∙ put-head .kept .1 .1 .1 .1 .1 .0
 
   pub returns-3 : lts.Need-returns-3 (given t) (member-at t) member.Post
   returns-3 c =
       λ root g ms v o s.
-      let a = c .before .before .before .before .before .before .before .before .before .before .before .before .before .before .before .before .before .before .before .before .before .args in
+      let early = c .before .before .before .before .before .before .before .before .before .before .before in
+      let a = early .before .before .before .before .before .before .before .before .before .before .args in
       let text = now (a .text) in
-      let m = its-run (c .before .before .before .before .before .before .before .before .before .before .before) v s in
-      let goes = sym (c .before .before .before .before .before .before .before .before .before .if2 .left) ∙ c .before .before .before .before .before .before .before .before .before .before .ends-first .ensures .is (m .run) (m .said) in
-      let as-is = idle-value (a .run .parts + 1) (docOf text g) (omega (arith, c .before .before .before .before .if3 .taken)) (m .said .listed) in
-      passed-some (docOf text g) (stays-goes m root (docOf text g) (kept-in (c .before .before .before .before .before .before .before .before .before .before .before .before .before .before) o) goes ∙ ap some as-is)
-      (rw (label-is text v) at (c .before .before .before .before .before .before .before .put-head .ensures)) (c .before .before .copy-value .ensures g v)
+      let ends-first = c .before .before .before .before .before .before .before .before .before .before .ends-first in
+      let if2 = c .before .before .before .before .before .before .before .before .before .if2 in
+      let put-head = c .before .before .before .before .before .before .before .put-head in
+      let if3 = c .before .before .before .before .if3 in
+      let m = its-run early v s in
+      let goes = sym (if2 .left) ∙ ends-first .ensures .is (m .run) (m .said) in
+      let stays-in = kept-in (early .before .before .before) o in
+      let as-is = idle-value (a .run .parts + 1) (docOf text g) (omega (arith, if3 .taken)) (m .said .listed) in
+      passed-some (docOf text g) (stays-goes m root (docOf text g) stays-in goes ∙ ap some as-is)
+      (rw (label-is text v) at (put-head .ensures)) (c .before .before .copy-value .ensures g v)
 
   pub add-further : lts.Need-add-further (given t) (member-at t) member.Post
-  add-further c = let start = c .before .before .before .before .before .before .before .before .before .before .before .before .before .before .before .before .before in omega (arith, start .pre .1 .1, start .good .1 .1 .0)
+  add-further c =
+      let start = c .before .before .before .before .before .before .before .before .before .before .before .before .before .before .before .before .before in
+      omega (arith, start .pre .1 .1, start .good .1 .1 .0)
 
   pub put-value-requires : lts.Need-put-value-requires (given t) (member-at t) member.Post
-  put-value-requires c κs = let p = c .before .before .before .before .before .before .before .before .before .before .before .before .before .before .before .before .before .before .pre in (omega (arith, p .0), (in-rows (c .before .before .before .before .before .before .before .before), omega (arith, p .1 .1)))
+  put-value-requires c κs =
+      let early = c .before .before .before .before .before .before .before .before in
+      let p = early .before .before .before .before .before .before .before .before .before .before .pre in
+      (omega (arith, p .0), (in-rows early, omega (arith, p .1 .1)))
 
   pub same-length-3 : lts.Need-same-length-3 (given t) (member-at t) member.Post
-  same-length-3 c = c .before .before .put-value .kept .1 .1 .1 .1 .1 .1 .1 .1 .0 ∙ c .before .before .before .before .before .before .before .put-head .kept .1 .1 .1 .1 .1 .0
+  same-length-3 c =
+      let put-head = c .before .before .before .before .before .before .before .put-head in
+      c .before .before .put-value .kept .1 .1 .1 .1 .1 .1 .1 .1 .0 ∙ put-head .kept .1 .1 .1 .1 .1 .0
 
   pub returns-4 : lts.Need-returns-4 (given t) (member-at t) member.Post
   returns-4 c =
       λ root g ms v o s.
-      let a = c .before .before .before .before .before .before .before .before .before .before .before .before .before .before .before .before .before .before .before .before .before .args in
+      let early = c .before .before .before .before .before .before .before .before .before .before .before in
+      let a = early .before .before .before .before .before .before .before .before .before .before .args in
       let text = now (a .text) in
-      let m = its-run (c .before .before .before .before .before .before .before .before .before .before .before) v s in
-      let goes = sym (c .before .before .before .before .before .before .before .before .before .if2 .left) ∙ c .before .before .before .before .before .before .before .before .before .before .ends-first .ensures .is (m .run) (m .said) in
-      let stays-in = kept-in (c .before .before .before .before .before .before .before .before .before .before .before .before .before .before) o in
+      let ends-first = c .before .before .before .before .before .before .before .before .before .before .ends-first in
+      let if2 = c .before .before .before .before .before .before .before .before .before .if2 in
+      let put-head = c .before .before .before .before .before .before .before .put-head in
+      let m = its-run early v s in
+      let goes = sym (if2 .left) ∙ ends-first .ensures .is (m .run) (m .said) in
+      let stays-in = kept-in (early .before .before .before) o in
       passed-some (applied (docOf text g) (stripped (a .run .parts + 1) (m .run))) (stays-goes m root (docOf text g) stays-in goes)
-      (rw (label-is text v) at (c .before .before .before .before .before .before .before .put-head .ensures))
-      (c .before .before .put-value .ensures false g (m .run) (record { value = v; out = out-inside text g o }) (said-further m root (docOf text g) stays-in goes))
+      (rw (label-is text v) at (put-head .ensures))
+      (c .before .before .put-value .ensures false g (m .run) (record { value = v; out = out-inside text g o })
+      (said-further m root (docOf text g) stays-in goes))

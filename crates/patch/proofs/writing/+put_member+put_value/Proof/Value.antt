@@ -74,19 +74,25 @@ module _ (t : ℕ) where
       let a = c .before .before .before .before .before .before .before .before .before .before .before .before .args in
       let text = now (a .text) in
       let v = b .value in
+      let kind = c .before .before .before .before .before .kind in
+      let if1 = c .before .before .before .before .if1 in
       rw (based-other root (docOf text g) (stripped (a .run .parts) ms)
-      (λ e. c .before .before .before .before .if1 .taken (c .before .before .before .before .before .kind .ensures ∙ value-row v .kind ∙ sym (doc-kind text g (v .some)) ∙ e))) (c .before .before .copy-value .ensures g v)
+      (λ e. if1 .taken (kind .ensures ∙ value-row v .kind ∙ sym (doc-kind text g (v .some)) ∙ e))) (c .before .before .copy-value .ensures g v)
 
   -- the row is one of the table
-  inside : (c : lts.Else1 (given t) (value-at t) value.Post Inv-loop μ-loop) → let a = c .before .before .before .before .before .before .before .before .args in a .row * rowWords < length (a .table .now)
-  inside c = let a = c .before .before .before .before .before .before .before .before .args in row-inside (a .table .now) (a .row) (omega (arith, c .before .kind .ensures, c .if1 .left))
+  inside : (c : lts.Else1 (given t) (value-at t) value.Post Inv-loop μ-loop)
+      → let a = c .before .before .before .before .before .before .before .before .args in a .row * rowWords < length (a .table .now)
+  inside c =
+      let a = c .before .before .before .before .before .before .before .before .args in
+      row-inside (a .table .now) (a .row) (omega (arith, c .before .kind .ensures, c .if1 .left))
 
   pub next-row-requires : lts.Need-next-row-requires (given t) (value-at t) value.Post Inv-loop μ-loop
   next-row-requires c κs = tt
 
   -- where the rows inside the value end
   ends : (c : lts.After-next-row (given t) (value-at t) value.Post Inv-loop μ-loop)
-      → let a = c .before .before .before .before .before .before .before .before .before .args in c .next-row .result ≡ a .row + 1 + belowIn (a .table .now) (a .row)
+      → let a = c .before .before .before .before .before .before .before .before .before .args in
+      c .next-row .result ≡ a .row + 1 + belowIn (a .table .now) (a .row)
   ends c =
       let start = c .before .before .before .before .before .before .before .before .before in
       row-after (start .args .table .now) (start .args .row) (c .next-row .ensures) (omega (arith, inside (c .before), start .good .1 .0 .1))
@@ -125,19 +131,24 @@ module _ (t : ℕ) where
 
   -- the row of the next member
   steps : (c : lts.After-next-row2 (given t) (value-at t) value.Post Inv-loop μ-loop)
-      → let m = c .before .before .before .before .before .before .loop .m in c .next-row2 .result ≡ m + 1 + belowIn (c .before .before .before .before .before .before .before .before .before .before .before .before .before .before .before .before .before .before .before .before .args .table .now) m
+      → let turn = c .before .before .before .before .before .before in
+      let a = turn .before .before .before .before .before .before .before .before .before .before .before .before .before .before .args in
+      c .next-row2 .result ≡ turn .loop .m + 1 + belowIn (a .table .now) (turn .loop .m)
   steps c =
-      let loop = c .before .before .before .before .before .before .loop in
-      row-after (c .before .before .before .before .before .before .before .before .before .before .before .before .before .before .before .before .before .before .before .before .args .table .now) (loop .m) (c .next-row2 .ensures) (omega (arith, c .before .before .before .before .before .loop-test .taken, loop .inv .0 .near))
+      let turn = c .before .before .before .before .before .before in
+      let a = turn .before .before .before .before .before .before .before .before .before .before .before .before .before .before .args in
+      let taken = c .before .before .before .before .before .loop-test .taken in
+      row-after (a .table .now) (turn .loop .m) (c .next-row2 .ensures) (omega (arith, taken, turn .loop .inv .0 .near))
 
   pub loop-less : lts.Need-loop-less (given t) (value-at t) value.Post Inv-loop μ-loop
   loop-less c = omega (arith, c .before .before .before .before .before .loop-test .taken, steps c)
 
   pub loop-again : lts.Need-loop-again (given t) (value-at t) value.Post Inv-loop μ-loop
   loop-again c =
-      let a = c .before .before .before .before .before .before .before .before .before .before .before .before .before .before .before .before .before .before .before .before .args in
+      let turn = c .before .before .before .before .before .before in
+      let a = turn .before .before .before .before .before .before .before .before .before .before .before .before .before .before .args in
       let text = now (a .text) in
-      let l = c .before .before .before .before .before .before .loop in
+      let l = turn .loop in
       let taken = c .before .before .before .before .before .loop-test .taken in
       let put-member = c .before .before .before .put-member in (
         record {
@@ -158,17 +169,25 @@ module _ (t : ℕ) where
   put-additions-requires c κs = c .before .before .before .before .before .before .before .before .before .before .before .before .before .before .before .before .pre .1 .0
 
   pub same-length-2 : lts.Need-same-length-2 (given t) (value-at t) value.Post Inv-loop μ-loop
-  same-length-2 c = c .before .before .put-additions .kept .1 .1 .1 .1 .1 .1 .1 .1 .0 ∙ c .before .before .before .before .before .loop .inv .0 .long ∙ c .before .before .before .before .before .before .before .before .put-byte .kept .0
+  same-length-2 c =
+      let put-byte = c .before .before .before .before .before .before .before .before .put-byte in
+      let loop = c .before .before .before .before .before .loop in
+      c .before .before .put-additions .kept .1 .1 .1 .1 .1 .1 .1 .1 .0 ∙ loop .inv .0 .long ∙ put-byte .kept .0
 
   pub returns-2 : lts.Need-returns-2 (given t) (value-at t) value.Post Inv-loop μ-loop
   returns-2 c =
       λ root g ms b s.
-      let a = c .before .before .before .before .before .before .before .before .before .before .before .before .before .before .before .before .before .before .before .args in
+      let early = c .before .before .before .before .before .before .before .before .before .before .before .before in
+      let a = early .before .before .before .before .before .before .before .args in
+      let if1 = c .before .before .before .before .before .before .before .before .before .before .before .if1 in
+      let put-byte = c .before .before .before .before .before .before .before .before .put-byte in
+      let loop = c .before .before .before .before .before .loop in
+      let loop-test = c .before .before .before .before .loop-test in
       let text = now (a .text) in
       let v = b .value in
       let es = stripped (a .run .parts) ms in
       let more = added (membersIn root text g) es in
-      let object = doc-object text g (v .some) (v .kinds) (sym (value-row v .kind) ∙ sym (c .before .before .before .before .before .before .before .before .before .before .before .before .kind .ensures) ∙ c .before .before .before .before .before .before .before .before .before .before .before .if1 .left) in
+      let object = doc-object text g (v .some) (v .kinds) (sym (value-row v .kind) ∙ sym (early .kind .ensures) ∙ if1 .left) in
       rw (object, based-object root (membersOf text (insideAt g)) es) (wrote-then (123 ∷ []) (restBy text root es more (insideAt g) true)
-      (c .before .before .before .before .before .before .before .before .put-byte .ensures)
-      (patch-end text root es more (c .before .before .before .before .before .loop .inv .1 root g ms b s) (c .before .before .before .before .loop-test .left) (c .before .before .put-additions .ensures root g ms b s)))
+      (put-byte .ensures)
+      (patch-end text root es more (loop .inv .1 root g ms b s) (loop-test .left) (c .before .before .put-additions .ensures root g ms b s)))
