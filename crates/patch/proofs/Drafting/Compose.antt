@@ -56,10 +56,10 @@ abbrev Lists : (text table rows : List ℕ) → (n patch : ℕ) → Type 0
 Lists text table rows n patch = (p : Forest) → Held table mostEntries patch p → Listed text table rows 0 n (membersOf text (insideAt p))
 
 pub listing : {text table rows : List ℕ} {n patch end : ℕ} → end ≡ patch + 1 + belowIn table patch → Collected table (patch + 1) end rows n
-    → Lists text table rows n patch
-listing {text} e c p h =
+    → belowIn table patch ≤ length rows → Lists text table rows n patch
+listing {text} e c room p h =
     let v = h .value in
-    c .all text (insideAt p) (members-stand (v .some) (v .stands) e) (inside-kinds p (v .kinds)) (omega (arith, e, inside-few h))
+    c .all text (insideAt p) (members-stand (v .some) (v .stands) e) (inside-kinds p (v .kinds)) (omega (arith, e, inside-few h)) (omega (arith, e))
 
 module _ (card : List ℕ) {ctable text table rows : List ℕ} {leave n patch : ℕ} (l : Lists text table rows n patch) {condition : Condition}
     (first : (g : Forest) (ms : Members) → KnownAt ctable 0 g → Listed text table rows 0 n ms → condition ≡ conditionOf (docOf card g) ms) where
