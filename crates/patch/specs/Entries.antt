@@ -38,4 +38,5 @@ mostEntries = base .values
 -- never too many
 pub record Collected (table : List ℕ) (from end : ℕ) (rows : List ℕ) (n : ℕ) : Type 0 where
   pub inside : n ≤ length rows
-  pub all : (t : List ℕ) (f : Forest) → StandsTo table from end f → Kinds f → end ≤ mostEntries → end ≤ from + length rows → Listed t table rows 0 n (membersOf t f)
+  pub all : (t : List ℕ) (f : Forest) → StandsTo table from end f → Kinds f → end ≤ mostEntries → end ≤ from + length rows
+      → Listed t table rows 0 n (membersOf t f)

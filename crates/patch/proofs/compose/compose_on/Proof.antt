@@ -12,7 +12,8 @@ use Rattle.patch.proofs.compose.compose_on.Tie as tie
 
 -- where the rows inside the PatchObject end
 ends : (c : tie.After-next-row)
-    → let a = c .before .before .before .before .before .before .before .before .args in c .next-row .result ≡ a .patch + 1 + belowIn (now (a .table)) (a .patch)
+    → let a = c .before .before .before .before .before .before .before .before .args in
+    c .next-row .result ≡ a .patch + 1 + belowIn (now (a .table)) (a .patch)
 ends c =
     let start = c .before .before .before .before .before .before .before .before in
     row-after (now (start .args .table)) (start .args .patch) (c .next-row .ensures) (omega (arith, start .pre .0))

@@ -12,7 +12,8 @@ returns c =
     λ g ms b l nc.
     let sorted = c .before .before .before .before .before .before .before .before .before in
     let begin = sorted .before .before .before .before .before .before .before .before .before .before in
-    sorted-wrote (start (docOf (now (begin .args .card)) g)) ms (begin .pre .0) (sorted .sort-rows .ensures) l nc (λ ns m a. c .before .before .put-card .ensures g ns b m a)
+    sorted-wrote (start (docOf (now (begin .args .card)) g)) ms (begin .pre .0) (sorted .sort-rows .ensures) l nc
+    (λ ns m a. c .before .before .put-card .ensures g ns b m a)
 
 pub put-sorted-spec : {M : Type 1} → statement M
 put-sorted-spec =

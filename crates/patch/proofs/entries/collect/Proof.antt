@@ -1,4 +1,5 @@
--- The loop's invariant: no more words are used than rows were passed, and the list so far, with the members that stand from `at` on, is that of all. Assumes nothing.
+-- The loop's invariant: no more words are used than rows were passed, and the list so far, with the members that stand from `at` on, is that of all.
+-- Assumes nothing.
 use Prim.Native.Nat.{_+_, _≤_, _-_}
 use mathlib.Core.Path.{_≡_, refl}
 use native.Mathlib.Omega.{arith}

@@ -66,7 +66,8 @@ module _ (t : ℕ) where
   its-run c v s = middle s (rw (name-is (c .before .before) v) at (c .before .bound .ensures)) (rw (name-is (c .before .before) v) at (c .bound2 .ensures))
 
   in-rows : (c : lts.After-bound2 (given t) (member-at t) member.Post)
-      → InRows (now (c .before .before .before .before .before .before .before .before .before .before .args .rows)) (c .before .bound .result) (c .bound2 .result)
+      → let a = c .before .before .before .before .before .before .before .before .before .before .args in
+      InRows (now (a .rows)) (c .before .bound .result) (c .bound2 .result)
   in-rows c =
       let p = c .before .before .before .before .before .before .before .before .before .before .pre in
       record { ordered = c .bound2 .ensures .low; inside = omega (arith, c .bound2 .ensures .high, p .1 .0 .inside) }
@@ -110,7 +111,8 @@ module _ (t : ℕ) where
   same-length c = c .before .before .put-replaced .kept .1 .1 .1 .1 .1 .1 .0
 
   -- the member stays in
-  kept-in : (c : lts.Else1 (given t) (member-at t) member.Post) {out : Bool} {below : ℕ} → let a = c .before .before .before .before .before .before .before .args in
+  kept-in : (c : lts.Else1 (given t) (member-at t) member.Post) {out : Bool} {below : ℕ}
+      → let a = c .before .before .before .before .before .before .before .args in
       OutAt out (a .leave) (a .row) below → out ≡ false
   kept-in c o = let a = c .before .before .before .before .before .before .before .args in o .is ∙ ne-eqb (a .row) (a .leave) (c .if1 .left)
 

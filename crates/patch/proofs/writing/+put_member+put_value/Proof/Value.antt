@@ -166,7 +166,9 @@ module _ (t : ℕ) where
       )
 
   pub put-additions-requires : lts.Need-put-additions-requires (given t) (value-at t) value.Post Inv-loop μ-loop
-  put-additions-requires c κs = c .before .before .before .before .before .before .before .before .before .before .before .before .before .before .before .before .pre .1 .0
+  put-additions-requires c κs =
+      let early = c .before .before .before .before .before .before .before .before in
+      early .before .before .before .before .before .before .before .before .pre .1 .0
 
   pub same-length-2 : lts.Need-same-length-2 (given t) (value-at t) value.Post Inv-loop μ-loop
   same-length-2 c =
