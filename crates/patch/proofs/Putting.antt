@@ -5,5 +5,6 @@ pub mod Walks
 pub mod Copies
 pub mod Kept
 pub mod Additions
+pub mod Leaving
 pub mod Patches
 pub mod Cards

@@ -2,7 +2,7 @@
 use Prim.Native.Nat.{ℕ, _<_}
 use mathlib.Core.Path.{_≡_}
 use mathlib.Core.List.{List}
-use mathlib.Core.Bool.{cond}
+use mathlib.Core.Bool.{true, cond}
 use mathlib.Core.Option.{Option, none, some}
 use lib.Dec.{ltb}
 use lib.ListN.{length}
@@ -13,7 +13,6 @@ use Rattle.text.specs.Tree.{Forest, treeRows}
 use Rattle.text.specs.Firsts.{insideAt}
 use Rattle.text.specs.Doc.{Name, Doc, scalar, array, object, Members, Property, membersOf, docOf}
 use Rattle.text.specs.Writing.{written}
-use Rattle.json.specs.Lookup.{KnownAt}
 use Rattle.contact.specs.Verdict.{passed, judgedOf}
 use Rattle.contact.specs.Pointer.{find}
 use Rattle.contact.specs.Patch.{entriesOf}
@@ -23,8 +22,9 @@ use Rattle.contact.specs.declared.LocalRefusal.{LocalRefusal}
 use Rattle.contact.specs.declared.LocalRefusal.the-variants.{NoLanguage, Short}
 use Rattle.patch.specs.Written.{full, Wrote}
 use Rattle.patch.specs.Entries.{mostEntries, Listed}
-use Rattle.patch.specs.Language.{Held}
+use Rattle.patch.specs.Children.{Held}
 use Rattle.patch.specs.Conditions.{conditionOf}
+use Rattle.patch.specs.Patched.{BaseAt}
 use Rattle.patch.specs.declared.conditions.Condition.{Condition}
 use Rattle.patch.specs.declared.conditions.Condition.the-variants.{Kept, Broken}
 use Rattle.patch.specs.declared.compose.Attempt.{Attempt}
@@ -88,15 +88,15 @@ Drafted (draft t) old new r = (r ≡ fittingOf (length t) (length old)) × (new 
 Drafted (refusal q) old new r = (r ≡ Refused q) × (new ≡ old)
 
 -- the card was written as the listed entries leave it, if they do not clash
-abbrev pub PutSorted : (card ctable text table rows : List ℕ) → (n : ℕ) → (old new : List ℕ) → (r : ℕ) → Type 0
-PutSorted card ctable text table rows n old new r =
-    (g : Forest) (ms : Members) → KnownAt ctable 0 g → Listed text table rows 0 n ms → NoClash (entriesOf ms)
+abbrev pub PutSorted : (card ctable : List ℕ) → (leave : ℕ) → (text table rows : List ℕ) → (n : ℕ) → (old new : List ℕ) → (r : ℕ) → Type 0
+PutSorted card ctable leave text table rows n old new r =
+    (g : Forest) (ms : Members) → BaseAt card ctable leave 0 true g → Listed text table rows 0 n ms → NoClash (entriesOf ms)
     → Wrote old 0 (written (patchedDoc (docOf card g) ms)) new r
 
 -- the card as the PatchObject at a row of a table leaves it was written, or was not
-abbrev pub Makes : (card ctable text table : List ℕ) → (patch : ℕ) → (old new : List ℕ) → Attempt → Type 0
-Makes card ctable text table patch old new r =
-    (g p : Forest) → KnownAt ctable 0 g → Held table mostEntries patch p → Countable (docOf card g) (membersOf text (insideAt p))
+abbrev pub Makes : (card ctable : List ℕ) → (leave : ℕ) → (text table : List ℕ) → (patch : ℕ) → (old new : List ℕ) → Attempt → Type 0
+Makes card ctable leave text table patch old new r =
+    (g p : Forest) → BaseAt card ctable leave 0 true g → Held table mostEntries patch p → Countable (docOf card g) (membersOf text (insideAt p))
     → Drafted (entriesDraft (docOf card g) (membersOf text (insideAt p))) old new r
 
 -- the card as the PatchObject of a language leaves it

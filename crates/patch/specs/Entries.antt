@@ -34,7 +34,9 @@ rowOrder t table row other = pointerOrder (pointerOf (keyAt t table row)) (point
 abbrev pub mostEntries : ℕ
 mostEntries = base .values
 
--- the members that stand between two rows are listed by the first n words, where no more rows stand there than a card can have; and n is never too many
+-- the members that stand between two rows are listed by the first n words, where a card can have those rows and the list has room for as many; and n is
+-- never too many
 pub record Collected (table : List ℕ) (from end : ℕ) (rows : List ℕ) (n : ℕ) : Type 0 where
   pub inside : n ≤ length rows
-  pub all : (t : List ℕ) (f : Forest) → StandsTo table from end f → Kinds f → end ≤ mostEntries → Listed t table rows 0 n (membersOf t f)
+  pub all : (t : List ℕ) (f : Forest) → StandsTo table from end f → Kinds f → end ≤ mostEntries → end ≤ from + length rows
+      → Listed t table rows 0 n (membersOf t f)

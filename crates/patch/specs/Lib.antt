@@ -6,7 +6,6 @@ pub mod Paths
 pub mod Runs
 pub mod Written
 pub mod Copied
-pub mod Language
 pub mod Conditions
 pub mod Patched
 pub mod Drafts

@@ -1,6 +1,6 @@
 -- An object written as the entries of a patch leave it, member by member: what becomes of a member, what an entry adds, and the bytes of each.
 -- Assumes nothing: these are definitions.
-use Prim.Native.Nat.{ℕ, _≤_, _<_}
+use Prim.Native.Nat.{ℕ, _+_, _≤_, _<_}
 use mathlib.Core.Path.{_≡_}
 use mathlib.Core.Bool.{Bool, true, false, cond}
 use mathlib.Core.List.{List, [], _∷_, _++_}
@@ -9,8 +9,9 @@ use lib.Dec.{eqb}
 use lib.ListN.{length}
 use Rattle.laws.specs.Order.{same}
 use Rattle.text.specs.Text.{bytes}
-use Rattle.text.specs.Tree.{Forest}
-use Rattle.text.specs.Firsts.{nameStart, nameEnd, insideAt}
+use Rattle.text.specs.Tree.{Forest, leaf, node, size}
+use Rattle.text.specs.Tree as T
+use Rattle.text.specs.Firsts.{nameStart, nameEnd, insideAt, belowAt}
 use Rattle.text.specs.Strings.{nameOf}
 use Rattle.text.specs.Doc.{Name, Doc, Members, member, Property, seek, membersOf, labelAt, docOf}
 use Rattle.text.specs.Writing.{spelled, written, writtenMembers}
@@ -39,7 +40,7 @@ pub record Said (t table rows : List ℕ) (lo hi parts : ℕ) (ms : Members) : T
   pub listed : Listed t table rows lo hi ms
   pub ascending : InOrder (stripped parts ms)
 
--- ---- the card at its root is taken without its localizations
+-- ---- the card at its root is taken without its localizations, which stand at the row `leave`
 
 -- a value, which is the card if it is the root
 abbrev pub based : (root : Bool) → Doc → Doc
@@ -59,6 +60,23 @@ membersIn root t g = basedAll root (membersOf t (insideAt g))
 abbrev pub isOut : (root : Bool) → Name → Bool
 isOut true n = same n (bytes "localizations")
 isOut false n = false
+
+-- a member stands at row m, with so many rows below it: m is the row `leave` if the member is left out, and else `leave` is none of its rows
+pub record OutAt (out : Bool) (leave m below : ℕ) : Type 0 where
+  pub is : out ≡ eqb m leave
+  pub past : m < leave → m + below < leave
+
+-- so it is with each of the values that stand from row m on
+abbrev pub LeavesOut : (t : List ℕ) → (leave : ℕ) → (root : Bool) → (m : ℕ) → Forest → Type 0
+LeavesOut t leave root m T.none = Prim.Unit {0}
+LeavesOut t leave root m (leaf kind ns ne from to rest) = OutAt (isOut root (nameOf t ns ne)) leave m 0 × LeavesOut t leave root (m + 1) rest
+LeavesOut t leave root m (node b ns ne from to inside rest) =
+    OutAt (isOut root (nameOf t ns ne)) leave m (size inside) × LeavesOut t leave root (m + 1 + size inside) rest
+
+-- a value stands at a row, and so it is with the members inside it
+pub record BaseAt (t table : List ℕ) (leave row : ℕ) (root : Bool) (g : Forest) : Type 0 where
+  pub value : KnownAt table row g
+  pub out : LeavesOut t leave root (row + 1) (insideAt g)
 
 -- ---- what becomes of a member
 
@@ -117,10 +135,6 @@ pub record Ending (t table rows : List ℕ) (lo hi parts : ℕ) (r : Bool) : Typ
   pub some : r ≡ true → lo < hi
   pub is : (ms : Members) → Said t table rows lo hi parts ms → r ≡ endsFirst (stripped parts ms)
 
--- does a run leave a value as it is? At the root a member may be left out
-abbrev pub idle : (root : Bool) → (lo hi : ℕ) → Bool
-idle root lo hi = cond root false (eqb lo hi)
-
 -- ---- the bytes of one member
 
 -- a member that is written, or not, and those after it
@@ -146,23 +160,23 @@ pub record Passed (old : List ℕ) (from : Spot) (o : Option Doc) (label new : L
   pub next : r .first ≡ since o (from .first)
 
 -- the entry at row e, with what is left of its pointer, adds a member to the object at a row, or does not
-abbrev pub IsAdded : (t table : List ℕ) → (row : ℕ) → (root : Bool) → (ptable : List ℕ) → (e : ℕ) → Pointer → (r : Bool) → Type 0
-IsAdded t table row root ptable e p r =
-    (pt : List ℕ) (g h : Forest) → KnownAt table row g → KnownAt ptable e h
+abbrev pub IsAdded : (t table : List ℕ) → (row leave : ℕ) → (ptable : List ℕ) → (e : ℕ) → Pointer → (r : Bool) → Type 0
+IsAdded t table row leave ptable e p r =
+    (root : Bool) (pt : List ℕ) (g h : Forest) → BaseAt t table leave row root g → KnownAt ptable e h
     → adds (membersIn root t g) (entry p (changeOf (docOf pt h))) ≡ cond r (some (docOf pt h)) none
 
 -- the member that the entry at row e adds was written, or it adds none
-abbrev pub PutAddition : (t table : List ℕ) → (row : ℕ) → (root : Bool) → (pt ptable : List ℕ) → (e parts : ℕ) → (old : List ℕ) → (from : Spot)
+abbrev pub PutAddition : (t table : List ℕ) → (row leave : ℕ) → (pt ptable : List ℕ) → (e parts : ℕ) → (old : List ℕ) → (from : Spot)
     → (new : List ℕ) → (r : Spot) → Type 0
-PutAddition t table row root pt ptable e parts old from new r =
-    (g h : Forest) → KnownAt table row g → KnownAt ptable e h
+PutAddition t table row leave pt ptable e parts old from new r =
+    (root : Bool) (g h : Forest) → BaseAt t table leave row root g → KnownAt ptable e h
     → Passed old from (adds (membersIn root t g) (entryOf pt parts h)) (spelled (firstPart (pointerIn pt parts h))) new r
 
 -- the members that the run adds were written, and the closing brace
-abbrev pub PutAdditions : (t table : List ℕ) → (row : ℕ) → (root : Bool) → (pt ptable rows : List ℕ) → (lo hi parts : ℕ) → (old : List ℕ) → (from : Spot)
+abbrev pub PutAdditions : (t table : List ℕ) → (row leave : ℕ) → (pt ptable rows : List ℕ) → (lo hi parts : ℕ) → (old : List ℕ) → (from : Spot)
     → (new : List ℕ) → (r : ℕ) → Type 0
-PutAdditions t table row root pt ptable rows lo hi parts old from new r =
-    (g : Forest) (ms : Members) → KnownAt table row g → Said pt ptable rows lo hi parts ms
+PutAdditions t table row leave pt ptable rows lo hi parts old from new r =
+    (root : Bool) (g : Forest) (ms : Members) → BaseAt t table leave row root g → Said pt ptable rows lo hi parts ms
     → Wrote old (from .to) (writtenMembers (added (membersIn root t g) (stripped parts ms)) (from .first)) new r
 
 -- the member at a row was written with the value of the entry at row e, or left out if that is null
@@ -172,21 +186,22 @@ PutReplaced t table row pt ptable e old from new r =
     (h : Forest) (d : Doc) → KnownAt ptable e h → Passed old from (keptBy (some (changeOf (docOf pt h))) d) (labelIn t table row) new r
 
 -- the member at hand was written as the entries leave it
-abbrev pub PutMember : (t table : List ℕ) → (row : ℕ) → (root : Bool) → (pt ptable rows : List ℕ) → (lo hi parts : ℕ) → (old : List ℕ) → (from : Spot)
+abbrev pub PutMember : (t table : List ℕ) → (row leave : ℕ) → (pt ptable rows : List ℕ) → (lo hi parts : ℕ) → (old : List ℕ) → (from : Spot)
     → (new : List ℕ) → (r : Spot) → Type 0
-PutMember t table row root pt ptable rows lo hi parts old from new r =
-    (g : Forest) (ms : Members) → KnownAt table row g → Said pt ptable rows lo hi parts ms
-    → Passed old from (stays root (nameOf t (nameStart g) (nameEnd g)) (stripped parts ms) (docOf t g)) (labelAt t (nameStart g) (nameEnd g)) new r
+PutMember t table row leave pt ptable rows lo hi parts old from new r =
+    (root : Bool) (g : Forest) (ms : Members) → let n = nameOf t (nameStart g) (nameEnd g) in
+    KnownAt table row g → OutAt (isOut root n) leave row (belowAt g) → Said pt ptable rows lo hi parts ms
+    → Passed old from (stays root n (stripped parts ms) (docOf t g)) (labelAt t (nameStart g) (nameEnd g)) new r
 
 -- the value at hand was written as the entries leave it
-abbrev pub PutValue : (t table : List ℕ) → (row : ℕ) → (root : Bool) → (pt ptable rows : List ℕ) → (lo hi parts : ℕ) → (old : List ℕ) → (at : ℕ)
+abbrev pub PutValue : (t table : List ℕ) → (row leave : ℕ) → (pt ptable rows : List ℕ) → (lo hi parts : ℕ) → (old : List ℕ) → (at : ℕ)
     → (new : List ℕ) → (r : ℕ) → Type 0
-PutValue t table row root pt ptable rows lo hi parts old at new r =
-    (g : Forest) (ms : Members) → KnownAt table row g → Said pt ptable rows lo hi parts ms
+PutValue t table row leave pt ptable rows lo hi parts old at new r =
+    (root : Bool) (g : Forest) (ms : Members) → BaseAt t table leave row root g → Said pt ptable rows lo hi parts ms
     → Wrote old at (written (applied (based root (docOf t g)) (stripped parts ms))) new r
 
 -- the card was written: without its localizations, as the listed entries leave it
-abbrev pub PutCard : (t table pt ptable rows : List ℕ) → (n : ℕ) → (old new : List ℕ) → (r : ℕ) → Type 0
-PutCard t table pt ptable rows n old new r =
-    (g : Forest) (ms : Members) → KnownAt table 0 g → Listed pt ptable rows 0 n ms → InOrder (stripped 0 ms)
+abbrev pub PutCard : (t table : List ℕ) → (leave : ℕ) → (pt ptable rows : List ℕ) → (n : ℕ) → (old new : List ℕ) → (r : ℕ) → Type 0
+PutCard t table leave pt ptable rows n old new r =
+    (g : Forest) (ms : Members) → BaseAt t table leave 0 true g → Listed pt ptable rows 0 n ms → InOrder (stripped 0 ms)
     → Wrote old 0 (written (patchedDoc (docOf t g) ms)) new r

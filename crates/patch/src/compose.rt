@@ -1,20 +1,21 @@
 // The localized card, written for a lent output: all entries of the language's PatchObject, or a refusal from 21 to 27.
+use crate::children::child_row;
 use crate::conditions::Condition;
 use crate::conditions::first_broken;
 use crate::entries::MOST_ENTRIES;
 use crate::entries::collect;
-use crate::language::patch_row;
 use crate::sort::sort_rows;
 use crate::writing::put_card;
 use contact::LocalRefusal;
 use json::lookup::Found;
 use json::lookup::next_row;
 use json::rows::OBJECT;
+use json::rows::below;
 use json::rows::kind;
 ghost use mathlib.Core.Path.{_≡_};
 ghost use Prim.Native.Nat.{_≤_, _<_};
 ghost use lib.ListN.{length};
-ghost use Rattle.patch.specs.Entries.{mostEntries};
+ghost use Rattle.json.specs.Rows.{belowIn};
 ghost use Rattle.patch.specs.Drafts.{fittingOf, PutSorted, Makes, MakesFor};
 
 // So many bytes were written, or nothing that counts.
@@ -23,23 +24,27 @@ pub enum Attempt {
     Refused(LocalRefusal),
 }
 
+// A PatchObject with so few values inside it is listed in little room, which costs little to clear.
+const FEW_ENTRIES: usize = 64;
+
 // The card as the listed entries leave it, which do not clash: they are sorted, and then it is written in one walk.
 fn put_sorted(
     card: &[u8],
     card_table: &[u32],
+    leave: usize,
     text: &[u8],
     table: &[u32],
     rows: &mut [u32],
+    scratch: &mut [u32],
     n: usize,
     out: &mut [u8],
 ) -> usize
     requires { ⌜ n ≤ length (now rows) ⌝ }
-    requires { ⌜ n ≤ mostEntries ⌝ }
-    ensures { λ r. ⌜ PutSorted (now (card .entry)) (now («card_table» .entry)) (now (text .entry)) (now (table .entry)) (now (rows .entry)) n (now (out .entry)) (now (out .exit)) r ⌝ }
+    requires { ⌜ n ≤ length (now scratch) ⌝ }
+    ensures { λ r. ⌜ PutSorted (now (card .entry)) (now («card_table» .entry)) leave (now (text .entry)) (now (table .entry)) (now (rows .entry)) n (now (out .entry)) (now (out .exit)) r ⌝ }
 {
-    let mut scratch = [0u32; MOST_ENTRIES];
-    sort_rows(text, table, rows, &mut scratch, n);
-    put_card(card, card_table, text, table, rows, n, out)
+    sort_rows(text, table, rows, scratch, n);
+    put_card(card, card_table, leave, text, table, rows, n, out)
 }
 
 // So many bytes, if they have room; else 27.
@@ -52,38 +57,87 @@ fn fitting(count: usize, room: usize) -> Attempt
     Attempt::Bytes(count)
 }
 
-// The card as the PatchObject at a row of the patch leaves it, if no condition from 22 to 27 is broken.
+// The card as the PatchObject at a row of the patch leaves it, if no condition from 22 to 27 is broken and the lent list has room for its entries.
+fn compose_on(
+    card: &[u8],
+    card_table: &[u32],
+    leave: usize,
+    text: &[u8],
+    table: &[u32],
+    patch: usize,
+    rows: &mut [u32],
+    scratch: &mut [u32],
+    out: &mut [u8],
+) -> Attempt
+    requires { ⌜ patch < length (now table) ⌝ }
+    requires { ⌜ length (now rows) ≤ length (now scratch) ⌝ }
+    ensures { λ r. ⌜ (belowIn (now (table .entry)) patch ≤ length (now (rows .entry)) → Makes (now (card .entry)) (now («card_table» .entry)) leave (now (text .entry)) (now (table .entry)) patch (now (out .entry)) (now (out .exit)) r) ⌝ }
+{
+    let first = patch + 1;
+    let end = next_row(table, patch);
+    let n = collect(table, first, end, rows);
+    if let Condition::Broken(r) = first_broken(card, card_table, text, table, rows, n) {
+        return Attempt::Refused(r);
+    }
+    let count = put_sorted(card, card_table, leave, text, table, rows, scratch, n, out);
+    fitting(count, out.len())
+}
+
+// The same, on a list of our own.
 fn compose(
     card: &[u8],
     card_table: &[u32],
+    leave: usize,
     text: &[u8],
     table: &[u32],
     patch: usize,
     out: &mut [u8],
 ) -> Attempt
     requires { ⌜ patch < length (now table) ⌝ }
-    ensures { λ r. ⌜ Makes (now (card .entry)) (now («card_table» .entry)) (now (text .entry)) (now (table .entry)) patch (now (out .entry)) (now (out .exit)) r ⌝ }
+    ensures { λ r. ⌜ Makes (now (card .entry)) (now («card_table» .entry)) leave (now (text .entry)) (now (table .entry)) patch (now (out .entry)) (now (out .exit)) r ⌝ }
 {
-    let first = patch + 1;
-    let end = next_row(table, patch);
-    let mut rows = [0u32; MOST_ENTRIES];
-    let n = collect(table, first, end, &mut rows);
-    if let Condition::Broken(r) = first_broken(card, card_table, text, table, &rows, n) {
-        return Attempt::Refused(r);
+    if below(table, patch) <= FEW_ENTRIES {
+        let mut rows = [0u32; FEW_ENTRIES];
+        let mut scratch = [0u32; FEW_ENTRIES];
+        return compose_on(
+            card,
+            card_table,
+            leave,
+            text,
+            table,
+            patch,
+            &mut rows,
+            &mut scratch,
+            out,
+        );
     }
-    let count = put_sorted(card, card_table, text, table, &mut rows, n, out);
-    fitting(count, out.len())
+    let mut rows = [0u32; MOST_ENTRIES];
+    let mut scratch = [0u32; MOST_ENTRIES];
+    compose_on(
+        card,
+        card_table,
+        leave,
+        text,
+        table,
+        patch,
+        &mut rows,
+        &mut scratch,
+        out,
+    )
 }
 
 // The card as the PatchObject that it has for a language leaves it.
 pub fn compose_for(text: &[u8], table: &[u32], language: &[u8], out: &mut [u8]) -> Attempt
     ensures { λ r. ⌜ MakesFor (now (text .entry)) (now (table .entry)) (now (language .entry)) (now (out .entry)) (now (out .exit)) r ⌝ }
 {
-    let Found::Row(patch) = patch_row(text, table, language) else {
+    let Found::Row(all) = child_row(text, table, 0, b"localizations") else {
+        return Attempt::Refused(LocalRefusal::NoLanguage);
+    };
+    let Found::Row(patch) = child_row(text, table, all, language) else {
         return Attempt::Refused(LocalRefusal::NoLanguage);
     };
     if kind(table, patch) != OBJECT {
         return Attempt::Refused(LocalRefusal::NoLanguage);
     }
-    compose(text, table, text, table, patch, out)
+    compose(text, table, all, text, table, patch, out)
 }

@@ -1,16 +1,14 @@
 // The entries of a PatchObject, listed by their rows.
 use json::limits::VALUES;
 use json::lookup::next_row;
-ghost use Prim.Native.Nat.{_≤_};
-ghost use lib.ListN.{length};
-ghost use Rattle.patch.specs.Entries.{mostEntries, Collected};
+ghost use Rattle.patch.specs.Entries.{Collected};
 
 // A card has no more values, so a PatchObject has no more entries.
 pub(crate) const MOST_ENTRIES: usize = VALUES;
 
-// Lists the rows of the members from one row up to another, in their order, and counts them. A card has no rows past the most, so none are listed there.
+// Lists the rows of the members from one row up to another, in their order, and counts them, as far as the list has room. A card has no rows past the most,
+// so none are listed there.
 pub(crate) fn collect(table: &[u32], from: usize, end: usize, rows: &mut [u32]) -> usize
-    requires { ⌜ mostEntries ≤ length (now rows) ⌝ }
     ensures { λ r. ⌜ Collected (now (table .entry)) from end (now (rows .exit)) r ⌝ }
 {
     if MOST_ENTRIES < end {
@@ -19,6 +17,9 @@ pub(crate) fn collect(table: &[u32], from: usize, end: usize, rows: &mut [u32]) 
     let mut n = 0;
     let mut at = from;
     while at < end {
+        if rows.len() <= n {
+            return n;
+        }
         rows[n] = at as u32;
         n += 1;
         at = next_row(table, at);

@@ -9,13 +9,11 @@
 //   runs        where a name parts a run of sorted entries
 //   output      bytes, runs of a text and names, counted always and stored where they fit
 //   writing     values written as they are, or as the entries of a patch leave them
-//   language    the PatchObject of a language
 //   compose     the localized card, written or refused
 mod children;
 pub mod compose;
 mod conditions;
 mod entries;
-mod language;
 mod output;
 mod parts;
 mod paths;

@@ -8,14 +8,11 @@ use crate::output::put_run;
 use crate::output::put_spelled;
 use crate::parts::Onward;
 use crate::parts::next_part;
-use crate::parts::part_same;
 use crate::pointers::part_at;
 use crate::runs::bound;
 use json::decode::Cursor;
-use json::decode::start;
 use json::lookup::Found;
 use json::lookup::next_row;
-use json::names::part_is;
 use json::rows::ARRAY;
 use json::rows::NULL;
 use json::rows::OBJECT;
@@ -25,18 +22,17 @@ use json::rows::name_start;
 use json::rows::value_end;
 use json::rows::value_start;
 ghost use mathlib.Core.Path.{_≡_};
+ghost use mathlib.Core.Bool.{Bool};
 ghost use Prim.Native.Nat.{_<_, _≤_};
 ghost use lib.ListN.{length};
 ghost use Rattle.text.specs.Tree.{Forest};
-ghost use Rattle.text.specs.Strings.{decode};
 ghost use Rattle.text.specs.Doc.{seek, isThere};
 ghost use Rattle.json.specs.Cursors.{rest};
 ghost use Rattle.contact.specs.Pointer.{pointerOf};
 ghost use Rattle.patch.specs.Parts.{partLeft};
 ghost use Rattle.patch.specs.Written.{Wrote};
-ghost use Rattle.json.specs.Lookup.{KnownAt};
 ghost use Rattle.patch.specs.Copied.{openOf, closeOf, headOf, labelIn, Copied};
-ghost use Rattle.patch.specs.Patched.{InRows, membersIn, isOut, IsAdded, PutAddition, PutAdditions, Ending, PutReplaced, idle, PutMember, PutValue, PutCard, isEnd};
+ghost use Rattle.patch.specs.Patched.{InRows, membersIn, BaseAt, IsAdded, PutAddition, PutAdditions, Ending, PutReplaced, PutMember, PutValue, PutCard, isEnd};
 
 // Where the next byte goes, and whether the next member is the first of its object.
 struct Spot {
@@ -112,42 +108,20 @@ fn copy_value(text: &[u8], table: &[u32], row: usize, out: &mut [u8], at: usize)
     put_byte(out, p, close_of(k))
 }
 
-// ---- values as the entries of a patch leave them: the card's text and table, and those of the patch
-
-// Is it the member that is left out at the root?
-fn is_out(root: bool, name: &[u8]) -> bool
-    ensures { λ r. ⌜ r ≡ isOut root (decode (now (name .entry))) ⌝ }
-{
-    if root {
-        return part_is(name, b"localizations");
-    }
-    false
-}
-
-// Does the part of a key at the cursor name it?
-fn is_part_out(root: bool, key: &[u8], c: Cursor) -> bool
-    ensures { λ r. ⌜ r ≡ isOut root (partLeft (rest (now (key .entry)) c)) ⌝ }
-{
-    if root {
-        return part_same(key, c, false, b"localizations", start());
-    }
-    false
-}
+// ---- values as the entries of a patch leave them: the card's text and table, and those of the patch. `leave` is the row of a member of the card that is
+// left out; row 0 is the card itself, so 0 leaves out none
 
 // Does the object at a row have a member of that name? One that is left out doesn't count.
-fn has_member(text: &[u8], table: &[u32], row: usize, root: bool, key: &[u8], c: Cursor) -> bool
-    ensures { λ r. ⌜ ((g : Forest) → KnownAt (now (table .entry)) row g → r ≡ isThere (seek (partLeft (rest (now (key .entry)) c)) (membersIn root (now (text .entry)) g))) ⌝ }
+fn has_member(text: &[u8], table: &[u32], row: usize, leave: usize, key: &[u8], c: Cursor) -> bool
+    ensures { λ r. ⌜ ((root : Bool) (g : Forest) → BaseAt (now (text .entry)) (now (table .entry)) leave row root g → r ≡ isThere (seek (partLeft (rest (now (key .entry)) c)) (membersIn root (now (text .entry)) g))) ⌝ }
 {
     if table.len() <= row {
-        return false;
-    }
-    if is_part_out(root, key, c) {
         return false;
     }
     let first = row + 1;
     let end = next_row(table, row);
     match member_row(text, table, first, end, key, c) {
-        Found::Row(_) => true,
+        Found::Row(m) => m != leave,
         Found::Nothing => false,
     }
 }
@@ -157,13 +131,13 @@ fn is_added(
     text: &[u8],
     table: &[u32],
     row: usize,
-    root: bool,
+    leave: usize,
     ptable: &[u32],
     e: usize,
     key: &[u8],
     c: Cursor,
 ) -> bool
-    ensures { λ r. ⌜ IsAdded (now (text .entry)) (now (table .entry)) row root (now (ptable .entry)) e (pointerOf (rest (now (key .entry)) c)) r ⌝ }
+    ensures { λ r. ⌜ IsAdded (now (text .entry)) (now (table .entry)) row leave (now (ptable .entry)) e (pointerOf (rest (now (key .entry)) c)) r ⌝ }
 {
     if kind(ptable, e) == NULL {
         return false;
@@ -171,7 +145,7 @@ fn is_added(
     let Onward::Last = next_part(key, c) else {
         return false;
     };
-    !has_member(text, table, row, root, key, c)
+    !has_member(text, table, row, leave, key, c)
 }
 
 // The member that the entry at the row e adds to the object at a row, if it adds one.
@@ -179,7 +153,7 @@ fn put_addition(
     text: &[u8],
     table: &[u32],
     row: usize,
-    root: bool,
+    leave: usize,
     ptext: &[u8],
     ptable: &[u32],
     e: usize,
@@ -187,11 +161,11 @@ fn put_addition(
     out: &mut [u8],
     from: Spot,
 ) -> Spot
-    ensures { λ r. ⌜ PutAddition (now (text .entry)) (now (table .entry)) row root (now (ptext .entry)) (now (ptable .entry)) e parts (now (out .entry)) from (now (out .exit)) r ⌝ }
+    ensures { λ r. ⌜ PutAddition (now (text .entry)) (now (table .entry)) row leave (now (ptext .entry)) (now (ptable .entry)) e parts (now (out .entry)) from (now (out .exit)) r ⌝ }
 {
     let key = key_at(ptext, ptable, e);
     let c = part_at(key, parts);
-    if !is_added(text, table, row, root, ptable, e, key, c) {
+    if !is_added(text, table, row, leave, ptable, e, key, c) {
         return from;
     }
     let first = from.first;
@@ -208,7 +182,7 @@ fn put_additions(
     text: &[u8],
     table: &[u32],
     row: usize,
-    root: bool,
+    leave: usize,
     ptext: &[u8],
     ptable: &[u32],
     rows: &[u32],
@@ -217,7 +191,7 @@ fn put_additions(
     from: Spot,
 ) -> usize
     requires { ⌜ InRows (now rows) (run .lo) (run .hi) ⌝ }
-    ensures { λ r. ⌜ PutAdditions (now (text .entry)) (now (table .entry)) row root (now (ptext .entry)) (now (ptable .entry)) (now (rows .entry)) (run .lo) (run .hi) (run .parts) (now (out .entry)) from (now (out .exit)) r ⌝ }
+    ensures { λ r. ⌜ PutAdditions (now (text .entry)) (now (table .entry)) row leave (now (ptext .entry)) (now (ptable .entry)) (now (rows .entry)) (run .lo) (run .hi) (run .parts) (now (out .entry)) from (now (out .exit)) r ⌝ }
 {
     let parts = run.parts;
     let hi = run.hi;
@@ -225,7 +199,7 @@ fn put_additions(
     let mut s = from;
     while i < hi {
         let e = rows[i] as usize;
-        s = put_addition(text, table, row, root, ptext, ptable, e, parts, out, s);
+        s = put_addition(text, table, row, leave, ptext, ptable, e, parts, out, s);
         i += 1;
     }
     let to = s.to;
@@ -286,22 +260,12 @@ fn put_replaced(
     Spot { to, first: false }
 }
 
-// Does the run leave a value as it is?
-fn is_idle(root: bool, run: Run) -> bool
-    ensures { λ r. ⌜ r ≡ idle root (run .lo) (run .hi) ⌝ }
-{
-    if root {
-        return false;
-    }
-    run.lo == run.hi
-}
-
 // The member at a row as the run leaves it: with its value or another, or left out.
 fn put_member(
     text: &[u8],
     table: &[u32],
     row: usize,
-    root: bool,
+    leave: usize,
     ptext: &[u8],
     ptable: &[u32],
     rows: &[u32],
@@ -311,12 +275,12 @@ fn put_member(
 ) -> Spot
     requires { ⌜ InRows (now rows) (run .lo) (run .hi) ⌝ }
     requires { ⌜ run .parts < row ⌝ }
-    ensures { λ r. ⌜ PutMember (now (text .entry)) (now (table .entry)) row root (now (ptext .entry)) (now (ptable .entry)) (now (rows .entry)) (run .lo) (run .hi) (run .parts) (now (out .entry)) from (now (out .exit)) r ⌝ }
+    ensures { λ r. ⌜ PutMember (now (text .entry)) (now (table .entry)) row leave (now (ptext .entry)) (now (ptable .entry)) (now (rows .entry)) (run .lo) (run .hi) (run .parts) (now (out .entry)) from (now (out .exit)) r ⌝ }
 {
-    let name = key_at(text, table, row);
-    if is_out(root, name) {
+    if row == leave {
         return from;
     }
+    let name = key_at(text, table, row);
     let parts = run.parts;
     let hi = run.hi;
     let lo = bound(ptext, ptable, rows, run.lo, hi, parts, name, false);
@@ -328,22 +292,26 @@ fn put_member(
     let first = from.first;
     let at = from.to;
     let p = put_head(text, table, row, OBJECT, first, out, at);
+    if lo == end {
+        let to = copy_value(text, table, row, out, p);
+        return Spot { to, first: false };
+    }
     let further = parts + 1;
     let inner = Run {
         lo,
         hi: end,
         parts: further,
     };
-    let to = put_value(text, table, row, false, ptext, ptable, rows, inner, out, p);
+    let to = put_value(text, table, row, leave, ptext, ptable, rows, inner, out, p);
     Spot { to, first: false }
 }
 
-// The value at a row as the run leaves it; at the root without the member `localizations`.
+// The value at a row as the run leaves it, without the member to leave out.
 fn put_value(
     text: &[u8],
     table: &[u32],
     row: usize,
-    root: bool,
+    leave: usize,
     ptext: &[u8],
     ptable: &[u32],
     rows: &[u32],
@@ -353,12 +321,9 @@ fn put_value(
 ) -> usize
     requires { ⌜ InRows (now rows) (run .lo) (run .hi) ⌝ }
     requires { ⌜ run .parts ≤ row ⌝ }
-    ensures { λ r. ⌜ PutValue (now (text .entry)) (now (table .entry)) row root (now (ptext .entry)) (now (ptable .entry)) (now (rows .entry)) (run .lo) (run .hi) (run .parts) (now (out .entry)) at (now (out .exit)) r ⌝ }
+    ensures { λ r. ⌜ PutValue (now (text .entry)) (now (table .entry)) row leave (now (ptext .entry)) (now (ptable .entry)) (now (rows .entry)) (run .lo) (run .hi) (run .parts) (now (out .entry)) at (now (out .exit)) r ⌝ }
 {
     if kind(table, row) != OBJECT {
-        return copy_value(text, table, row, out, at);
-    }
-    if is_idle(root, run) {
         return copy_value(text, table, row, out, at);
     }
     let end = next_row(table, row);
@@ -366,16 +331,17 @@ fn put_value(
     let mut s = Spot { to: p, first: true };
     let mut m = row + 1;
     while m < end {
-        s = put_member(text, table, m, root, ptext, ptable, rows, run, out, s);
+        s = put_member(text, table, m, leave, ptext, ptable, rows, run, out, s);
         m = next_row(table, m);
     }
-    put_additions(text, table, row, root, ptext, ptable, rows, run, out, s)
+    put_additions(text, table, row, leave, ptext, ptable, rows, run, out, s)
 }
 
-// The card, whose value is at the first row, without its localizations and as the first n of the rows of entries leave it.
+// The card, whose value is at the first row, without its localizations at the row `leave` and as the first n of the rows of entries leave it.
 pub(crate) fn put_card(
     text: &[u8],
     table: &[u32],
+    leave: usize,
     ptext: &[u8],
     ptable: &[u32],
     rows: &[u32],
@@ -383,12 +349,12 @@ pub(crate) fn put_card(
     out: &mut [u8],
 ) -> usize
     requires { ⌜ n ≤ length (now rows) ⌝ }
-    ensures { λ r. ⌜ PutCard (now (text .entry)) (now (table .entry)) (now (ptext .entry)) (now (ptable .entry)) (now (rows .entry)) n (now (out .entry)) (now (out .exit)) r ⌝ }
+    ensures { λ r. ⌜ PutCard (now (text .entry)) (now (table .entry)) leave (now (ptext .entry)) (now (ptable .entry)) (now (rows .entry)) n (now (out .entry)) (now (out .exit)) r ⌝ }
 {
     let all = Run {
         lo: 0,
         hi: n,
         parts: 0,
     };
-    put_value(text, table, 0, true, ptext, ptable, rows, all, out, 0)
+    put_value(text, table, 0, leave, ptext, ptable, rows, all, out, 0)
 }

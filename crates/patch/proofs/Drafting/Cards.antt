@@ -1,18 +1,20 @@
 -- A card whose rows are in the table:
 --     card-held          it stands there from row 0 on, in no more rows than a card can have
 --     card-countable     what the entries of its PatchObject make of it is short enough to be counted
---     for-nothing, for-other, for-object     what it has for a language: nothing, no object, or a PatchObject
+--     for-none, for-nothing, for-other, for-object     what it has for a language: no localizations, nothing, no object, or a PatchObject
 -- Assumes nothing.
 use Prim.Native.Nat.{ℕ}
 use mathlib.Core.Path.{_≡_, refl, sym, ap, subst, _∙_}
 use mathlib.Core.List.{List}
+use mathlib.Core.Bool.{true}
 use mathlib.Core.Option.{none, some}
 use native.Mathlib.Omega.{arith}
 use lib.ListN.{length}
 use Rattle.text.specs.Limits.{base}
+use Rattle.text.specs.Text.{bytes}
 use Rattle.text.specs.Tree.{Forest}
 use Rattle.text.specs.Standing.{Stands}
-use Rattle.text.specs.Firsts.{insideAt}
+use Rattle.text.specs.Firsts.{HasFirst, insideAt}
 use Rattle.text.specs.Doc.{Name, Doc, scalar, array, object, kindOf, Members, property, membersOf, docOf}
 use Rattle.text.specs.Reader.{good}
 use Rattle.text.specs.Whole.{readOf}
@@ -25,16 +27,18 @@ use Rattle.contact.specs.declared.LocalRefusal.the-variants.{NoLanguage}
 use Rattle.contact.proofs.Judging.{judging}
 use Rattle.contact.proofs.Patching.Readback.{card-shorter}
 use Rattle.json.specs.Rows.{kindIn}
-use Rattle.json.specs.Lookup.{firstMember}
-use Rattle.patch.specs.Language.{Held, PropertyAt, PropertyFound}
+use Rattle.json.specs.Lookup.{firstMember, fromName}
+use Rattle.patch.specs.Children.{Held, PropertyAt, ChildAt, ChildFound}
 use Rattle.json.specs.declared.lookup.Found.{Found}
 use Rattle.json.specs.declared.lookup.Found.the-variants.{Row, Nothing}
 use Rattle.patch.specs.Entries.{mostEntries}
+use Rattle.patch.specs.Patched.{BaseAt}
 use Rattle.patch.specs.Drafts.{refusal, valueDraft, entriesDraft, draftOf, CardIn, Countable, Makes, MakesFor}
 use Rattle.patch.specs.declared.compose.Attempt.{Attempt}
 use Rattle.patch.specs.declared.compose.Attempt.the-variants.{Refused}
 use Rattle.patch.proofs.Putting.Walks.{value-row}
-use Rattle.patch.proofs.Drafting.Children.{value-kind}
+use Rattle.patch.proofs.Putting.Leaving.{leaves-found}
+use Rattle.patch.proofs.Drafting.Children.{value-kind, no-patch-in, no-patch-within, patch-in}
 
 module _ {t table : List ℕ} {f : Forest} (c : CardIn t table f) where
   -- it was read
@@ -57,6 +61,17 @@ module _ {t table : List ℕ} {f : Forest} (c : CardIn t table f) where
               stands = subst (λ (l : List ℕ). Stands l 0 f) (sym (c .rows)) (filled-stands (length table) f .stands);
             };
         within = omega (arith, p .few);
+      }
+
+  -- its localizations are the member of that name
+  card-base : {m : ℕ} → ChildAt t table mostEntries 0 (bytes "localizations") f m → BaseAt t table m 0 true f
+  card-base {m} a =
+      let named : HasFirst (fromName t (bytes "localizations") (insideAt f)) = rw (a .place .first) at (a .place .some-found) in
+      record {
+        value = card-held .value;
+        out =
+            leaves-found t m 1 (insideAt f) (rw (a .whole) at (card-promised .distinct refl)) named
+            (rw (a .place .first) at (a .place .stands .ends));
       }
 
   pub card-countable : (lang : Name) (ms : Members) → PatchOf (docOf t f) lang ms → Countable (docOf t f) ms
@@ -99,19 +114,32 @@ module _ {t table : List ℕ} {f : Forest} (c : CardIn t table f) (lang : Name) 
           let label = firstMember t (a .found) .label in
           card-countable c lang inPatch (record { label = label; stands = a .is ∙ ap (λ (d : Doc). some (property label d)) is-object })
 
--- by the row that was found for it
-module _ {t table : List ℕ} (lang : Name) {found : Found}
-    (leads : (g : Forest) (limit : ℕ) → Held table limit 0 g → PropertyFound t table limit (find (patchAt lang) (docOf t g)) found) where
-  pub for-nothing : (old : List ℕ) → found ≡ Nothing → MakesFor t table lang old old (Refused NoLanguage)
-  for-nothing old e f c = rw (none-draft (docOf t f) lang (rw e at (leads f mostEntries (card-held c)))) (refl, refl)
+-- by the rows that were found: of the localizations, and in them of what the language has
+module _ {t table : List ℕ} (lang : Name) {all : Found}
+    (first : (g : Forest) (limit : ℕ) → Held table limit 0 g → ChildFound t table limit 0 (bytes "localizations") g all) where
+  pub for-none : (old : List ℕ) → all ≡ Nothing → MakesFor t table lang old old (Refused NoLanguage)
+  for-none old e f c =
+      rw (none-draft (docOf t f) lang (no-patch-in lang (docOf t f) (rw e at (first f mostEntries (card-held c))))) (refl, refl)
 
-  module _ {m : ℕ} (e : found ≡ Row m) where
-    at-it : {f : Forest} → CardIn t table f → PropertyAt t table mostEntries (find (patchAt lang) (docOf t f)) m
-    at-it {f} c = rw e at (leads f mostEntries (card-held c))
+  module _ {m : ℕ} (e : all ≡ Row m) where
+    in-all : {f : Forest} → CardIn t table f → ChildAt t table mostEntries 0 (bytes "localizations") f m
+    in-all {f} c = rw e at (first f mostEntries (card-held c))
 
-    pub for-other : (old : List ℕ) → (kindIn table m ≡ 7 → ⊥) → MakesFor t table lang old old (Refused NoLanguage)
-    for-other old h f c = rw (no-object-for c lang (at-it c) h) (refl, refl)
+    module _ (found : Found) (second : (g : Forest) (limit : ℕ) → Held table limit m g → ChildFound t table limit m lang g found) where
+      -- what is said of their value
+      in-it : {f : Forest} (c : CardIn t table f) → ChildFound t table mostEntries m lang (in-all c .place .found) found
+      in-it c = second (in-all c .place .found) mostEntries (in-all c .held)
 
-    pub for-object : (old new : List ℕ) (r : Attempt) → kindIn table m ≡ 7 → Makes t table t table m old new r → MakesFor t table lang old new r
-    for-object old new r h made f c =
-        rw (object-for c lang (at-it c) h) (made f (at-it c .found) (card-held c .value) (at-it c .held) (countable-for c lang (at-it c) h))
+      pub for-nothing : (old : List ℕ) → found ≡ Nothing → MakesFor t table lang old old (Refused NoLanguage)
+      for-nothing old q f c = rw (none-draft (docOf t f) lang (no-patch-within lang (in-all c) (rw q at (in-it c)))) (refl, refl)
+
+      module _ {k : ℕ} (q : found ≡ Row k) where
+        at-it : {f : Forest} → CardIn t table f → PropertyAt t table mostEntries (find (patchAt lang) (docOf t f)) k
+        at-it c = patch-in lang (in-all c) (rw q at (in-it c))
+
+        pub for-other : (old : List ℕ) → (kindIn table k ≡ 7 → ⊥) → MakesFor t table lang old old (Refused NoLanguage)
+        for-other old h f c = rw (no-object-for c lang (at-it c) h) (refl, refl)
+
+        pub for-object : (old new : List ℕ) (r : Attempt) → kindIn table k ≡ 7 → Makes t table m t table k old new r → MakesFor t table lang old new r
+        for-object old new r h made f c =
+            rw (object-for c lang (at-it c) h) (made f (at-it c .found) (card-base c (in-all c)) (at-it c .held) (countable-for c lang (at-it c) h))

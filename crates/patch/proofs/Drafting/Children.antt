@@ -1,18 +1,18 @@
 -- A member of the value at a row, and the PatchObject of a language:
 --     no-child, child-is           a value that is no object has no member; the search inside an object finds its member
 --     inside-few                   no more rows are inside a value than a card can have
---     patch-in, no-patch-in        the PatchObject is a member of a member of the card
+--     no-patch-in, no-patch-within, patch-in     the PatchObject is a member of a member of the card
 -- Assumes nothing.
 use Prim.Native.Nat.{ℕ, _+_, _≤_}
 use mathlib.Core.Path.{_≡_, refl, sym, ap, _∙_}
 use mathlib.Core.List.{List}
-use mathlib.Core.Option.{Option, none, some}
+use mathlib.Core.Option.{none, some}
 use native.Mathlib.Omega.{arith}
 use Rattle.text.specs.Text.{bytes}
 use Rattle.text.specs.Tree.{Forest, size}
 use Rattle.text.specs.Tree as T
 use Rattle.text.specs.Firsts.{HasFirst, insideAt}
-use Rattle.text.specs.Doc.{Name, Doc, scalar, array, object, kindOf, Property, docOf}
+use Rattle.text.specs.Doc.{Name, Doc, scalar, array, object, kindOf, docOf}
 use Rattle.text.proofs.Promise.{inside, doc-kind, doc-object}
 use Rattle.json.specs.Rows.{kindIn, belowIn}
 use Rattle.contact.specs.Pointer.{child, within, find, last}
@@ -20,7 +20,7 @@ use Rattle.contact.specs.Localize.{patchAt}
 use Rattle.json.specs.Lookup.{Finds}
 use Rattle.json.specs.Lookup.{KnownAt}
 use Rattle.patch.specs.Entries.{mostEntries}
-use Rattle.patch.specs.Language.{Held, PropertyAt, PropertyFound}
+use Rattle.patch.specs.Children.{Held, PropertyAt, ChildAt, ChildFound}
 use Rattle.json.specs.declared.lookup.Found.{Found}
 use Rattle.json.specs.declared.lookup.Found.the-variants.{Row, Nothing}
 use Rattle.json.proofs.Seeking.{inside-kinds}
@@ -47,19 +47,18 @@ inside-size (T.leaf kind ns ne from to rest) s = omega arith
 inside-size (T.node b ns ne from to inside rest) s = omega arith
 
 module _ {table : List ℕ} {limit row : ℕ} {g : Forest} (h : Held table limit row g) (t : List ℕ) (n : Name) where
-  pub child-is : kindIn table row ≡ 7 → (r : Found) → Finds t table (row + 1 + belowIn table row) n (insideAt g) r
-      → PropertyFound t table limit (child n (docOf t g)) r
+  pub child-is : kindIn table row ≡ 7 → (r : Found) → Finds t table (row + 1 + belowIn table row) n (insideAt g) r → ChildFound t table limit row n g r
   child-is e Nothing f = rw (doc-object t g (h .value .some) (h .value .kinds) (sym (value-row (h .value) .kind) ∙ e)) f
   child-is e (Row m) f =
       let v = h .value in
       record {
-        found = f .found;
+        whole = doc-object t g (v .some) (v .kinds) (sym (value-row v .kind) ∙ e);
+        place = rw (value-row v .below) at f;
         held =
             record {
               value = record { some = f .some-found; kinds = f .kinds (inside-kinds g (v .kinds)); stands = f .stands .stands };
               within = omega (arith, f .stands .ends, h .within, inside-size g (v .some), value-row v .below);
             };
-        is = rw (doc-object t g (v .some) (v .kinds) (sym (value-row v .kind) ∙ e)) (f .is);
       }
 
 -- no more rows are inside a value than a card can have
@@ -71,10 +70,17 @@ inside-few {g = g} h = let v = h .value in omega (arith, h .within, inside-size 
 pub no-patch-in : (lang : Name) (card : Doc) → child (bytes "localizations") card ≡ none → find (patchAt lang) card ≡ none
 no-patch-in lang card e = ap (within (find (last lang))) e
 
-pub patch-in : {t table : List ℕ} {limit : ℕ} (lang : Name) (card : Doc) {m : ℕ} (a : PropertyAt t table limit (child (bytes "localizations") card) m) (r : Found)
-    → PropertyFound t table limit (child lang (docOf t (a .found))) r → PropertyFound t table limit (find (patchAt lang) card) r
-patch-in lang card a r h = rw (ap (within (find (last lang))) (a .is)) h
-
 -- what an answer that found it says
-pub at-row : {t table : List ℕ} {limit : ℕ} {o : Option Property} {m : ℕ} → PropertyAt t table limit o m → PropertyAt t table limit o m
-at-row a = a
+pub child-at : {t table : List ℕ} {limit row : ℕ} {n : Name} {g : Forest} {m : ℕ} → ChildAt t table limit row n g m → ChildAt t table limit row n g m
+child-at a = a
+
+module _ {t table : List ℕ} {limit : ℕ} (lang : Name) {f : Forest} {m : ℕ} (a : ChildAt t table limit 0 (bytes "localizations") f m) where
+  -- it is looked for in what was found
+  patch-within : find (patchAt lang) (docOf t f) ≡ child lang (docOf t (a .place .found))
+  patch-within = ap (within (find (last lang))) (ap (child (bytes "localizations")) (a .whole) ∙ a .place .is)
+
+  pub no-patch-within : child lang (docOf t (a .place .found)) ≡ none → find (patchAt lang) (docOf t f) ≡ none
+  no-patch-within e = patch-within ∙ e
+
+  pub patch-in : {k : ℕ} → ChildAt t table limit m lang (a .place .found) k → PropertyAt t table limit (find (patchAt lang) (docOf t f)) k
+  patch-in b = record { found = b .place .found; held = b .held; is = patch-within ∙ ap (child lang) (b .whole) ∙ b .place .is }

@@ -24,9 +24,9 @@ use Rattle.contact.proofs.Patching.Order.{any-order}
 use Rattle.patch.specs.Entries.{Listed, stripped, rowOrder, mostEntries, Collected}
 use Rattle.patch.specs.Runs.{InOrder}
 use Rattle.patch.specs.Written.{Wrote}
-use Rattle.patch.specs.Drafts.{fittingOf, Makes}
+use Rattle.patch.specs.Drafts.{fittingOf, PutSorted, Makes}
 use Rattle.json.specs.Lookup.{KnownAt}
-use Rattle.patch.specs.Language.{Held}
+use Rattle.patch.specs.Children.{Held}
 use Rattle.patch.specs.Conditions.{conditionOf}
 use Rattle.patch.specs.declared.conditions.Condition.{Condition}
 use Rattle.patch.specs.declared.conditions.Condition.the-variants.{Kept, Broken}
@@ -56,36 +56,35 @@ abbrev Lists : (text table rows : List ℕ) → (n patch : ℕ) → Type 0
 Lists text table rows n patch = (p : Forest) → Held table mostEntries patch p → Listed text table rows 0 n (membersOf text (insideAt p))
 
 pub listing : {text table rows : List ℕ} {n patch end : ℕ} → end ≡ patch + 1 + belowIn table patch → Collected table (patch + 1) end rows n
-    → Lists text table rows n patch
-listing {text} e c p h =
+    → belowIn table patch ≤ length rows → Lists text table rows n patch
+listing {text} e c room p h =
     let v = h .value in
-    c .all text (insideAt p) (members-stand (v .some) (v .stands) e) (inside-kinds p (v .kinds)) (omega (arith, e, inside-few h))
+    c .all text (insideAt p) (members-stand (v .some) (v .stands) e) (inside-kinds p (v .kinds)) (omega (arith, e, inside-few h)) (omega (arith, e))
 
-module _ (card : List ℕ) {ctable text table rows : List ℕ} {n patch : ℕ} (l : Lists text table rows n patch) {condition : Condition}
+module _ (card : List ℕ) {ctable text table rows : List ℕ} {leave n patch : ℕ} (l : Lists text table rows n patch) {condition : Condition}
     (first : (g : Forest) (ms : Members) → KnownAt ctable 0 g → Listed text table rows 0 n ms → condition ≡ conditionOf (docOf card g) ms) where
-  pub made-broken : {q : LocalRefusal} (old : List ℕ) → condition ≡ Broken q → Makes card ctable text table patch old old (Refused q)
-  made-broken {q} old e g p v h few =
-      let is : conditionOf (docOf card g) (membersOf text (insideAt p)) ≡ Broken q = sym (first g (membersOf text (insideAt p)) v (l p h)) ∙ e in
+  pub made-broken : {q : LocalRefusal} (old : List ℕ) → condition ≡ Broken q → Makes card ctable leave text table patch old old (Refused q)
+  made-broken {q} old e g p b h few =
+      let is : conditionOf (docOf card g) (membersOf text (insideAt p)) ≡ Broken q = sym (first g (membersOf text (insideAt p)) (b .value) (l p h)) ∙ e in
       rw is (refl, refl)
 
   -- 27, or the card was written
   pub made-fitting : condition ≡ Kept → {old new : List ℕ} {r : ℕ}
-      → ((g : Forest) (ms : Members) → KnownAt ctable 0 g → Listed text table rows 0 n ms → NoClash (entriesOf ms)
-      → Wrote old 0 (written (patchedDoc (docOf card g) ms)) new r)
-      → {a : Attempt} → a ≡ fittingOf r (length new) → Makes card ctable text table patch old new a
-  made-fitting kept {old} {new} {r} put e g p v h few = rw is (e ∙ rw (counted, long), w .out)
+      → PutSorted card ctable leave text table rows n old new r
+      → {a : Attempt} → a ≡ fittingOf r (length new) → Makes card ctable leave text table patch old new a
+  made-fitting kept {old} {new} {r} put e g p b h few = rw is (e ∙ rw (counted, long), w .out)
     where
       ms : Members
       ms = membersOf text (insideAt p)
 
       is : conditionOf (docOf card g) ms ≡ Kept
-      is = sym (first g ms v (l p h)) ∙ kept
+      is = sym (first g ms (b .value) (l p h)) ∙ kept
 
       u : Unbroken (docOf card g) ms
       u = kept-so (docOf card g) ms (sym is)
 
       w : Wrote old 0 (written (patchedDoc (docOf card g) ms)) new r
-      w = put g ms v (l p h) (u .noClash)
+      w = put g ms b (l p h) (u .noClash)
 
       counted : r ≡ length (written (patchedDoc (docOf card g) ms))
       counted = wrote-count w (few (u .noClash) (u .parents))

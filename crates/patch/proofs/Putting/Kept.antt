@@ -5,10 +5,10 @@
 --     added-linked        the members that ascending entries add, one entry after the other: they stand in the order of the entries
 --     adds-null, adds-down, adds-last     what an entry adds
 --     passed-none, passed-some     a member that is not written, and one that is
---     there-out, there-found, there-none      the member of a name, where one is left out
+--     there-found, there-none      the member of a name, where one is left out
 -- Assumes nothing.
 use Prim.Native.Nat.{ℕ, _<_}
-use mathlib.Core.Path.{_≡_, refl, ap, _∙_}
+use mathlib.Core.Path.{_≡_, refl, sym, ap, _∙_}
 use mathlib.Core.Bool.{Bool, true, false, not, cond}
 use mathlib.Core.List.{List, [], _∷_, _++_, append-assoc}
 use mathlib.Core.Option.{Option, none, some}
@@ -145,20 +145,25 @@ module _ (n out : Name) where
       go false q left h = rw h
 
 -- the same by what is left out at the root
-pub there-out : (root : Bool) (n : Name) (ms : Members) → isOut root n ≡ true → false ≡ isThere (seek n (basedAll root ms))
+there-out : (root : Bool) (n : Name) (ms : Members) → isOut root n ≡ true → false ≡ isThere (seek n (basedAll root ms))
 there-out true n ms e = rw (without-it n (bytes "localizations") e ms)
 there-out false n ms e = let z : _≡_ {A = ℕ} 0 1 = cc in absurd (omega arith)
 
-seek-based : (root : Bool) (n : Name) (ms : Members) → isOut root n ≡ false → seek n (basedAll root ms) ≡ seek n ms
-seek-based true n ms e = without-other n (bytes "localizations") e ms
-seek-based false n ms e = refl
+there-in : (root : Bool) (n : Name) (ms : Members) → isOut root n ≡ false → isThere (seek n ms) ≡ isThere (seek n (basedAll root ms))
+there-in true n ms e = rw (without-other n (bytes "localizations") e ms)
+there-in false n ms e = refl
 
-pub there-found : (root : Bool) (n : Name) (ms : Members) → isOut root n ≡ false → {p : Property} → seek n ms ≡ some p
-    → true ≡ isThere (seek n (basedAll root ms))
-there-found root n ms e h = rw (seek-based root n ms e, h)
+module _ (root : Bool) (n : Name) (ms : Members) where
+  pub there-found : (out : Bool) → isOut root n ≡ out → {p : Property} → seek n ms ≡ some p → not out ≡ isThere (seek n (basedAll root ms))
+  there-found true e h = there-out root n ms e
+  there-found false e h = ap isThere (sym h) ∙ there-in root n ms e
 
-pub there-none : (root : Bool) (n : Name) (ms : Members) → isOut root n ≡ false → seek n ms ≡ none → false ≡ isThere (seek n (basedAll root ms))
-there-none root n ms e h = rw (seek-based root n ms e, h)
+  pub there-none : seek n ms ≡ none → false ≡ isThere (seek n (basedAll root ms))
+  there-none h = go (isOut root n) refl
+    where
+      go : (out : Bool) → isOut root n ≡ out → false ≡ isThere (seek n (basedAll root ms))
+      go true e = there-out root n ms e
+      go false e = ap isThere (sym h) ∙ there-in root n ms e
 
 -- ---- what an entry adds ----
 

@@ -1,7 +1,7 @@
 -- Laws of values that are written as the entries of a run leave them:
 --     ends-by, no-end           whether the first entry of a run ends with the part at hand
 --     stays-out, stays-ends, stays-goes     what becomes of a member, by the run that is between two bounds
---     restBy, patch-turn, patch-end         a walk along the members of an object, and the members that are added
+--     restBy, PatchWalk and its laws        a walk along the members of an object, and the members that are added
 --     idle-value                            a value of which nothing is said
 -- Assumes nothing.
 use Prim.Native.Nat.{ℕ, _+_, _≤_, _<_}
@@ -10,10 +10,9 @@ use mathlib.Core.Bool.{Bool, true, false}
 use mathlib.Core.List.{List, _++_}
 use mathlib.Core.Option.{Option, none, some}
 use native.Mathlib.Omega.{arith}
-use borrow.Author.Tests.{eqb-true}
 use Rattle.text.specs.Tree.{Forest}
 use Rattle.text.specs.Tree as T
-use Rattle.text.specs.Firsts.{HasFirst, nameStart, nameEnd, restAt}
+use Rattle.text.specs.Firsts.{HasFirst, nameStart, nameEnd, insideAt, belowAt, restAt}
 use Rattle.text.specs.Strings.{nameOf}
 use Rattle.text.specs.Doc.{Name, Doc, Members, empty, member, membersOf, labelAt, docOf}
 use Rattle.text.specs.Writing.{writtenMembers}
@@ -23,19 +22,20 @@ use Rattle.contact.specs.Pointer.{Pointer, last, down, pointerOf, firstPart}
 use Rattle.contact.specs.Patch.{Change, Entry, changeOf, mine, under, kept, applied}
 use Rattle.contact.proofs.Patching.Untouched.{applied-nil}
 use Rattle.patch.specs.Pointers.{strip}
-use Rattle.patch.specs.Entries.{stripped}
+use Rattle.patch.specs.Entries.{Listed, stripped}
 use Rattle.patch.specs.Runs.{InOrder}
 use Rattle.patch.specs.Written.{Wrote}
-use Rattle.patch.specs.Patched.{Said, based, basedAll, isOut, keptBy, stays, pointerIn, isLast, isEnd, endsFirst, idle, piece, since, Passed}
+use Rattle.patch.specs.Patched.{Said, basedAll, isOut, OutAt, LeavesOut, BaseAt, keptBy, stays, pointerIn, isLast, isEnd, endsFirst, piece, since, Passed}
 use Rattle.patch.specs.Parts.{Goes}
 use Rattle.patch.specs.declared.parts.Onward.{Onward}
 use Rattle.patch.specs.declared.parts.Onward.the-variants.{Last, Part}
 use Rattle.patch.specs.declared.writing.Spot.{Spot}
-use Rattle.patch.proofs.Putting.Bytes.{left-on, left-as, left-last}
-use Rattle.patch.proofs.Putting.Walks.{Walk, walk-here, walk-on, walk-end}
+use Rattle.patch.proofs.Putting.Bytes.{BytesLeft, left-on, left-as, left-last}
+use Rattle.patch.proofs.Putting.Walks.{value-row, Walk, walk-start, walk-here, walk-on, walk-end}
 use Rattle.patch.proofs.Listing.Members.{Middle, run-ends, Deep, deep-none, deep, deep-mine, deep-under, deep-ascending, Named}
 use Rattle.patch.proofs.Putting.Kept.{linked, kept-linked}
 use Rattle.patch.proofs.Putting.Additions.{memberOf, First, none-said}
+use Rattle.patch.proofs.Putting.Leaving.{out-first, out-rest}
 
 -- ---- the first entry of a run ----
 
@@ -134,35 +134,43 @@ module _ (t : List ℕ) (root : Bool) (es : List Entry) (more : Members) where
       go true = refl
       go false = refl
 
-  module _ {table : List ℕ} {end : ℕ} {old : List ℕ} {at : ℕ} {total new : List ℕ} {s : Spot} {m : ℕ}
-      (w : Walk table end (restBy t root es more) old at total new (s .to) (s .first) m) where
-    -- one member more is written, or left out
-    pub patch-turn : (h : m < end) {new′ : List ℕ} {s′ : Spot} → let g = w .values in
-        Passed new s (stays root (nameOf t (nameStart g) (nameEnd g)) es (docOf t g)) (labelAt t (nameStart g) (nameEnd g)) new′ s′
-        → (next : ℕ) → next ≡ m + 1 + belowIn table m → Walk table end (restBy t root es more) old at total new′ (s′ .to) (s′ .first) next
-    patch-turn h p next e =
-        let g = w .values in
-        let o = stays root (nameOf t (nameStart g) (nameEnd g)) es (docOf t g) in
-        walk-on w h next e
-        (rw (p .next)
-        (left-on (piece o (s .first) (labelAt t (nameStart g) (nameEnd g))) (restBy t root es more (restAt g) (since o (s .first)))
-        (left-as (rest-first g (walk-here w h .some) (s .first)) (w .left)) (p .wrote)))
+  -- a walk along them, by the row that is left out
+  pub record PatchWalk (leave : ℕ) (table : List ℕ) (end : ℕ) (old : List ℕ) (at : ℕ) (total new : List ℕ) (s : Spot) (m : ℕ) : Type 0 where
+    pub walk : Walk table end (restBy t root es more) old at total new (s .to) (s .first) m
+    pub out : LeavesOut t leave root m (walk .values)
 
-    -- all are
-    pub patch-end : end ≤ m → {last : List ℕ} {r : ℕ} → Wrote new (s .to) (writtenMembers more (s .first)) last r → Wrote old at total last r
-    patch-end h a = left-last (writtenMembers more (s .first)) (left-as (rest-none (s .first)) (walk-end w h)) a
+  module _ {leave : ℕ} {table : List ℕ} {end : ℕ} {old : List ℕ} {at : ℕ} {total : List ℕ} where
+    pub patch-start : {row : ℕ} {g : Forest} {new : List ℕ} {s : Spot} → BaseAt t table leave row root g → end ≡ row + 1 + belowIn table row
+        → BytesLeft old at total new (s .to) (restBy t root es more (insideAt g) (s .first)) → PatchWalk leave table end old at total new s (row + 1)
+    unfolding walk-start
+    patch-start {s = s} b e l = record { walk = walk-start (s .first) (b .value) e l; out = b .out }
+
+    module _ {new : List ℕ} {s : Spot} {m : ℕ} (w : PatchWalk leave table end old at total new s m) where
+      -- one member more is written, or left out
+      pub patch-turn : (h : m < end) {new′ : List ℕ} {s′ : Spot} → let g = w .walk .values in
+          Passed new s (stays root (nameOf t (nameStart g) (nameEnd g)) es (docOf t g)) (labelAt t (nameStart g) (nameEnd g)) new′ s′
+          → (next : ℕ) → next ≡ m + 1 + belowIn table m → PatchWalk leave table end old at total new′ s′ next
+      unfolding walk-on
+      patch-turn h p next e =
+          let g = w .walk .values in
+          let v = walk-here (w .walk) h in
+          let o = stays root (nameOf t (nameStart g) (nameEnd g)) es (docOf t g) in
+          let left = left-on (piece o (s .first) (labelAt t (nameStart g) (nameEnd g))) (restBy t root es more (restAt g) (since o (s .first)))
+          (left-as (rest-first g (v .some) (s .first)) (w .walk .left)) (p .wrote) in
+          record { walk = walk-on (w .walk) h next e (rw (p .next) left); out = rw (e, value-row v .below) (out-rest t leave root m g (v .some) (w .out)) }
+
+      -- the member at hand
+      pub patch-here : (h : m < end) → let g = w .walk .values in OutAt (isOut root (nameOf t (nameStart g) (nameEnd g))) leave m (belowAt g)
+      patch-here h = out-first t leave root m (w .walk .values) (walk-here (w .walk) h .some) (w .out)
+
+      -- all are
+      pub patch-end : end ≤ m → {last : List ℕ} {r : ℕ} → Wrote new (s .to) (writtenMembers more (s .first)) last r → Wrote old at total last r
+      patch-end h a = left-last (writtenMembers more (s .first)) (left-as (rest-none (s .first)) (walk-end (w .walk) h)) a
 
 -- ---- values that stay as they are ----
 
-idle-by : (root : Bool) (lo hi : ℕ) → idle root lo hi ≡ true → (root ≡ false) × (lo ≡ hi)
-idle-by true lo hi e = let z : _≡_ {A = ℕ} 0 1 = cc in absurd (omega arith)
-idle-by false lo hi e = (refl, eqb-true lo hi e)
-
 -- nothing is said of them
-pub idle-value : {t table rows : List ℕ} (root : Bool) {lo hi parts : ℕ} {ms : Members} (d : Doc) → idle root lo hi ≡ true
-    → Said t table rows lo hi parts ms
-    → applied (based root d) (stripped parts ms) ≡ d
+pub idle-value : {t table rows : List ℕ} {lo hi : ℕ} (parts : ℕ) {ms : Members} (d : Doc) → hi ≤ lo → Listed t table rows lo hi ms
+    → applied d (stripped parts ms) ≡ d
 unfolding stripped
-idle-value root {lo} {hi} d e s =
-    let h = idle-by root lo hi e in
-    rw (h .0, none-said (s .listed) (omega (arith, h .1))) (applied-nil d)
+idle-value parts d h l = rw (none-said l h) (applied-nil d)

@@ -46,7 +46,7 @@ pub record Walk (table : List ℕ) (end : ℕ) (rest : Forest → Bool → List 
   pub left : BytesLeft old at total new to (rest values first)
 
 module _ {table : List ℕ} {end : ℕ} {rest : Forest → Bool → List ℕ} {old : List ℕ} {at : ℕ} {total : List ℕ} where
-  pub walk-start : {row : ℕ} {g : Forest} (first : Bool) → KnownAt table row g → end ≡ row + 1 + belowIn table row
+  unfoldable pub walk-start : {row : ℕ} {g : Forest} (first : Bool) → KnownAt table row g → end ≡ row + 1 + belowIn table row
       → {new : List ℕ} {to : ℕ} → BytesLeft old at total new to (rest (insideAt g) first) → Walk table end rest old at total new to first (row + 1)
   walk-start {row} {g} first v e l =
       record { values = insideAt g; kinds = inside-kinds g (v .kinds); standing = rw (e, value-row v .below) (inside g (v .some) (v .stands)); left = l }
@@ -57,7 +57,7 @@ module _ {table : List ℕ} {end : ℕ} {rest : Forest → Bool → List ℕ} {o
     walk-here h = record { some = some-at (w .values) (w .standing) h; kinds = w .kinds; stands = w .standing .stands }
 
     -- it is written
-    pub walk-on : m < end → (next : ℕ) → next ≡ m + 1 + belowIn table m → {new′ : List ℕ} {to′ : ℕ} {first′ : Bool}
+    unfoldable pub walk-on : m < end → (next : ℕ) → next ≡ m + 1 + belowIn table m → {new′ : List ℕ} {to′ : ℕ} {first′ : Bool}
         → BytesLeft old at total new′ to′ (rest (restAt (w .values)) first′) → Walk table end rest old at total new′ to′ first′ next
     walk-on h next e l =
         record {

@@ -9,20 +9,19 @@ use Rattle.patch.proofs.compose.put_sorted.Tie as tie
 
 returns : tie.Need-returns
 returns c =
-    λ g ms v l nc.
-    let early = c .before .before .before .before .before .before .before .before .before .before .before .before in
-    let args = early .before .before .before .before .before .args in
-    let p = early .before .before .before .before .before .pre in
-    let sort-rows = c .before .before .before .before .before .before .before .before .sort-rows in
-    sorted-wrote (start (docOf (now (args .card)) g)) ms (p .0) (sort-rows .ensures) l nc (λ ns m a. c .before .before .put-card .ensures g ns v m a)
+    λ g ms b l nc.
+    let sorted = c .before .before .before .before .before .before .before .before .before in
+    let begin = sorted .before .before .before .before .before .before .before .before .before .before in
+    sorted-wrote (start (docOf (now (begin .args .card)) g)) ms (begin .pre .0) (sorted .sort-rows .ensures) l nc
+    (λ ns m a. c .before .before .put-card .ensures g ns b m a)
 
 pub put-sorted-spec : {M : Type 1} → statement M
 put-sorted-spec =
     tie.close
     (tie.spec
+    (λ c κs. search needs)
+    (λ c κs. search needs)
     (λ c. search needs)
-    (λ c κs. search needs)
-    (λ c κs. search needs)
     (λ c. search needs)
     (λ c. search needs)
     returns)

@@ -15,28 +15,28 @@ use Rattle.patch.proofs.writing.is_added.Tie as tie
 
 returns : tie.Need-returns
 returns c =
-    λ t g h v w.
+    λ root t g h b w.
     let a = c .before .before .before .before .before .before .args in
-    adds-null (membersIn (a .root) (now (a .text)) g) (pointerOf (rest (now (a .key)) (a .c))) (docOf t h)
+    adds-null (membersIn root (now (a .text)) g) (pointerOf (rest (now (a .key)) (a .c))) (docOf t h)
     (doc-kind t h (w .some) ∙ sym (value-row w .kind) ∙ sym (c .before .kind .ensures) ∙ c .if1 .taken)
 
 returns-2 : tie.Need-returns-2
 returns-2 c =
-    λ t g h v w.
+    λ root t g h b w.
     let a = c .before .before .before .before .before .before .before .before .before .args in
-    adds-down (membersIn (a .root) (now (a .text)) g) (pointerOf (rest (now (a .key)) (a .c))) (changeOf (docOf t h))
+    adds-down (membersIn root (now (a .text)) g) (pointerOf (rest (now (a .key)) (a .c))) (changeOf (docOf t h))
     (rw (c .enum-told2 .given .1) at (c .before .before .next-part .ensures))
 
 returns-3 : tie.Need-returns-3
 returns-3 c =
-    λ t g h v w.
+    λ root t g h b w.
     let a = c .before .before .before .before .before .before .before .before .before .before .args in
     let kind = c .before .before .before .before .before .kind in
     let if1 = c .before .before .before .before .if1 in
     let next-part = c .before .before .before .next-part in
-    adds-last (membersIn (a .root) (now (a .text)) g) (pointerOf (rest (now (a .key)) (a .c))) (docOf t h)
+    adds-last (membersIn root (now (a .text)) g) (pointerOf (rest (now (a .key)) (a .c))) (docOf t h)
     (rw (c .before .enum-told .given .1) at (next-part .ensures))
-    (λ e. if1 .left (kind .ensures ∙ value-row w .kind ∙ sym (doc-kind t h (w .some)) ∙ e)) (c .has-member .ensures g v)
+    (λ e. if1 .left (kind .ensures ∙ value-row w .kind ∙ sym (doc-kind t h (w .some)) ∙ e)) (c .has-member .ensures root g b)
 
 pub is-added-spec : {M : Type 1} → statement M
 is-added-spec =

@@ -29,18 +29,18 @@ pointer c w =
 
 returns : tie.Need-returns
 returns c =
-    λ g h v w.
+    λ root g h b w.
     let good = c .before .before .before .before .before .before .before .before .before .good in
     let a = c .before .before .before .before .before .before .before .before .before .args in
     let ptext = now (a .ptext) in
     let off = denied (c .before .is-added .result) (c .if1 .taken) in
-    let is = adds-is (membersIn (a .root) (now (a .text)) g) (changeOf (docOf ptext h)) (pointer (c .before) w)
-    (c .before .is-added .ensures ptext g h v w) in
+    let is = adds-is (membersIn root (now (a .text)) g) (changeOf (docOf ptext h)) (pointer (c .before) w)
+    (c .before .is-added .ensures root ptext g h b w) in
     passed-none (a .from) (omega (arith, good .1 .1 .1 .1 .1 .1 .1 .1 .0 .1)) (rw off at is)
 
 returns-2 : tie.Need-returns-2
 returns-2 c =
-    λ g h v w.
+    λ root g h b w.
     let early = c .before .before .before .before .before .before .before .before .before .before .before .before in
     let a = early .before .before .before .before .before .before .before .before .before .before .before .before .before .args in
     let ptext = now (a .ptext) in
@@ -53,8 +53,8 @@ returns-2 c =
     let d = docOf ptext h in
     let label = spelled (firstPart (pointerIn ptext (a .parts) h)) in
     let named = rw (pointer (early .before .before .before .before .before) w) at (put-spelled .ensures) in
-    let is = adds-is (membersIn (a .root) (now (a .text)) g) (changeOf d) (pointer (early .before .before .before .before .before) w)
-    (is-added .ensures ptext g h v w) in
+    let is = adds-is (membersIn root (now (a .text)) g) (changeOf d) (pointer (early .before .before .before .before .before) w)
+    (is-added .ensures root ptext g h b w) in
     passed-some d (rw on at is)
     (wrote-then (comma (a .from .first)) (label ++ (58 ∷ [])) (put-comma .ensures) (wrote-then label (58 ∷ []) named (put-byte .ensures)))
     (c .before .before .copy-value .ensures h w)

@@ -1,6 +1,7 @@
 -- `patch::writing::put_additions` meets its contract: a walk along the entries of the run. Assumes nothing.
 use Prim.Native.Nat.{_-_}
 use mathlib.Core.Path.{_≡_, refl, _∙_}
+use mathlib.Core.Bool.{Bool}
 use native.Mathlib.Omega.{arith}
 use lib.ListN.{length}
 use denote.Ref.{now}
@@ -9,25 +10,24 @@ use Rattle.text.specs.Doc.{Members}
 use Rattle.text.specs.Writing.{writtenMembers}
 use Rattle.contact.specs.Patch.{added}
 use Rattle.patch.specs.Entries.{stripped}
-use Rattle.json.specs.Lookup.{KnownAt}
-use Rattle.patch.specs.Patched.{membersIn, Said}
+use Rattle.patch.specs.Patched.{membersIn, BaseAt, Said}
 use Rattle.patch.proofs.Putting.Bytes.{left-all}
 use Rattle.patch.proofs.Putting.Additions.{first-said, Adding, adding-on, adding-end}
 use Rattle.patch.proofs.writing.put_additions.Statement.{statement}
 use Rattle.patch.proofs.writing.put_additions.Tie as tie
 
 abbrev Inv-loop : tie.InvT-loop
-Inv-loop text table row root ptext ptable rows out₀ parts hi i₀ s₀ out i s =
+Inv-loop text table row leave ptext ptable rows out₀ parts hi i₀ s₀ out i s =
     (length out ≡ length out₀)
-    × ((g : Forest) (ms : Members) → KnownAt table row g → Said ptext ptable rows i₀ hi parts ms
+    × ((root : Bool) (g : Forest) (ms : Members) → BaseAt text table leave row root g → Said ptext ptable rows i₀ hi parts ms
     → Adding ptext ptable rows i hi parts (membersIn root text g) out₀ (s₀ .to)
     (writtenMembers (added (membersIn root text g) (stripped parts ms)) (s₀ .first)) out s)
 
 abbrev μ-loop : tie.MeasureT-loop
-μ-loop text table row root ptext ptable rows out₀ parts hi i₀ s₀ out i s = hi - i
+μ-loop text table row leave ptext ptable rows out₀ parts hi i₀ s₀ out i s = hi - i
 
 loop-holds : tie.Need-loop-holds Inv-loop μ-loop
-loop-holds c = (refl, λ g ms v h. record { rest = ms; said = h; left = left-all })
+loop-holds c = (refl, λ root g ms b h. record { rest = ms; said = h; left = left-all })
 
 mul-e : tie.Need-mul-e Inv-loop μ-loop
 mul-e c =
@@ -52,10 +52,10 @@ loop-again c =
     let a = c .before .before .before .before .before .before .before .before .before .before .before .before .before .args in
     let inv = c .before .before .before .before .before .before .loop .inv in (
       c .before .before .put-addition .kept .1 .1 .1 .1 .1 .1 .1 .1 .0 ∙ inv .0,
-      λ g ms v h.
-          let w = inv .1 g ms v h in
+      λ root g ms b h.
+          let w = inv .1 root g ms b h in
           let f = first-said (w .said) (c .before .before .before .before .before .loop-test .taken) in
-          adding-on (now (a .ptext)) w f (c .before .before .put-addition .ensures g (f .tree) v (f .value)),
+          adding-on (now (a .ptext)) w f (c .before .before .put-addition .ensures root g (f .tree) b (f .value)),
     )
 
 same-length : tie.Need-same-length Inv-loop μ-loop
@@ -63,11 +63,11 @@ same-length c = c .before .before .put-byte .kept .0 ∙ c .before .before .befo
 
 returns : tie.Need-returns Inv-loop μ-loop
 returns c =
-    λ g ms v h.
+    λ root g ms b h.
     let a = c .before .before .before .before .before .before .before .before .before .before .before .before .args in
     let loop = c .before .before .before .before .before .loop in
     let loop-test = c .before .before .before .before .loop-test in
-    adding-end (now (a .ptext)) (loop .inv .1 g ms v h) (loop-test .left) (c .before .before .put-byte .ensures)
+    adding-end (now (a .ptext)) (loop .inv .1 root g ms b h) (loop-test .left) (c .before .before .put-byte .ensures)
 
 pub put-additions-spec : {M : Type 1} → statement M
 put-additions-spec =

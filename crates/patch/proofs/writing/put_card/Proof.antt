@@ -1,4 +1,5 @@
 -- `patch::writing::put_card` meets its contract. Assumes nothing.
+use mathlib.Core.Bool.{true}
 use Rattle.patch.proofs.Putting.Cards.{stripped-all}
 use borrow.Author.Needs.{needs}
 use Rattle.patch.proofs.writing.put_card.Statement.{statement}
@@ -6,7 +7,7 @@ use Rattle.patch.proofs.writing.put_card.Tie as tie
 
 returns : tie.Need-returns
 returns c =
-    λ g ms v l s. rw (← stripped-all ms) (c .before .before .put-value .ensures g ms v (record { listed = l; ascending = s }))
+    λ g ms b l s. rw (← stripped-all ms) (c .before .before .put-value .ensures true g ms b (record { listed = l; ascending = s }))
 
 pub put-card-spec : {M : Type 1} → statement M
 put-card-spec = tie.close (tie.spec (λ c κs. search needs) (λ c. search needs) returns)

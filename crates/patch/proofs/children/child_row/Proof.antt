@@ -6,8 +6,8 @@ use Rattle.json.proofs.Seeking.{row-after, row-inside, members-stand}
 use Rattle.patch.proofs.Drafting.Children.{no-child, child-is}
 use denote.Ref.{now}
 use borrow.Author.Needs.{needs}
-use Rattle.patch.proofs.language.child_row.Statement.{statement}
-use Rattle.patch.proofs.language.child_row.Tie as tie
+use Rattle.patch.proofs.children.child_row.Statement.{statement}
+use Rattle.patch.proofs.children.child_row.Tie as tie
 
 returns : tie.Need-returns
 returns c = λ g limit h. no-child (h .value) _ _ (λ e. c .if1 .taken (c .before .kind .ensures ∙ e))
