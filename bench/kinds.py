@@ -99,6 +99,7 @@ def hostile():
 def kinds():
     for name, text in ordinary():
         yield name, text, b"de", MOST_WORDS
+    yield "small card, 64 rows", card(NAME), b"de", 384
     yield "the text 1, a table of 6", b"1", b"de", 6
     for group in (localized, hostile):
         for name, text in group():
