@@ -2,6 +2,7 @@
 use crate::children::child_row;
 use crate::conditions::Condition;
 use crate::conditions::first_broken;
+use crate::entries::FEW_ENTRIES;
 use crate::entries::MOST_ENTRIES;
 use crate::entries::collect;
 use crate::sort::sort_rows;
@@ -16,6 +17,7 @@ ghost use mathlib.Core.Path.{_≡_};
 ghost use Prim.Native.Nat.{_≤_, _<_};
 ghost use lib.ListN.{length};
 ghost use Rattle.json.specs.Rows.{belowIn};
+ghost use Rattle.patch.specs.Entries.{mostEntries};
 ghost use Rattle.patch.specs.Drafts.{fittingOf, PutSorted, Makes, MakesFor};
 
 // So many bytes were written, or nothing that counts.
@@ -23,9 +25,6 @@ pub enum Attempt {
     Bytes(usize),
     Refused(LocalRefusal),
 }
-
-// A PatchObject with so few values inside it is listed in little room, which costs little to clear.
-const FEW_ENTRIES: usize = 64;
 
 // The card as the listed entries leave it, which do not clash: they are sorted, and then it is written in one walk.
 fn put_sorted(
@@ -35,15 +34,14 @@ fn put_sorted(
     text: &[u8],
     table: &[u32],
     rows: &mut [u32],
-    scratch: &mut [u32],
     n: usize,
     out: &mut [u8],
 ) -> usize
     requires { ⌜ n ≤ length (now rows) ⌝ }
-    requires { ⌜ n ≤ length (now scratch) ⌝ }
+    requires { ⌜ n ≤ mostEntries ⌝ }
     ensures { λ r. ⌜ PutSorted (now (card .entry)) (now («card_table» .entry)) leave (now (text .entry)) (now (table .entry)) (now (rows .entry)) n (now (out .entry)) (now (out .exit)) r ⌝ }
 {
-    sort_rows(text, table, rows, scratch, n);
+    sort_rows(text, table, rows, n);
     put_card(card, card_table, leave, text, table, rows, n, out)
 }
 
@@ -66,11 +64,10 @@ fn compose_on(
     table: &[u32],
     patch: usize,
     rows: &mut [u32],
-    scratch: &mut [u32],
     out: &mut [u8],
 ) -> Attempt
     requires { ⌜ patch < length (now table) ⌝ }
-    requires { ⌜ length (now rows) ≤ length (now scratch) ⌝ }
+    requires { ⌜ length (now rows) ≤ mostEntries ⌝ }
     ensures { λ r. ⌜ (belowIn (now (table .entry)) patch ≤ length (now (rows .entry)) → Makes (now (card .entry)) (now («card_table» .entry)) leave (now (text .entry)) (now (table .entry)) patch (now (out .entry)) (now (out .exit)) r) ⌝ }
 {
     let first = patch + 1;
@@ -79,7 +76,7 @@ fn compose_on(
     if let Condition::Broken(r) = first_broken(card, card_table, text, table, rows, n) {
         return Attempt::Refused(r);
     }
-    let count = put_sorted(card, card_table, leave, text, table, rows, scratch, n, out);
+    let count = put_sorted(card, card_table, leave, text, table, rows, n, out);
     fitting(count, out.len())
 }
 
@@ -98,32 +95,10 @@ fn compose(
 {
     if below(table, patch) <= FEW_ENTRIES {
         let mut rows = [0u32; FEW_ENTRIES];
-        let mut scratch = [0u32; FEW_ENTRIES];
-        return compose_on(
-            card,
-            card_table,
-            leave,
-            text,
-            table,
-            patch,
-            &mut rows,
-            &mut scratch,
-            out,
-        );
+        return compose_on(card, card_table, leave, text, table, patch, &mut rows, out);
     }
     let mut rows = [0u32; MOST_ENTRIES];
-    let mut scratch = [0u32; MOST_ENTRIES];
-    compose_on(
-        card,
-        card_table,
-        leave,
-        text,
-        table,
-        patch,
-        &mut rows,
-        &mut scratch,
-        out,
-    )
+    compose_on(card, card_table, leave, text, table, patch, &mut rows, out)
 }
 
 // The card as the PatchObject that it has for a language leaves it.

@@ -281,27 +281,19 @@ fn put_member(
         return from;
     }
     let name = key_at(text, table, row);
-    let parts = run.parts;
-    let hi = run.hi;
-    let lo = bound(ptext, ptable, rows, run.lo, hi, parts, name, false);
-    let end = bound(ptext, ptable, rows, lo, hi, parts, name, true);
-    if ends_first(ptext, ptable, rows, lo, end, parts) {
+    let lo = bound(ptext, ptable, rows, run.lo, run.hi, run.parts, name, false);
+    let end = bound(ptext, ptable, rows, lo, run.hi, run.parts, name, true);
+    if ends_first(ptext, ptable, rows, lo, end, run.parts) {
         let e = rows[lo] as usize;
         return put_replaced(text, table, row, ptext, ptable, e, out, from);
     }
-    let first = from.first;
-    let at = from.to;
-    let p = put_head(text, table, row, OBJECT, first, out, at);
+    let p = put_head(text, table, row, OBJECT, from.first, out, from.to);
     if lo == end {
         let to = copy_value(text, table, row, out, p);
         return Spot { to, first: false };
     }
-    let further = parts + 1;
-    let inner = Run {
-        lo,
-        hi: end,
-        parts: further,
-    };
+    let parts = run.parts + 1;
+    let inner = Run { lo, hi: end, parts };
     let to = put_value(text, table, row, leave, ptext, ptable, rows, inner, out, p);
     Spot { to, first: false }
 }

@@ -10,8 +10,8 @@ use Rattle.patch.proofs.compose.put_sorted.Tie as tie
 returns : tie.Need-returns
 returns c =
     λ g ms b l nc.
-    let sorted = c .before .before .before .before .before .before .before .before .before in
-    let begin = sorted .before .before .before .before .before .before .before .before .before .before in
+    let sorted = c .before .before .before .before .before .before .before in
+    let begin = sorted .before .before .before .before .before .before .before .before in
     sorted-wrote (start (docOf (now (begin .args .card)) g)) ms (begin .pre .0) (sorted .sort-rows .ensures) l nc
     (λ ns m a. c .before .before .put-card .ensures g ns b m a)
 
@@ -21,7 +21,6 @@ put-sorted-spec =
     (tie.spec
     (λ c κs. search needs)
     (λ c κs. search needs)
-    (λ c. search needs)
     (λ c. search needs)
     (λ c. search needs)
     returns)

@@ -35,7 +35,7 @@ pub +put-member+put-value-spec : {M : Type 1} → statement M
     (of-member.copy-value-requires t)
     (of-member.same-length-2 t)
     (of-member.returns-3 t)
-    (of-member.add-further t)
+    (of-member.add-parts t)
     (of-member.put-value-requires t)
     (of-member.same-length-3 t)
     (of-member.returns-4 t))

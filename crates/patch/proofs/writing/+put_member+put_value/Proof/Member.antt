@@ -161,31 +161,31 @@ module _ (t : ℕ) where
       passed-some (docOf text g) (stays-goes m root (docOf text g) stays-in goes ∙ ap some as-is)
       (rw (label-is text v) at (put-head .ensures)) (c .before .before .copy-value .ensures g v)
 
-  pub add-further : lts.Need-add-further (given t) (member-at t) member.Post
-  add-further c =
-      let start = c .before .before .before .before .before .before .before .before .before .before .before .before .before .before .before .before .before in
+  pub add-parts : lts.Need-add-parts (given t) (member-at t) member.Post
+  add-parts c =
+      let start = c .before .before .before .before .before .before .before .before .before .before .before .before .before .before .before .before .before .before in
       omega (arith, start .pre .1 .1, start .good .1 .1 .0)
 
   pub put-value-requires : lts.Need-put-value-requires (given t) (member-at t) member.Post
   put-value-requires c κs =
-      let early = c .before .before .before .before .before .before .before .before in
+      let early = c .before .before .before .before .before .before .before .before .before in
       let p = early .before .before .before .before .before .before .before .before .before .before .pre in
       (omega (arith, p .0), (in-rows early, omega (arith, p .1 .1)))
 
   pub same-length-3 : lts.Need-same-length-3 (given t) (member-at t) member.Post
   same-length-3 c =
-      let put-head = c .before .before .before .before .before .before .before .put-head in
+      let put-head = c .before .before .before .before .before .before .before .before .put-head in
       c .before .before .put-value .kept .1 .1 .1 .1 .1 .1 .1 .1 .0 ∙ put-head .kept .1 .1 .1 .1 .1 .0
 
   pub returns-4 : lts.Need-returns-4 (given t) (member-at t) member.Post
   returns-4 c =
       λ root g ms v o s.
-      let early = c .before .before .before .before .before .before .before .before .before .before .before in
+      let early = c .before .before .before .before .before .before .before .before .before .before .before .before in
       let a = early .before .before .before .before .before .before .before .before .before .before .args in
       let text = now (a .text) in
-      let ends-first = c .before .before .before .before .before .before .before .before .before .before .ends-first in
-      let if2 = c .before .before .before .before .before .before .before .before .before .if2 in
-      let put-head = c .before .before .before .before .before .before .before .put-head in
+      let ends-first = c .before .before .before .before .before .before .before .before .before .before .before .ends-first in
+      let if2 = c .before .before .before .before .before .before .before .before .before .before .if2 in
+      let put-head = c .before .before .before .before .before .before .before .before .put-head in
       let m = its-run early v s in
       let goes = sym (if2 .left) ∙ ends-first .ensures .is (m .run) (m .said) in
       let stays-in = kept-in (early .before .before .before) o in
