@@ -1,4 +1,4 @@
-// The localized card, written for a lent output: all entries of the language's PatchObject, or a refusal from 21 to 27.
+// The localized card (docs/RULES.md, 6), written for a lent output: all entries of the language's PatchObject, or a refusal from 21 to 27.
 use crate::children::child_row;
 use crate::conditions::Condition;
 use crate::conditions::first_broken;

@@ -1,4 +1,4 @@
-// The conditions 22 to 26 of a patch, the smallest number first, each over all entries, on the untouched card.
+// The conditions 22 to 26 of a patch (docs/RULES.md, 6.4), the smallest number first, each over all entries, on the untouched card.
 use crate::children::key_at;
 use crate::paths::Path;
 use crate::paths::follow;

@@ -1,4 +1,4 @@
-// The entries of a PatchObject, listed by their rows.
+// The entries of a PatchObject (docs/RULES.md, 6.4), listed by their rows.
 use json::limits::VALUES;
 use json::lookup::next_row;
 ghost use Rattle.patch.specs.Entries.{Collected};

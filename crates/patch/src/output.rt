@@ -1,4 +1,4 @@
-// Bytes for a lent output: each is counted, and stored where it fits. So the count says how long the output has to be.
+// Bytes for a lent output (docs/RULES.md, 6.7): each is counted, and stored where it fits. So the count says how long the output has to be.
 use crate::parts::part_byte;
 use json::decode::Cursor;
 use json::decode::Next;

@@ -1,4 +1,4 @@
-// One part of a pointer, read off a key while the key is decoded: nothing is copied. In a part `~1` is `/` and `~0` is `~`.
+// One part of a pointer, read off a key while the key is decoded: nothing is copied. In a part `~1` is `/` and `~0` is `~` (docs/RULES.md, 6.2).
 // Up to a backslash keys are compared, and passed, as they are written.
 use json::bytes::peek;
 use json::decode::Cursor;

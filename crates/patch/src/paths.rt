@@ -1,4 +1,4 @@
-// Where a pointer leads in a card: the walk goes one part at a time, from the root, until the last part is left.
+// Where a pointer leads in a card (docs/RULES.md, 6.3): the walk goes one part at a time, from the root, until the last part is left.
 use crate::children::member_row;
 use crate::parts::Onward;
 use crate::parts::next_part;

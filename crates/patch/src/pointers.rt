@@ -1,4 +1,4 @@
-// Keys of a PatchObject as pointers: a bad tilde, a prefix, the order in which they are applied.
+// Keys of a PatchObject as pointers (docs/RULES.md, 6.2): a bad tilde, a prefix, the order in which they are applied.
 use crate::parts::Onward;
 use crate::parts::next_part;
 use crate::parts::part_order;

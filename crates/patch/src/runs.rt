@@ -1,4 +1,4 @@
-// Where a name parts a run of sorted entries, found by halving.
+// Where a name parts a run of sorted entries (docs/RULES.md, 6.5), found by halving.
 use crate::children::key_at;
 use crate::parts::part_order;
 use crate::pointers::part_at;

@@ -1,4 +1,4 @@
-// Values for a lent output: as they are, or as the entries of a patch leave them. No white space is written, and each token stays as it is.
+// Values for a lent output (docs/RULES.md, 6.6): as they are, or as the entries of a patch leave them. No white space is written, and each token stays as it is.
 use crate::children::key_at;
 use crate::children::member_row;
 use crate::output::put_byte;
