@@ -282,14 +282,17 @@ fn breaks_then(
     requires { ⌜ (at + 6) * nameWidth ≤ length (now words) ⌝ }
     ensures { λ r. ⌜ ((f : Forest) → MembersAt (now (table .entry)) object f → r ≡ thenBroken (object .of) (membersOf (now (text .entry)) f) shape (now (words .entry)) at) ⌝ }
 {
-    let second = word_at(words, at + 1);
     match shape {
         NEEDS => !any_of(words, numbers, text, table, object, at + 1, at + EACH),
         NEEDS_STRING => {
+            let second = word_at(words, at + 1);
             let third = word_at(words, at + 2);
             !is_this_string(words, numbers, text, table, object, second, third)
         }
-        NEEDS_TRUE => !is_true(words, numbers, text, table, object, second),
+        NEEDS_TRUE => {
+            let second = word_at(words, at + 1);
+            !is_true(words, numbers, text, table, object, second)
+        }
         _ => {
             let m = tally_in(words, numbers, text, table, object, word_at(words, at));
             m.all
@@ -297,7 +300,7 @@ fn breaks_then(
     }
 }
 
-// The list of the first is badly separated, as the second is true or not.
+// The list of the first is badly separated, as the second is true or not. Without a separator nothing is asked of the second.
 fn breaks_separators(
     words: &[u8],
     numbers: &[u32],
@@ -312,6 +315,9 @@ fn breaks_separators(
     ensures { λ r. ⌜ ((f : Forest) → MembersAt (now (table .entry)) object f → r ≡ separatorsBroken (object .of) (membersOf (now (text .entry)) f) (now (words .entry)) at) ⌝ }
 {
     let m = tally_in(words, numbers, text, table, object, word_at(words, at));
+    if !m.any {
+        return false;
+    }
     let ordered = is_true(words, numbers, text, table, object, word_at(words, at + 1));
     badly_separated(m, ordered)
 }
