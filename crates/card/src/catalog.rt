@@ -4,10 +4,13 @@
 // types after it go up by one. A new rule is in the record of its type there, and at the same place a line in WORDS and one in NUMBERS; RULE_COUNT and
 // the rules' starts after it go up by one. A new object type is a number here, its name, its start in both lists of starts and its properties; TYPES goes
 // up by one. COUNT, RULE_COUNT and TYPES stand in specs/Catalog.antt too. The proofs compute over the catalog.
+use json::bytes::peek;
 ghost use mathlib.Core.Path.{_≡_};
+ghost use mathlib.Core.Bool.{_||_};
 ghost use Prim.Native.Nat.{_+_, _*_, _≤_, _<_};
 ghost use lib.ListN.{length, take, drop};
-ghost use Rattle.text.specs.Text.{bytes};
+ghost use lib.Dec.{eqb};
+ghost use Rattle.text.specs.Text.{bytes, byteAt};
 ghost use Rattle.contact.specs.Schema.{properties, rulesOf, ownName};
 ghost use Rattle.card.specs.Catalog.{namePlace, nameWidth, wordOf, WordEnd, typeCount, lines, noLine, allRules, noRule, Stretch, tableWords, Numbers, spanIn};
 
@@ -279,6 +282,9 @@ pub(crate) const NUMBERS: [u32; COUNT + 2 * (TYPES + 2) + RULE_COUNT] = [
 
 // ---- words
 
+// The byte that begins an escape, among the numbers that peeking gives.
+const BACKSLASH: u16 = b'\\' as u16;
+
 // The end of the word that begins at a place: the next space.
 fn word_end(words: &[u8], from: usize) -> usize
     requires { ⌜ from ≤ length (now words) ⌝ }
@@ -312,6 +318,17 @@ pub(crate) fn sized_word(words: &[u8], i: usize, size: usize) -> &[u8]
     let from = i * WIDTH;
     let to = from + size;
     &words[from..to]
+}
+
+// May a name whose first written byte is that one be the word with that number? A backslash may stand for any byte.
+pub(crate) fn may_be(words: &[u8], i: usize, first: u16) -> bool
+    requires { ⌜ i * nameWidth < length (now words) ⌝ }
+    ensures { λ r. ⌜ r ≡ (eqb first 92 || eqb (byteAt (now (words .entry)) (i * nameWidth)) first) ⌝ }
+{
+    if first == BACKSLASH {
+        return true;
+    }
+    peek(words, i * WIDTH) == first
 }
 
 // The place of an object type. Those without a record have the one behind the last.

@@ -13,16 +13,20 @@ use crate::catalog::TIME;
 use crate::catalog::VERSION;
 use crate::catalog::YES;
 use crate::catalog::lines_of;
+use crate::catalog::may_be;
 use crate::catalog::sized_word;
 use crate::items::Item;
 use crate::items::Keys;
 use crate::items::SimpleItem;
 use crate::items::Ty;
 use crate::rows::has;
+use json::bytes::peek;
 use json::names::name_is;
 ghost use mathlib.Core.Path.{_≡_};
 ghost use Prim.Native.Nat.{_<_};
 ghost use lib.ListN.{getD};
+ghost use Rattle.laws.specs.Order.{same};
+ghost use Rattle.text.specs.Text.{byteAt};
 ghost use Rattle.text.specs.Strings.{nameOf};
 ghost use Rattle.text.specs.Tree.{Forest};
 ghost use Rattle.text.specs.Doc.{membersOf};
@@ -141,19 +145,41 @@ pub(crate) fn is_lacking(
     false
 }
 
+// Is a name that of property i? Its first written byte is handed in, since most names differ there.
+fn is_named(
+    words: &[u8],
+    numbers: &[u32],
+    text: &[u8],
+    first: u16,
+    s: usize,
+    e: usize,
+    i: usize,
+) -> bool
+    requires { ⌜ Lent (now words) (now numbers) ⌝ }
+    requires { ⌜ i < count ⌝ }
+    requires { ⌜ first ≡ byteAt (now text) s ⌝ }
+    ensures { λ r. ⌜ r ≡ same (nameOf (now (text .entry)) s e) (getD lines i noLine .spelling) ⌝ }
+{
+    if !may_be(words, i, first) {
+        return false;
+    }
+    let number = numbers[i];
+    let size = (number / LONG) as usize;
+    name_is(text, s, e, sized_word(words, i, size))
+}
+
 // The type of a member of that name in an object of that type.
 pub(crate) fn type_in(words: &[u8], numbers: &[u32], text: &[u8], o: u32, s: usize, e: usize) -> Ty
     requires { ⌜ Lent (now words) (now numbers) ⌝ }
     ensures { λ r. ⌜ typeOf r ≡ typeIn (properties o) (nameOf (now (text .entry)) s e) ⌝ }
 {
+    let first = peek(text, s);
     let own = lines_of(numbers, o);
     let last = own.last;
     let mut i = own.first;
     while i < last {
-        let number = numbers[i];
-        let size = (number / LONG) as usize;
-        if name_is(text, s, e, sized_word(words, i, size)) {
-            return type_of(number);
+        if is_named(words, numbers, text, first, s, e, i) {
+            return type_of(numbers[i]);
         }
         i = i + 1;
     }
