@@ -16,8 +16,8 @@ ghost use Rattle.card.specs.Catalog.{namePlace, nameWidth, wordOf, WordE
 
 // ---- numbers
 
-// A property's number says all but the letters of its name, as a sum: how long the name is, as `5 * LONG`; MUST if the property is mandatory; LIST, FREE or
-// IDS for a list or a map of such items; and the item.
+// A property's number, its code, says all but the letters of its name, as a sum: how long the name is, as `5 * LONG`; MUST if the property is mandatory;
+// LIST, FREE or IDS for a list or a map of such items; and the item. Judging hands types on as such codes, of which the last two parts count.
 pub(crate) const LONG: u32 = 65536;
 
 pub(crate) const MUST: u32 = 32768;
@@ -28,7 +28,9 @@ const FREE: u32 = 16384;
 
 const IDS: u32 = 24576;
 
-// The items: the value of a property, or each value of a list or a map.
+// The items: the value of a property, or each value of a list or a map. Nothing is judged of an unknown property.
+pub(crate) const ANY: u32 = 0;
+
 pub(crate) const STRING: u32 = 1;
 
 pub(crate) const VERSION: u32 = 2;

@@ -2,8 +2,7 @@
 use crate::catalog::CARD;
 use crate::catalog::NUMBERS;
 use crate::catalog::WORDS;
-use crate::items::Item;
-use crate::items::Ty;
+use crate::schema::object_of;
 use crate::walk::Breach;
 use crate::walk::breach_at;
 use contact::CardFault;
@@ -53,7 +52,7 @@ fn card_breach(text: &[u8], table: &[u32]) -> Breach
     }
     let words = WORDS;
     let numbers = NUMBERS;
-    let card = Ty::One(Item::ObjectOf(CARD));
+    let card = object_of(CARD);
     breach_at(&words, &numbers, text, table, 0, card, true)
 }
 

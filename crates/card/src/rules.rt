@@ -15,6 +15,7 @@ use crate::rows::is_string_at;
 use crate::rows::next_row;
 use crate::schema::Object;
 use crate::schema::type_in;
+use crate::schema::type_of;
 use json::lookup::Found;
 use json::lookup::find;
 use json::rows::OBJECT;
@@ -54,7 +55,7 @@ fn present(
     let Found::Row(k) = find(text, table, object.from, object.end, name) else {
         return Found::Nothing;
     };
-    let ty = type_in(
+    let code = type_in(
         words,
         numbers,
         text,
@@ -62,7 +63,7 @@ fn present(
         name_start(table, k),
         name_end(table, k),
     );
-    if kind_fits(ty, kind(table, k)) {
+    if kind_fits(type_of(code), kind(table, k)) {
         return Found::Row(k);
     }
     Found::Nothing

@@ -26,10 +26,10 @@ returns c =
 
 breach-at-requires : tie.Need-breach-at-requires
 unfolding tableWords lines allRules joined startOf types recordOf typeAt itemAt
-breach-at-requires c κs = (record { words-are = refl; numbers-are = numbers-told _ refl refl refl refl refl refl refl refl refl }, c .before .before .before .before .before .before .pre)
+breach-at-requires c κs = (record { words-are = refl; numbers-are = numbers-told _ refl refl refl refl refl refl refl refl refl }, c .before .before .before .before .before .before .before .pre)
 
 returns-2 : tie.Need-returns-2
-returns-2 c = c .breach-at .ensures
+returns-2 c = λ f v k. c .breach-at .ensures f v k ∙ rw (c .before .before .before .object-of .ensures)
 
 pub card-breach-spec : {M : Type 1} → statement M
-card-breach-spec = tie.close (tie.spec (λ c κs. search needs) returns (λ c. search needs) (λ c. search needs) breach-at-requires returns-2)
+card-breach-spec = tie.close (tie.spec (λ c κs. search needs) returns (λ c κs. omega arith) (λ c. search needs) (λ c. search needs) breach-at-requires returns-2)

@@ -7,6 +7,7 @@ use denote.Ref.{now}
 use Rattle.text.specs.Strings.{nameOf}
 use Rattle.contact.specs.Schema.{any, properties}
 use Rattle.card.specs.Catalog.{lines, noLine, count}
+use Rattle.card.proofs.Known.Codes.{any-code}
 use Rattle.card.proofs.Known.Columns.{lines-length}
 use Rattle.card.proofs.Known.Search.{Left, left-starts, left-hit, left-on, left-end, named, type-first}
 use Rattle.card.proofs.schema.type_in.Statement.{statement}
@@ -31,17 +32,17 @@ inside c = omega (arith, c .before .before .lines-of .ensures .within, lines-len
 is-named-requires : tie.Need-is-named-requires Inv-loop μ-loop
 is-named-requires c κs = (c .before .before .before .before .before .before .before .pre, (inside c, c .before .before .before .peek .ensures .0))
 
-mul-type-of : tie.Need-mul-type-of Inv-loop μ-loop
-mul-type-of c = omega (arith, inside (c .before .before), c .before .before .before .before .before .before .before .before .before .pre .numbers-are .long)
+mul-code : tie.Need-mul-code Inv-loop μ-loop
+mul-code c = omega (arith, inside (c .before .before), c .before .before .before .before .before .before .before .before .before .pre .numbers-are .long)
 
-shared-slice-read-type-of : tie.Need-shared-slice-read-type-of Inv-loop μ-loop
-shared-slice-read-type-of c = omega (arith, inside (c .before .before .before), c .before .before .before .before .before .before .before .before .before .before .pre .numbers-are .long)
+shared-slice-read-code : tie.Need-shared-slice-read-code Inv-loop μ-loop
+shared-slice-read-code c = omega (arith, inside (c .before .before .before), c .before .before .before .before .before .before .before .before .before .before .pre .numbers-are .long)
 
 returns : tie.Need-returns Inv-loop μ-loop
 returns c =
-    let a = c .before .before .before .before .before .before .before .before .before .before .before .args in
-    c .type-of .ensures ∙ c .before .before .before .before .before .before .before .before .before .before .before .pre .numbers-are .code (c .before .before .before .before .before .loop .i) (inside (c .before .before .before .before)) .type
-    ∙ left-hit _ _ _ _ _ _ _ _ (c .before .before .before .before .before .before .lines-of .ensures) (c .before .before .before .before .before .loop .inv) (c .before .before .before .before .loop-test .taken) (sym (c .before .before .before .is-named .ensures) ∙ c .before .before .if1 .taken)
+    let a = c .before .before .before .before .before .before .before .before .before .before .args in
+    c .before .before .before .before .before .before .before .before .before .before .pre .numbers-are .code (c .before .before .before .before .loop .i) (inside (c .before .before .before)) .type
+    ∙ left-hit _ _ _ _ _ _ _ _ (c .before .before .before .before .before .lines-of .ensures) (c .before .before .before .before .loop .inv) (c .before .before .before .loop-test .taken) (sym (c .before .before .is-named .ensures) ∙ c .before .if1 .taken)
     ∙ type-first (nameOf (now (a .text)) (a .s) (a .e)) (properties (a .o))
 
 loop-again : tie.Need-loop-again Inv-loop μ-loop
@@ -50,9 +51,9 @@ loop-again c = left-on _ _ _ _ _ _ _ _ (c .before .before .before .before .lines
 returns-2 : tie.Need-returns-2 Inv-loop μ-loop
 returns-2 c =
     let a = c .before .before .before .before .before .before .before .args in
-    left-end _ _ _ _ _ _ _ _ (c .before .before .lines-of .ensures) (c .before .loop .inv) (c .loop-test .left) ∙ type-first (nameOf (now (a .text)) (a .s) (a .e)) (properties (a .o))
+    any-code ∙ left-end _ _ _ _ _ _ _ _ (c .before .before .lines-of .ensures) (c .before .loop .inv) (c .loop-test .left) ∙ type-first (nameOf (now (a .text)) (a .s) (a .e)) (properties (a .o))
 
 pub type-in-spec : {M : Type 1} → statement M
 type-in-spec =
     tie.close
-    (tie.spec Inv-loop μ-loop (λ c κs. search needs) lines-of-requires loop-holds is-named-requires mul-type-of shared-slice-read-type-of (λ c κs. search needs) returns (λ c. search needs) (λ c. search needs) loop-again returns-2)
+    (tie.spec Inv-loop μ-loop (λ c κs. search needs) lines-of-requires loop-holds is-named-requires mul-code shared-slice-read-code returns (λ c. search needs) (λ c. search needs) loop-again returns-2)
