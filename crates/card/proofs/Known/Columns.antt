@@ -16,12 +16,12 @@ use Rattle.text.specs.Text.{bytes, byteAt}
 use Rattle.text.specs.Strings.{nameOf}
 use Rattle.text.specs.Doc.{Name}
 use Rattle.contact.specs.Schema.{ObjectType, Known, TypeRecord, types, recordOf, ownName}
-use Rattle.card.specs.Catalog.{nameWidth, wordAt, joined, typeCount, namePlace, lines, noLine, count, allRules, ruleCount, typeWordsFrom, tableWords, Lent}
+use Rattle.card.specs.Catalog.{nameWidth, wordAt, joined, typeCount, namePlace, lines, noLine, count, allRules, ruleCount, ruleAt, ruleWords, typeWordsFrom, tableWords, Lent}
 use Rattle.card.proofs.Known.Beginnings.{name-apart}
 use Rattle.card.proofs.Known.Stretches.{place-within, place-record}
 
 pub words-length : length tableWords ≡ (typeWordsFrom + typeCount) * nameWidth
-unfolding tableWords lines allRules joined types
+unfolding tableWords lines joined types
 words-length = refl
 
 -- ---- names of properties
@@ -34,7 +34,7 @@ right : ℕ → Bool
 right i = same (take (length (getD spellings i [])) (drop (i * nameWidth) tableWords)) (getD spellings i [])
 
 all-right : below right count ≡ true
-unfolding right orderOf tableWords lines allRules joined types
+unfolding right orderOf tableWords lines joined types
 all-right = refl
 
 short : ℕ → Bool
@@ -58,7 +58,7 @@ called : ℕ → Bool
 called p = same (wordAt tableWords (typeWordsFrom + p)) (bytes (ownName p))
 
 all-called : below called (typeCount + 1) ≡ true
-unfolding called orderOf recordOf tableWords lines allRules joined types
+unfolding called orderOf recordOf tableWords lines joined types
 all-called = refl
 
 pub type-named : (o : ObjectType) → wordAt tableWords (typeWordsFrom + namePlace o) ≡ bytes (ownName o)
@@ -123,3 +123,15 @@ lines-length = refl
 pub rules-length : length allRules ≡ ruleCount
 unfolding allRules joined types
 rules-length = refl
+
+-- a rule has no more words than the code keeps for it
+few : ℕ → Bool
+few i = leb (length (ruleWords (ruleAt i))) 6
+
+all-few : below few ruleCount ≡ true
+unfolding few allRules joined types
+all-few = refl
+
+pub rule-few : (i : ℕ) → i < ruleCount → length (ruleWords (ruleAt i)) ≤ 6
+unfolding few
+rule-few i h = leb-true (length (ruleWords (ruleAt i))) 6 (below-at few ruleCount all-few i h)

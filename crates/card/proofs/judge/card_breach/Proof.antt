@@ -6,6 +6,7 @@ use native.Mathlib.Omega.{arith}
 use denote.Ref.{now}
 use borrow.Author.Needs.{needs}
 use borrow.Author.Tests.{ne-eqb}
+use Rattle.laws.specs.Order.{orderOf}
 use Rattle.text.specs.Doc.{docOf}
 use Rattle.text.proofs.Promise.{first-row}
 use Rattle.contact.specs.Schema.{card, objectOf, types, recordOf}
@@ -25,8 +26,8 @@ returns c =
     (row-unfit text f (v .some) (objectOf card) true (rw kind at (ne-eqb (c .before .kind .result) 7 (c .if1 .taken))))
 
 breach-at-requires : tie.Need-breach-at-requires
-unfolding tableWords lines allRules joined startOf types recordOf typeAt itemAt
-breach-at-requires c κs = (record { words-are = refl; numbers-are = numbers-told _ refl refl refl refl refl refl refl refl refl }, c .before .before .before .before .before .before .before .pre)
+unfolding tableWords lines allRules joined startOf types recordOf typeAt itemAt orderOf
+breach-at-requires c κs = (record { words-are = refl; numbers-are = numbers-told _ refl refl refl refl refl refl refl refl refl refl refl }, c .before .before .before .before .before .before .before .pre)
 
 returns-2 : tie.Need-returns-2
 returns-2 c = λ f v k. c .breach-at .ensures f v k ∙ rw (c .before .before .before .object-of .ensures)

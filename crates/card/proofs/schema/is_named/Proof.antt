@@ -20,12 +20,6 @@ returns c =
     let told = rw (p .1 .1) at (c .before .may-be .ensures) in
     lent-apart (p .0) (a .i) (p .1 .0) (now (a .text)) (a .s) (a .e) (sym told ∙ denied (c .before .may-be .result) (c .if1 .taken))
 
-mul-code : tie.Need-mul-code
-mul-code c = let p = c .before .before .before .before .before .pre in omega (arith, p .0 .numbers-are .long, p .1 .0)
-
-shared-slice-read-code : tie.Need-shared-slice-read-code
-shared-slice-read-code c = let p = c .before .before .before .before .before .before .pre in omega (arith, p .0 .numbers-are .long, p .1 .0)
-
 cast-size : tie.Need-cast-size
 cast-size c = let p = c .before .before .before .before .before .before .pre in omega (arith, lent-short (p .0) (c .before .before .before .before .before .before .args .i) (p .1 .0))
 
@@ -41,4 +35,4 @@ returns-2 c =
 
 pub is-named-spec : {M : Type 1} → statement M
 is-named-spec =
-    tie.close (tie.spec may-be-requires returns mul-code shared-slice-read-code cast-size sized-word-requires (λ c κs. search needs) returns-2)
+    tie.close (tie.spec may-be-requires returns (λ c. search needs) (λ c. search needs) cast-size sized-word-requires (λ c κs. search needs) returns-2)
