@@ -1,5 +1,7 @@
 -- The catalog, and searches through it.
 pub mod Words
+pub mod Codes
+pub mod Beginnings
 pub mod Stretches
 pub mod Columns
 pub mod Lent

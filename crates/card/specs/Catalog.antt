@@ -133,24 +133,27 @@ ruleWords (needsTrue n m) = bytes n ∷ bytes m ∷ []
 ruleWords (separators list order entry) = bytes list ∷ bytes order ∷ []
 ruleWords (notOnly list entry) = bytes list ∷ []
 
--- each rule's words, and empty ones up to six
-abbrev pub sixes : List Rule → List Name
-sixes [] = []
-sixes (r ∷ rs) = take 6 (ruleWords r ++ replicate 6 []) ++ sixes rs
+-- the rule with that number
+abbrev pub ruleAt : ℕ → Rule
+ruleAt i = getD allRules i noRule
 
 -- ---- the lists that are lent
 
--- the words of the rules begin behind the properties' names
-abbrev pub ruleWordsFrom : ℕ
-ruleWordsFrom = count
+-- words of the rules that no property has
+abbrev pub furtherWords : List Name
+furtherWords = bytes "group" ∷ []
 
--- the types' names begin behind them
+-- the code counts them too
+abbrev pub furtherCount : ℕ
+furtherCount = 1
+
+-- the types' names begin behind the properties' and these
 abbrev pub typeWordsFrom : ℕ
-typeWordsFrom = ruleWordsFrom + ruleCount * 6
+typeWordsFrom = count + furtherCount
 
--- all words: the properties' names, the words of the rules, the types' names
+-- all words: the properties' names, further ones, the types' names
 unfoldable pub tableWords : List ℕ
-tableWords = padded (map (λ (k : Known). k .spelling) lines ++ sixes allRules ++ map (λ (r : TypeRecord). bytes (r .own)) types)
+tableWords = padded (map (λ (k : Known). k .spelling) lines ++ furtherWords ++ map (λ (r : TypeRecord). bytes (r .own)) types)
 
 -- behind the properties' numbers stand the starts of the types' properties
 abbrev pub lineStarts : ℕ
@@ -161,16 +164,26 @@ abbrev pub ruleStarts : ℕ
 ruleStarts = lineStarts + typeCount + 2
 
 -- and last the rules' numbers
-abbrev pub shapesFrom : ℕ
-shapesFrom = ruleStarts + typeCount + 2
+abbrev pub rulesFrom : ℕ
+rulesFrom = ruleStarts + typeCount + 2
+
+-- for each its shape and six words
+abbrev pub ruleWidth : ℕ
+ruleWidth = 7
+
+-- the number that says how long a word is and where it stands
+pub record WordBy (n : ℕ) (w : Name) : Type 0 where
+  pub fits : n % 65536 * nameWidth + n / 65536 ≤ (typeWordsFrom + typeCount) * nameWidth
+  pub is : take (n / 65536) (drop (n % 65536 * nameWidth) tableWords) ≡ w
 
 -- these are the catalog's numbers
 pub record Numbers (numbers : List ℕ) : Type 0 where
-  pub long : length numbers ≡ shapesFrom + ruleCount
+  pub long : length numbers ≡ rulesFrom + ruleCount * ruleWidth
   pub code : (i : ℕ) → i < count → CodeOf (getD numbers i 0) (getD lines i noLine)
   pub line-start : (o : ObjectType) → o < typeCount + 2 → getD numbers (lineStarts + o) 0 ≡ startOf (λ r. r .known) types o
   pub rule-start : (o : ObjectType) → o < typeCount + 2 → getD numbers (ruleStarts + o) 0 ≡ startOf (λ r. r .rules) types o
-  pub shape : (i : ℕ) → i < ruleCount → getD numbers (shapesFrom + i) 0 ≡ shapeOf (getD allRules i noRule)
+  pub shape : (i : ℕ) → i < ruleCount → getD numbers (rulesFrom + i * ruleWidth) 0 ≡ shapeOf (ruleAt i)
+  pub word : (i : ℕ) → i < ruleCount → (j : ℕ) → j < 6 → WordBy (getD numbers (rulesFrom + i * ruleWidth + 1 + j) 0) (getD (ruleWords (ruleAt i)) j [])
 
 -- what is lent is the catalog
 pub record Lent (words numbers : List ℕ) : Type 0 where

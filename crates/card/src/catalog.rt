@@ -1,20 +1,25 @@
 // The catalog: the known properties of a card's types and the rules between them, as words and numbers. A call of judging makes both lists once and lends
 // them to all below, since a constant list is stored anew wherever it is used.
-// A new property is a line in contact/specs/Schema.antt and, at the same place of its type, one in WORDS and one in NUMBERS; COUNT and the starts of the
-// types after it go up by one. A new rule is in the record of its type there, and at the same place a line in WORDS and one in NUMBERS; RULE_COUNT and
-// the rules' starts after it go up by one. A new object type is a number here, its name, its start in both lists of starts and its properties; TYPES goes
-// up by one. COUNT, RULE_COUNT and TYPES stand in specs/Catalog.antt too. The proofs compute over the catalog.
+// A new property is a line in contact/specs/Schema.antt and, at the same place of its type, one in WORDS and one in NUMBERS; COUNT, the starts of the types
+// after it and the places of the rules' words after it go up by one. A new rule is in the record of its type there, and at the same place its shape and its
+// words in NUMBERS; RULE_COUNT and the rules' starts after it go up by one. A word that no property has is a line in WORDS, behind the properties, and one
+// in specs/Catalog.antt; FURTHER goes up by one. A new object type is a number here, its name, its start in both lists of starts and its properties; TYPES
+// goes up by one. COUNT, FURTHER, RULE_COUNT and TYPES stand in specs/Catalog.antt too. The proofs compute over the catalog.
+use json::bytes::peek;
 ghost use mathlib.Core.Path.{_≡_};
+ghost use mathlib.Core.Bool.{_||_};
 ghost use Prim.Native.Nat.{_+_, _*_, _≤_, _<_};
-ghost use lib.ListN.{length, take, drop};
-ghost use Rattle.text.specs.Text.{bytes};
+ghost use mathlib.Core.List.{[]};
+ghost use lib.ListN.{length, getD, take, drop};
+ghost use lib.Dec.{eqb};
+ghost use Rattle.text.specs.Text.{bytes, byteAt};
 ghost use Rattle.contact.specs.Schema.{properties, rulesOf, ownName};
-ghost use Rattle.card.specs.Catalog.{namePlace, nameWidth, wordOf, WordEnd, typeCount, lines, noLine, allRules, noRule, Stretch, tableWords, Numbers, spanIn};
+ghost use Rattle.card.specs.Catalog.{namePlace, nameWidth, wordOf, WordEnd, typeCount, lines, noLine, allRules, noRule, ruleCount, ruleAt, ruleWords, Stretch, tableWords, Numbers, Lent, spanIn};
 
 // ---- numbers
 
-// A property's number says all but the letters of its name, as a sum: how long the name is, as `5 * LONG`; MUST if the property is mandatory; LIST, FREE or
-// IDS for a list or a map of such items; and the item.
+// A property's number, its code, says all but the letters of its name, as a sum: how long the name is, as `5 * LONG`; MUST if the property is mandatory;
+// LIST, FREE or IDS for a list or a map of such items; and the item. Judging hands types on as such codes, of which the last two parts count.
 pub(crate) const LONG: u32 = 65536;
 
 pub(crate) const MUST: u32 = 32768;
@@ -25,7 +30,9 @@ const FREE: u32 = 16384;
 
 const IDS: u32 = 24576;
 
-// The items: the value of a property, or each value of a list or a map.
+// The items: the value of a property, or each value of a list or a map. Nothing is judged of an unknown property.
+pub(crate) const ANY: u32 = 0;
+
 pub(crate) const STRING: u32 = 1;
 
 pub(crate) const VERSION: u32 = 2;
@@ -66,7 +73,7 @@ const EMAIL_ADDRESS: u32 = 5;
 
 const PHONE: u32 = 6;
 
-// A rule's number is its shape: one of the words is there;
+// A rule's first number is its shape: one of the words is there;
 pub(crate) const ONE_OF: u32 = 0;
 
 // where the first is there, so is one of the others;
@@ -84,34 +91,54 @@ pub(crate) const SEPARATORS: u32 = 4;
 // the list of the first, where it is there, has an entry that isn't a separator.
 const NOT_ONLY: u32 = 5;
 
+// Its words are numbers too: how long the word is, and its place in WORDS, as `5 * LONG + COUNT`. A name that more than one property has is that of the first.
+const NO_WORD: u32 = 0;
+
+const KIND: u32 = 4 * LONG + 5;
+
+const MEMBERS: u32 = 7 * LONG + 8;
+
+const COMPONENTS: u32 = 10 * LONG + 15;
+
+const IS_ORDERED: u32 = 9 * LONG + 17;
+
+const DEFAULT_SEPARATOR: u32 = 16 * LONG + 18;
+
+const FULL: u32 = 4 * LONG + 19;
+
+const GROUP: u32 = 5 * LONG + COUNT as u32;
+
 // ---- how many there are, and where each list begins
 
-// Object types, properties, rules, and the words for each rule.
+// Object types, properties, further words, and rules.
 const TYPES: usize = 7;
 
 const COUNT: usize = 53;
 
+const FURTHER: usize = 1;
+
 const RULE_COUNT: usize = 9;
 
-pub(crate) const EACH: usize = 6;
-
-// The bytes for each word. The properties' names come first, then the words of the rules, then the types' names.
+// The bytes for each word. The properties' names come first, then further words of the rules, then the types' names.
 const WIDTH: usize = 20;
 
-pub(crate) const RULE_WORDS: usize = COUNT;
+const TYPE_WORDS: usize = COUNT + FURTHER;
 
-const TYPE_WORDS: usize = RULE_WORDS + RULE_COUNT * EACH;
+// The numbers for each rule: its shape and its words, up to six.
+pub(crate) const EACH: usize = 6;
+
+pub(crate) const RULE_WIDTH: usize = 1 + EACH;
 
 // The properties' numbers come first, then where each type's properties begin, where its rules begin, and the rules' numbers.
 const LINE_STARTS: usize = COUNT;
 
 const RULE_STARTS: usize = LINE_STARTS + TYPES + 2;
 
-pub(crate) const SHAPES: usize = RULE_STARTS + TYPES + 2;
+pub(crate) const RULES: usize = RULE_STARTS + TYPES + 2;
 
 // ---- the lists
 
-pub(crate) const WORDS: [u8; (COUNT + RULE_COUNT * EACH + TYPES) * WIDTH] = *b"\
+pub(crate) const WORDS: [u8; (COUNT + FURTHER + TYPES) * WIDTH] = *b"\
     @type               \
     version             \
     uid                 \
@@ -165,15 +192,7 @@ pub(crate) const WORDS: [u8; (COUNT + RULE_COUNT * EACH + TYPES) * WIDTH] = *b"\
     contexts            \
     pref                \
     label               \
-    members             kind                group                                                                           \
-    full                components                                                                                          \
-    components                                                                                                              \
-    components          isOrdered                                                                                           \
-    defaultSeparator    isOrdered                                                                                           \
-    defaultSeparator    components                                                                                          \
-    components          isOrdered                                                                                           \
-    defaultSeparator    isOrdered                                                                                           \
-    defaultSeparator    components                                                                                          \
+    group               \
     Card                \
     Name                \
     NameComponent       \
@@ -182,7 +201,7 @@ pub(crate) const WORDS: [u8; (COUNT + RULE_COUNT * EACH + TYPES) * WIDTH] = *b"\
     EmailAddress        \
     Phone               ";
 
-pub(crate) const NUMBERS: [u32; COUNT + 2 * (TYPES + 2) + RULE_COUNT] = [
+pub(crate) const NUMBERS: [u32; COUNT + 2 * (TYPES + 2) + RULE_COUNT * RULE_WIDTH] = [
     // Card
     5 * LONG + MUST + NAME_OF + CARD, // @type
     7 * LONG + MUST + VERSION, // version
@@ -264,20 +283,77 @@ pub(crate) const NUMBERS: [u32; COUNT + 2 * (TYPES + 2) + RULE_COUNT] = [
     9,
     9,
     // the rules of Card
-    NEEDS_STRING, // members kind group
+    NEEDS_STRING,
+    MEMBERS,
+    KIND,
+    GROUP,
+    NO_WORD,
+    NO_WORD,
+    NO_WORD,
     // of Name
-    ONE_OF, // full components
-    NOT_ONLY, // components
-    SEPARATORS, // components isOrdered
-    NEEDS_TRUE, // defaultSeparator isOrdered
-    NEEDS, // defaultSeparator components
+    ONE_OF,
+    FULL,
+    COMPONENTS,
+    NO_WORD,
+    NO_WORD,
+    NO_WORD,
+    NO_WORD,
+    NOT_ONLY,
+    COMPONENTS,
+    NO_WORD,
+    NO_WORD,
+    NO_WORD,
+    NO_WORD,
+    NO_WORD,
+    SEPARATORS,
+    COMPONENTS,
+    IS_ORDERED,
+    NO_WORD,
+    NO_WORD,
+    NO_WORD,
+    NO_WORD,
+    NEEDS_TRUE,
+    DEFAULT_SEPARATOR,
+    IS_ORDERED,
+    NO_WORD,
+    NO_WORD,
+    NO_WORD,
+    NO_WORD,
+    NEEDS,
+    DEFAULT_SEPARATOR,
+    COMPONENTS,
+    NO_WORD,
+    NO_WORD,
+    NO_WORD,
+    NO_WORD,
     // of Address
-    SEPARATORS, // components isOrdered
-    NEEDS_TRUE, // defaultSeparator isOrdered
-    NEEDS, // defaultSeparator components
+    SEPARATORS,
+    COMPONENTS,
+    IS_ORDERED,
+    NO_WORD,
+    NO_WORD,
+    NO_WORD,
+    NO_WORD,
+    NEEDS_TRUE,
+    DEFAULT_SEPARATOR,
+    IS_ORDERED,
+    NO_WORD,
+    NO_WORD,
+    NO_WORD,
+    NO_WORD,
+    NEEDS,
+    DEFAULT_SEPARATOR,
+    COMPONENTS,
+    NO_WORD,
+    NO_WORD,
+    NO_WORD,
+    NO_WORD,
 ];
 
 // ---- words
+
+// The byte that begins an escape, among the numbers that peeking gives.
+const BACKSLASH: u16 = b'\\' as u16;
 
 // The end of the word that begins at a place: the next space.
 fn word_end(words: &[u8], from: usize) -> usize
@@ -295,7 +371,7 @@ fn word_end(words: &[u8], from: usize) -> usize
 }
 
 // The word with that number, without the spaces after it.
-pub(crate) fn word_at(words: &[u8], i: usize) -> &[u8]
+fn word_at(words: &[u8], i: usize) -> &[u8]
     requires { ⌜ i * nameWidth ≤ length (now words) ⌝ }
     ensures { λ r. ⌜ now r ≡ wordOf (drop (i * nameWidth) (now (words .entry))) ⌝ }
 {
@@ -312,6 +388,31 @@ pub(crate) fn sized_word(words: &[u8], i: usize, size: usize) -> &[u8]
     let from = i * WIDTH;
     let to = from + size;
     &words[from..to]
+}
+
+// Word j of rule i; behind the last there are empty ones.
+pub(crate) fn rule_word<'a>(words: &'a [u8], numbers: &[u32], i: usize, j: usize) -> &'a [u8]
+    requires { ⌜ Lent (now words) (now numbers) ⌝ }
+    requires { ⌜ i < ruleCount ⌝ }
+    requires { ⌜ j < 6 ⌝ }
+    ensures { λ r. ⌜ now r ≡ getD (ruleWords (ruleAt i)) j [] ⌝ }
+{
+    let at = RULES + i * RULE_WIDTH + 1 + j;
+    let word = numbers[at];
+    let place = (word % LONG) as usize;
+    let size = (word / LONG) as usize;
+    sized_word(words, place, size)
+}
+
+// May a name whose first written byte is that one be the word with that number? A backslash may stand for any byte.
+pub(crate) fn may_be(words: &[u8], i: usize, first: u16) -> bool
+    requires { ⌜ i * nameWidth < length (now words) ⌝ }
+    ensures { λ r. ⌜ r ≡ (eqb first 92 || eqb (byteAt (now (words .entry)) (i * nameWidth)) first) ⌝ }
+{
+    if first == BACKSLASH {
+        return true;
+    }
+    peek(words, i * WIDTH) == first
 }
 
 // The place of an object type. Those without a record have the one behind the last.

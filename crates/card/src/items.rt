@@ -9,7 +9,7 @@ ghost use mathlib.Core.Path.{_≡_};
 ghost use mathlib.Core.Bool.{true, cond};
 ghost use lib.Dec.{eqb};
 ghost use Rattle.contact.specs.Schema.{fitsSimple, fits};
-ghost use Rattle.card.specs.Types.{simpleOf, itemType, typeOf, isAny, AsObject, innerType};
+ghost use Rattle.card.specs.Types.{simpleOf, itemType, typeOf, isAny, AsObject};
 
 // The keys of a map: any, or Ids.
 pub(crate) enum Keys {
@@ -145,16 +145,5 @@ pub(crate) fn role_of(ty: Ty) -> Role
         Ty::One(item) => item_role(item),
         Ty::ListOf(_) => Role::Other,
         Ty::MapOf(_, _) => Role::Other,
-    }
-}
-
-// The type of the values of a list or a map; below any other value nothing is judged.
-pub(crate) fn inner(ty: Ty) -> Ty
-    ensures { λ r. ⌜ typeOf r ≡ innerType (typeOf ty) ⌝ }
-{
-    match ty {
-        Ty::One(_) => Ty::One(Item::Any),
-        Ty::ListOf(item) => Ty::One(item),
-        Ty::MapOf(_, item) => Ty::One(item),
     }
 }

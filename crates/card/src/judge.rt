@@ -2,14 +2,15 @@
 use crate::catalog::CARD;
 use crate::catalog::NUMBERS;
 use crate::catalog::WORDS;
-use crate::items::Item;
-use crate::items::Ty;
+use crate::schema::object_of;
 use crate::walk::Breach;
 use crate::walk::breach_at;
 use contact::CardFault;
 use contact::CardRefusal;
 use contact::Verdict;
 use json::read::read;
+use json::rows::OBJECT;
+use json::rows::kind;
 use json::rows::value_start;
 use laws::clear::clear_words;
 use text::Reading;
@@ -41,14 +42,17 @@ fn fault_of(number: usize, place: usize) -> CardFault
     CardFault::Rule(place)
 }
 
-// The first breach of a card that stands in a table. The catalog is made here, once for a call.
+// The first breach of a card that stands in a table. The catalog is made here, once for a call, and not for what is no object.
 fn card_breach(text: &[u8], table: &[u32]) -> Breach
     requires { ⌜ ((f : Forest) × ValueAt (now table) 0 f × Kinds f) ⌝ }
     ensures { λ r. ⌜ ((f : Forest) → ValueAt (now (table .entry)) 0 f → Kinds f → foundOf r ≡ cardBreach (docOf (now (text .entry)) f)) ⌝ }
 {
+    if kind(table, 0) != OBJECT {
+        return Breach::At(0, 11);
+    }
     let words = WORDS;
     let numbers = NUMBERS;
-    let card = Ty::One(Item::ObjectOf(CARD));
+    let card = object_of(CARD);
     breach_at(&words, &numbers, text, table, 0, card, true)
 }
 

@@ -4,17 +4,18 @@ use crate::catalog::NEEDS;
 use crate::catalog::NEEDS_STRING;
 use crate::catalog::NEEDS_TRUE;
 use crate::catalog::ONE_OF;
-use crate::catalog::RULE_WORDS;
+use crate::catalog::RULE_WIDTH;
+use crate::catalog::RULES;
 use crate::catalog::SEPARATORS;
-use crate::catalog::SHAPES;
+use crate::catalog::rule_word;
 use crate::catalog::rules_of;
-use crate::catalog::word_at;
 use crate::items::kind_fits;
 use crate::rows::has_string;
 use crate::rows::is_string_at;
 use crate::rows::next_row;
 use crate::schema::Object;
 use crate::schema::type_in;
+use crate::schema::type_of;
 use json::lookup::Found;
 use json::lookup::find;
 use json::rows::OBJECT;
@@ -25,16 +26,16 @@ use json::rows::name_start;
 ghost use mathlib.Core.Path.{_≡_};
 ghost use mathlib.Core.Bool.{Bool};
 ghost use mathlib.Core.List.{List};
-ghost use Prim.Native.Nat.{_+_, _*_, _≤_, _<_};
-ghost use lib.ListN.{length, getD};
+ghost use Prim.Native.Nat.{_<_};
+ghost use lib.ListN.{drop};
 ghost use Rattle.text.specs.Tree.{Forest};
 ghost use Rattle.text.specs.Standing.{StandsTo};
 ghost use Rattle.text.specs.Doc.{docOf, membersOf};
 ghost use Rattle.contact.specs.Rules.{present as presentOf, isTrue, isThisString, isSeparator, marksOf, marks, badlySeparated, breaksOne, breaks as breaksOf};
 ghost use Rattle.card.specs.Rows.{ValueAt, ValueOf};
-ghost use Rattle.card.specs.Catalog.{MembersAt, nameWidth, ruleCount, allRules, noRule, Lent};
+ghost use Rattle.card.specs.Catalog.{MembersAt, ruleCount, ruleAt, ruleWords, Lent};
 ghost use Rattle.card.specs.Marks.{fresh, markOn, tally};
-ghost use Rattle.card.specs.RuleTable.{isCounted, anyWord, thenBroken, separatorsBroken, byShape};
+ghost use Rattle.card.specs.RuleTable.{isCounted, anyCounted, thenBroken, separatorsBroken, byShape};
 
 // ---- members that count
 
@@ -54,7 +55,7 @@ fn present(
     let Found::Row(k) = find(text, table, object.from, object.end, name) else {
         return Found::Nothing;
     };
-    let ty = type_in(
+    let code = type_in(
         words,
         numbers,
         text,
@@ -62,7 +63,7 @@ fn present(
         name_start(table, k),
         name_end(table, k),
     );
-    if kind_fits(ty, kind(table, k)) {
+    if kind_fits(type_of(code), kind(table, k)) {
         return Found::Row(k);
     }
     Found::Nothing
@@ -127,24 +128,25 @@ fn is_this_string(
     is_string_at(text, table, found, content)
 }
 
-// Is one of the words from a place up to the last of a rule there?
+// Is one of the words of rule i there, from one of them on?
 fn any_of(
     words: &[u8],
     numbers: &[u32],
     text: &[u8],
     table: &[u32],
     object: Object,
-    first: usize,
-    last: usize,
+    i: usize,
+    from: usize,
 ) -> bool
     requires { ⌜ Lent (now words) (now numbers) ⌝ }
     requires { ⌜ ((f : Forest) × MembersAt (now table) object f) ⌝ }
-    requires { ⌜ last * nameWidth ≤ length (now words) ⌝ }
-    ensures { λ r. ⌜ ((f : Forest) → MembersAt (now (table .entry)) object f → r ≡ anyWord (object .of) (membersOf (now (text .entry)) f) (now (words .entry)) first last) ⌝ }
+    requires { ⌜ i < ruleCount ⌝ }
+    ensures { λ r. ⌜ ((f : Forest) → MembersAt (now (table .entry)) object f → r ≡ anyCounted (object .of) (membersOf (now (text .entry)) f) (drop from (ruleWords (ruleAt i)))) ⌝ }
 {
-    let mut j = first;
-    while j < last {
-        if counts(words, numbers, text, table, object, word_at(words, j)) {
+    let mut j = from;
+    while j < EACH {
+        let word = rule_word(words, numbers, i, j);
+        if counts(words, numbers, text, table, object, word) {
             return true;
         }
         j = j + 1;
@@ -265,7 +267,7 @@ fn badly_separated(m: Marks, ordered: bool) -> bool
     m.any
 }
 
-// ---- the shapes, of the words from a place on
+// ---- the shapes, of the words of rule i
 
 // Where the first is there, does what the shape asks then fail?
 fn breaks_then(
@@ -275,50 +277,59 @@ fn breaks_then(
     table: &[u32],
     object: Object,
     shape: u32,
-    at: usize,
+    i: usize,
 ) -> bool
     requires { ⌜ Lent (now words) (now numbers) ⌝ }
     requires { ⌜ ((f : Forest) × MembersAt (now table) object f) ⌝ }
-    requires { ⌜ (at + 6) * nameWidth ≤ length (now words) ⌝ }
-    ensures { λ r. ⌜ ((f : Forest) → MembersAt (now (table .entry)) object f → r ≡ thenBroken (object .of) (membersOf (now (text .entry)) f) shape (now (words .entry)) at) ⌝ }
+    requires { ⌜ i < ruleCount ⌝ }
+    ensures { λ r. ⌜ ((f : Forest) → MembersAt (now (table .entry)) object f → r ≡ thenBroken (object .of) (membersOf (now (text .entry)) f) shape (ruleWords (ruleAt i))) ⌝ }
 {
-    let second = word_at(words, at + 1);
     match shape {
-        NEEDS => !any_of(words, numbers, text, table, object, at + 1, at + EACH),
+        NEEDS => !any_of(words, numbers, text, table, object, i, 1),
         NEEDS_STRING => {
-            let third = word_at(words, at + 2);
+            let second = rule_word(words, numbers, i, 1);
+            let third = rule_word(words, numbers, i, 2);
             !is_this_string(words, numbers, text, table, object, second, third)
         }
-        NEEDS_TRUE => !is_true(words, numbers, text, table, object, second),
+        NEEDS_TRUE => {
+            let second = rule_word(words, numbers, i, 1);
+            !is_true(words, numbers, text, table, object, second)
+        }
         _ => {
-            let m = tally_in(words, numbers, text, table, object, word_at(words, at));
+            let first = rule_word(words, numbers, i, 0);
+            let m = tally_in(words, numbers, text, table, object, first);
             m.all
         }
     }
 }
 
-// The list of the first is badly separated, as the second is true or not.
+// The list of the first is badly separated, as the second is true or not. Without a separator nothing is asked of the second.
 fn breaks_separators(
     words: &[u8],
     numbers: &[u32],
     text: &[u8],
     table: &[u32],
     object: Object,
-    at: usize,
+    i: usize,
 ) -> bool
     requires { ⌜ Lent (now words) (now numbers) ⌝ }
     requires { ⌜ ((f : Forest) × MembersAt (now table) object f) ⌝ }
-    requires { ⌜ (at + 6) * nameWidth ≤ length (now words) ⌝ }
-    ensures { λ r. ⌜ ((f : Forest) → MembersAt (now (table .entry)) object f → r ≡ separatorsBroken (object .of) (membersOf (now (text .entry)) f) (now (words .entry)) at) ⌝ }
+    requires { ⌜ i < ruleCount ⌝ }
+    ensures { λ r. ⌜ ((f : Forest) → MembersAt (now (table .entry)) object f → r ≡ separatorsBroken (object .of) (membersOf (now (text .entry)) f) (ruleWords (ruleAt i))) ⌝ }
 {
-    let m = tally_in(words, numbers, text, table, object, word_at(words, at));
-    let ordered = is_true(words, numbers, text, table, object, word_at(words, at + 1));
+    let first = rule_word(words, numbers, i, 0);
+    let m = tally_in(words, numbers, text, table, object, first);
+    if !m.any {
+        return false;
+    }
+    let second = rule_word(words, numbers, i, 1);
+    let ordered = is_true(words, numbers, text, table, object, second);
     badly_separated(m, ordered)
 }
 
 // ---- rules
 
-// Do the members break a rule of that shape, whose words stand from a place on?
+// Do the members break rule i, whose shape is that?
 fn breaks_shape(
     words: &[u8],
     numbers: &[u32],
@@ -326,23 +337,24 @@ fn breaks_shape(
     table: &[u32],
     object: Object,
     shape: u32,
-    at: usize,
+    i: usize,
 ) -> bool
     requires { ⌜ Lent (now words) (now numbers) ⌝ }
     requires { ⌜ ((f : Forest) × MembersAt (now table) object f) ⌝ }
-    requires { ⌜ (at + 6) * nameWidth ≤ length (now words) ⌝ }
-    ensures { λ r. ⌜ ((f : Forest) → MembersAt (now (table .entry)) object f → r ≡ byShape (object .of) (membersOf (now (text .entry)) f) shape (now (words .entry)) at) ⌝ }
+    requires { ⌜ i < ruleCount ⌝ }
+    ensures { λ r. ⌜ ((f : Forest) → MembersAt (now (table .entry)) object f → r ≡ byShape (object .of) (membersOf (now (text .entry)) f) shape (ruleWords (ruleAt i))) ⌝ }
 {
     if shape == ONE_OF {
-        return !any_of(words, numbers, text, table, object, at, at + EACH);
+        return !any_of(words, numbers, text, table, object, i, 0);
     }
     if shape == SEPARATORS {
-        return breaks_separators(words, numbers, text, table, object, at);
+        return breaks_separators(words, numbers, text, table, object, i);
     }
-    if !counts(words, numbers, text, table, object, word_at(words, at)) {
+    let first = rule_word(words, numbers, i, 0);
+    if !counts(words, numbers, text, table, object, first) {
         return false;
     }
-    breaks_then(words, numbers, text, table, object, shape, at)
+    breaks_then(words, numbers, text, table, object, shape, i)
 }
 
 // Is rule i broken by the members?
@@ -357,11 +369,11 @@ fn breaks_rule(
     requires { ⌜ Lent (now words) (now numbers) ⌝ }
     requires { ⌜ i < ruleCount ⌝ }
     requires { ⌜ ((f : Forest) × MembersAt (now table) object f) ⌝ }
-    ensures { λ r. ⌜ ((f : Forest) → MembersAt (now (table .entry)) object f → r ≡ breaksOne (object .of) (membersOf (now (text .entry)) f) (getD allRules i noRule)) ⌝ }
+    ensures { λ r. ⌜ ((f : Forest) → MembersAt (now (table .entry)) object f → r ≡ breaksOne (object .of) (membersOf (now (text .entry)) f) (ruleAt i)) ⌝ }
 {
-    let shape = numbers[SHAPES + i];
-    let at = RULE_WORDS + i * EACH;
-    breaks_shape(words, numbers, text, table, object, shape, at)
+    let at = RULES + i * RULE_WIDTH;
+    let shape = numbers[at];
+    breaks_shape(words, numbers, text, table, object, shape, i)
 }
 
 // Do the members of an object break a rule of its type?

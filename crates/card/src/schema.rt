@@ -1,4 +1,5 @@
 // What the catalog says of an object's members: the type of each, and whether a mandatory one is missing.
+use crate::catalog::ANY;
 use crate::catalog::ANY_OBJECT;
 use crate::catalog::BOUNDED;
 use crate::catalog::BY_TYPE;
@@ -13,22 +14,26 @@ use crate::catalog::TIME;
 use crate::catalog::VERSION;
 use crate::catalog::YES;
 use crate::catalog::lines_of;
+use crate::catalog::may_be;
 use crate::catalog::sized_word;
 use crate::items::Item;
 use crate::items::Keys;
 use crate::items::SimpleItem;
 use crate::items::Ty;
 use crate::rows::has;
+use json::bytes::peek;
 use json::names::name_is;
 ghost use mathlib.Core.Path.{_≡_};
 ghost use Prim.Native.Nat.{_<_};
 ghost use lib.ListN.{getD};
+ghost use Rattle.laws.specs.Order.{same};
+ghost use Rattle.text.specs.Text.{byteAt};
 ghost use Rattle.text.specs.Strings.{nameOf};
 ghost use Rattle.text.specs.Tree.{Forest};
 ghost use Rattle.text.specs.Doc.{membersOf};
-ghost use Rattle.contact.specs.Schema.{properties, typeIn};
+ghost use Rattle.contact.specs.Schema.{objectOf, properties, typeIn};
 ghost use Rattle.contact.specs.Judge.{lacking};
-ghost use Rattle.card.specs.Types.{simpleOf, itemType, typeOf, boundedAt, itemAt, typeAt};
+ghost use Rattle.card.specs.Types.{simpleOf, itemType, typeOf, innerType, boundedAt, itemAt, typeAt};
 ghost use Rattle.card.specs.Catalog.{MembersAt, count, lines, noLine, isMissing, Lent};
 
 // The pairs of bounds of unsigned integers, by their numbers.
@@ -69,8 +74,8 @@ fn item_of(n: u32) -> Item
     }
 }
 
-// The type that a property's number stands for.
-fn type_of(code: u32) -> Ty
+// The type that a code stands for.
+pub(crate) fn type_of(code: u32) -> Ty
     ensures { λ r. ⌜ typeOf r ≡ typeAt code ⌝ }
 {
     let item = item_of(code % LIST);
@@ -80,6 +85,24 @@ fn type_of(code: u32) -> Ty
         3 => Ty::MapOf(Keys::Ids, item),
         _ => Ty::One(item),
     }
+}
+
+// The code of the values of a list or a map; below any other value nothing is judged.
+pub(crate) fn inner(code: u32) -> u32
+    ensures { λ r. ⌜ typeAt r ≡ innerType (typeAt code) ⌝ }
+{
+    if code / LIST % 4 == 0 {
+        return ANY;
+    }
+    code % LIST
+}
+
+// The code of an object of a type: there is room for 64 of them.
+pub(crate) fn object_of(o: u32) -> u32
+    requires { ⌜ o < 64 ⌝ }
+    ensures { λ r. ⌜ typeAt r ≡ objectOf o ⌝ }
+{
+    OBJECT + o
 }
 
 // An object: its type, and the rows from .. end of its members.
@@ -103,11 +126,11 @@ fn is_missing(
     requires { ⌜ ((f : Forest) × MembersAt (now table) object f) ⌝ }
     ensures { λ r. ⌜ ((f : Forest) → MembersAt (now (table .entry)) object f → r ≡ isMissing (membersOf (now (text .entry)) f) (getD lines i noLine)) ⌝ }
 {
-    let number = numbers[i];
-    if number / MUST % 2 != 1 {
+    let code = numbers[i];
+    if code / MUST % 2 != 1 {
         return false;
     }
-    let size = (number / LONG) as usize;
+    let size = (code / LONG) as usize;
     !has(
         text,
         table,
@@ -141,21 +164,44 @@ pub(crate) fn is_lacking(
     false
 }
 
-// The type of a member of that name in an object of that type.
-pub(crate) fn type_in(words: &[u8], numbers: &[u32], text: &[u8], o: u32, s: usize, e: usize) -> Ty
+// Is a name that of property i? Its first written byte is handed in, since most names differ there.
+fn is_named(
+    words: &[u8],
+    numbers: &[u32],
+    text: &[u8],
+    first: u16,
+    s: usize,
+    e: usize,
+    i: usize,
+) -> bool
     requires { ⌜ Lent (now words) (now numbers) ⌝ }
-    ensures { λ r. ⌜ typeOf r ≡ typeIn (properties o) (nameOf (now (text .entry)) s e) ⌝ }
+    requires { ⌜ i < count ⌝ }
+    requires { ⌜ first ≡ byteAt (now text) s ⌝ }
+    ensures { λ r. ⌜ r ≡ same (nameOf (now (text .entry)) s e) (getD lines i noLine .spelling) ⌝ }
 {
+    if !may_be(words, i, first) {
+        return false;
+    }
+    let code = numbers[i];
+    let size = (code / LONG) as usize;
+    name_is(text, s, e, sized_word(words, i, size))
+}
+
+// The code of a member of that name in an object of that type.
+pub(crate) fn type_in(words: &[u8], numbers: &[u32], text: &[u8], o: u32, s: usize, e: usize) -> u32
+    requires { ⌜ Lent (now words) (now numbers) ⌝ }
+    ensures { λ r. ⌜ typeAt r ≡ typeIn (properties o) (nameOf (now (text .entry)) s e) ⌝ }
+{
+    let first = peek(text, s);
     let own = lines_of(numbers, o);
     let last = own.last;
     let mut i = own.first;
     while i < last {
-        let number = numbers[i];
-        let size = (number / LONG) as usize;
-        if name_is(text, s, e, sized_word(words, i, size)) {
-            return type_of(number);
+        if is_named(words, numbers, text, first, s, e, i) {
+            let code = numbers[i];
+            return code;
         }
         i = i + 1;
     }
-    Ty::One(Item::Any)
+    ANY
 }

@@ -1,4 +1,5 @@
 // What a type asks: of a value by itself, of the key that it stands under, and of what stands below it.
+use crate::catalog::ANY;
 use crate::catalog::type_name;
 use crate::content::content;
 use crate::content::is_content;
@@ -8,11 +9,13 @@ use crate::items::Keys;
 use crate::items::Role;
 use crate::items::SimpleItem;
 use crate::items::Ty;
-use crate::items::inner;
 use crate::items::role_of;
 use crate::rows::has_string;
 use crate::rows::next_row;
+use crate::schema::inner;
+use crate::schema::object_of;
 use crate::schema::type_in;
+use crate::schema::type_of;
 use crate::values::is_count;
 use crate::values::is_id;
 use json::names::part;
@@ -28,21 +31,21 @@ ghost use Rattle.text.specs.Tree.{Forest};
 ghost use Rattle.text.specs.Standing.{StandsTo};
 ghost use Rattle.text.specs.Doc.{docOf};
 ghost use Rattle.contact.specs.Judge.{isOf, chosen, typeBelow, memberType, keyFits, allowedSimple};
-ghost use Rattle.card.specs.Types.{simpleOf, itemType, typeOf, allowedAs};
+ghost use Rattle.card.specs.Types.{simpleOf, itemType, typeAt, allowedAs};
 ghost use Rattle.card.specs.Catalog.{tableWords, Lent};
 ghost use Rattle.card.specs.Rows.{ValueAt, keyAt};
 
 // ---- what stands below
 
-// The type that stands for a member of that name.
-fn type_below(words: &[u8], numbers: &[u32], text: &[u8], ty: Ty, s: usize, e: usize) -> Ty
+// The code that stands for a member of that name.
+fn type_below(words: &[u8], numbers: &[u32], text: &[u8], code: u32, s: usize, e: usize) -> u32
     requires { ⌜ Lent (now words) (now numbers) ⌝ }
-    ensures { λ r. ⌜ typeOf r ≡ typeBelow (typeOf ty) (nameOf (now (text .entry)) s e) ⌝ }
+    ensures { λ r. ⌜ typeAt r ≡ typeBelow (typeAt code) (nameOf (now (text .entry)) s e) ⌝ }
 {
-    match role_of(ty) {
+    match role_of(type_of(code)) {
         Role::As(o) => type_in(words, numbers, text, o, s, e),
-        Role::Between(_, _) => Ty::One(Item::Any),
-        Role::Other => inner(ty),
+        Role::Between(_, _) => ANY,
+        Role::Other => inner(code),
     }
 }
 
@@ -59,49 +62,49 @@ fn is_of(words: &[u8], text: &[u8], table: &[u32], k: usize, o: u32) -> bool
     has_string(text, table, k + 1, end, b"@type", type_name(words, o))
 }
 
-// The type that is asked of the value at a row, where a type stands: its `@type` may choose it.
-fn choose(words: &[u8], text: &[u8], table: &[u32], k: usize, ty: Ty) -> Ty
+// The code that is asked of the value at a row, where one stands: its `@type` may choose it.
+fn choose(words: &[u8], text: &[u8], table: &[u32], k: usize, code: u32) -> u32
     requires { ⌜ now words ≡ tableWords ⌝ }
     requires { ⌜ ((f : Forest) × ValueAt (now table) k f) ⌝ }
-    ensures { λ r. ⌜ ((f : Forest) → ValueAt (now (table .entry)) k f → typeOf r ≡ chosen (typeOf ty) (docOf (now (text .entry)) f)) ⌝ }
+    ensures { λ r. ⌜ ((f : Forest) → ValueAt (now (table .entry)) k f → typeAt r ≡ chosen (typeAt code) (docOf (now (text .entry)) f)) ⌝ }
 {
-    match role_of(ty) {
-        Role::As(_) => ty,
+    match role_of(type_of(code)) {
+        Role::As(_) => code,
         Role::Between(usual, special) => {
             if is_of(words, text, table, k, special) {
-                return Ty::One(Item::ObjectOf(special));
+                return object_of(special);
             }
-            Ty::One(Item::ObjectOf(usual))
+            object_of(usual)
         }
-        Role::Other => ty,
+        Role::Other => code,
     }
 }
 
-// The type that is asked of a member of that name, whose value is at a row.
+// The code that is asked of a member of that name, whose value is at a row.
 pub(crate) fn member_type(
     words: &[u8],
     numbers: &[u32],
     text: &[u8],
     table: &[u32],
     k: usize,
-    ty: Ty,
+    code: u32,
     s: usize,
     e: usize,
-) -> Ty
+) -> u32
     requires { ⌜ Lent (now words) (now numbers) ⌝ }
     requires { ⌜ ((f : Forest) × ValueAt (now table) k f) ⌝ }
-    ensures { λ r. ⌜ ((f : Forest) → ValueAt (now (table .entry)) k f → typeOf r ≡ memberType (typeOf ty) (nameOf (now (text .entry)) s e) (docOf (now (text .entry)) f)) ⌝ }
+    ensures { λ r. ⌜ ((f : Forest) → ValueAt (now (table .entry)) k f → typeAt r ≡ memberType (typeAt code) (nameOf (now (text .entry)) s e) (docOf (now (text .entry)) f)) ⌝ }
 {
-    let stands = type_below(words, numbers, text, ty, s, e);
+    let stands = type_below(words, numbers, text, code, s, e);
     choose(words, text, table, k, stands)
 }
 
 // Is the key of the entry at a row allowed? The entries of its map stand from the first row on, so that a test may look at the keys before it too.
-pub(crate) fn key_fits(text: &[u8], table: &[u32], ty: Ty, first: usize, at: usize) -> bool
+pub(crate) fn key_fits(text: &[u8], table: &[u32], code: u32, first: usize, at: usize) -> bool
     requires { ⌜ ((f : Forest) × StandsTo (now table) first at f) ⌝ }
-    ensures { λ r. ⌜ ((f : Forest) → StandsTo (now (table .entry)) first at f → r ≡ keyFits (typeOf ty) (keyAt (now (text .entry)) (now (table .entry)) f at)) ⌝ }
+    ensures { λ r. ⌜ ((f : Forest) → StandsTo (now (table .entry)) first at f → r ≡ keyFits (typeAt code) (keyAt (now (text .entry)) (now (table .entry)) f at)) ⌝ }
 {
-    match ty {
+    match type_of(code) {
         Ty::One(_) => true,
         Ty::ListOf(_) => true,
         Ty::MapOf(keys, _) => match keys {
@@ -151,11 +154,18 @@ fn item_allows(words: &[u8], text: &[u8], item: Item, kind: usize, from: usize, 
 }
 
 // Is a value of that kind, whose token stands from a place up to another, allowed?
-pub(crate) fn allows(words: &[u8], text: &[u8], ty: Ty, kind: usize, from: usize, to: usize) -> bool
+pub(crate) fn allows(
+    words: &[u8],
+    text: &[u8],
+    code: u32,
+    kind: usize,
+    from: usize,
+    to: usize,
+) -> bool
     requires { ⌜ now words ≡ tableWords ⌝ }
-    ensures { λ r. ⌜ r ≡ allowedAs (typeOf ty) kind (partOf (now (text .entry)) from to) ⌝ }
+    ensures { λ r. ⌜ r ≡ allowedAs (typeAt code) kind (partOf (now (text .entry)) from to) ⌝ }
 {
-    match ty {
+    match type_of(code) {
         Ty::One(item) => item_allows(words, text, item, kind, from, to),
         Ty::ListOf(_) => true,
         Ty::MapOf(_, _) => true,

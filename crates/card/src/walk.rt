@@ -1,6 +1,5 @@
 // The verdict on a card's rows: the first breach in the order of the rows, and on one row the smallest number.
 use crate::items::Role;
-use crate::items::Ty;
 use crate::items::is_any;
 use crate::items::kind_fits;
 use crate::items::role_of;
@@ -8,6 +7,7 @@ use crate::rows::next_row;
 use crate::rules::breaks;
 use crate::schema::Object;
 use crate::schema::is_lacking;
+use crate::schema::type_of;
 use crate::types::allows;
 use crate::types::key_fits;
 use crate::types::member_type;
@@ -22,7 +22,7 @@ ghost use Rattle.text.specs.Tree.{Forest};
 ghost use Rattle.text.specs.Firsts.{Kinds};
 ghost use Rattle.text.specs.Doc.{docOf, membersOf};
 ghost use Rattle.contact.specs.Judge.{rowNumber, breachOf};
-ghost use Rattle.card.specs.Types.{typeOf, isAny};
+ghost use Rattle.card.specs.Types.{typeAt, isAny};
 ghost use Rattle.card.specs.Catalog.{MembersAt, tableWords, Lent};
 ghost use Rattle.card.specs.Rows.{ValueAt};
 ghost use Rattle.card.specs.Walk.{objectNumber, valueNumber, foundOf};
@@ -59,16 +59,16 @@ fn object_number(
 }
 
 // 13 on a value of a type that is no object type.
-fn value_number(words: &[u8], text: &[u8], table: &[u32], row: usize, ty: Ty, key: bool) -> usize
+fn value_number(words: &[u8], text: &[u8], table: &[u32], row: usize, code: u32, key: bool) -> usize
     requires { ⌜ now words ≡ tableWords ⌝ }
-    ensures { λ r. ⌜ ((f : Forest) → ValueAt (now (table .entry)) row f → Kinds f → r ≡ valueNumber (typeOf ty) key (now (text .entry)) f) ⌝ }
+    ensures { λ r. ⌜ ((f : Forest) → ValueAt (now (table .entry)) row f → Kinds f → r ≡ valueNumber (typeAt code) key (now (text .entry)) f) ⌝ }
 {
     if !key {
         return 13;
     }
     let from = value_start(table, row);
     let to = value_end(table, row);
-    if allows(words, text, ty, kind(table, row), from, to) {
+    if allows(words, text, code, kind(table, row), from, to) {
         return 0;
     }
     13
@@ -81,13 +81,14 @@ fn row_number(
     text: &[u8],
     table: &[u32],
     row: usize,
-    ty: Ty,
+    code: u32,
     key: bool,
 ) -> usize
     requires { ⌜ Lent (now words) (now numbers) ⌝ }
     requires { ⌜ ((f : Forest) × ValueAt (now table) row f) ⌝ }
-    ensures { λ r. ⌜ ((f : Forest) → ValueAt (now (table .entry)) row f → Kinds f → r ≡ rowNumber (typeOf ty) key (docOf (now (text .entry)) f)) ⌝ }
+    ensures { λ r. ⌜ ((f : Forest) → ValueAt (now (table .entry)) row f → Kinds f → r ≡ rowNumber (typeAt code) key (docOf (now (text .entry)) f)) ⌝ }
 {
+    let ty = type_of(code);
     if !kind_fits(ty, kind(table, row)) {
         return 11;
     }
@@ -98,19 +99,19 @@ fn row_number(
             let object = Object { of: o, from, end };
             object_number(words, numbers, text, table, object, key)
         }
-        Role::Between(_, _) => value_number(words, text, table, row, ty, key),
-        Role::Other => value_number(words, text, table, row, ty, key),
+        Role::Between(_, _) => value_number(words, text, table, row, code, key),
+        Role::Other => value_number(words, text, table, row, code, key),
     }
 }
 
 // Is nothing judged of a value of the type, under a key that is allowed or not, and of what is below it?
-fn is_free(ty: Ty, key: bool) -> bool
-    ensures { λ r. ⌜ r ≡ cond key (isAny (typeOf ty)) false ⌝ }
+fn is_free(code: u32, key: bool) -> bool
+    ensures { λ r. ⌜ r ≡ cond key (isAny (typeAt code)) false ⌝ }
 {
     if !key {
         return false;
     }
-    is_any(ty)
+    is_any(type_of(code))
 }
 
 // The first breach of the value at a row, of a type, under a key that is allowed or not, and of what is below it.
@@ -120,17 +121,17 @@ pub(crate) fn breach_at(
     text: &[u8],
     table: &[u32],
     row: usize,
-    ty: Ty,
+    code: u32,
     key: bool,
 ) -> Breach
     requires { ⌜ Lent (now words) (now numbers) ⌝ }
     requires { ⌜ ((f : Forest) × ValueAt (now table) row f × Kinds f) ⌝ }
-    ensures { λ r. ⌜ ((f : Forest) → ValueAt (now (table .entry)) row f → Kinds f → foundOf r ≡ breachOf (typeOf ty) key row (docOf (now (text .entry)) f)) ⌝ }
+    ensures { λ r. ⌜ ((f : Forest) → ValueAt (now (table .entry)) row f → Kinds f → foundOf r ≡ breachOf (typeAt code) key row (docOf (now (text .entry)) f)) ⌝ }
 {
-    if is_free(ty, key) {
+    if is_free(code, key) {
         return Breach::Nothing;
     }
-    let number = row_number(words, numbers, text, table, row, ty, key);
+    let number = row_number(words, numbers, text, table, row, code, key);
     if number != 0 {
         return Breach::At(row, number);
     }
@@ -140,9 +141,9 @@ pub(crate) fn breach_at(
     while at < end {
         let s = name_start(table, at);
         let e = name_end(table, at);
-        let inner = member_type(words, numbers, text, table, at, ty, s, e);
-        let allowed = key_fits(text, table, ty, first, at);
-        let b = breach_at(words, numbers, text, table, at, inner, allowed);
+        let below = member_type(words, numbers, text, table, at, code, s, e);
+        let allowed = key_fits(text, table, code, first, at);
+        let b = breach_at(words, numbers, text, table, at, below, allowed);
         if let Breach::At(_, _) = b {
             return b;
         }

@@ -18,13 +18,6 @@ member-other (listOf ty) n h = refl
 member-other (mapOf keys ty) n h = refl
 member-other (byType usual special) n h = absurd h
 
-pub item-inner : (i : Item) → any ≡ innerType (itemType i)
-item-inner Any = refl
-item-inner (Simple i) = refl
-item-inner (ObjectOf o) = refl
-item-inner AnyObject = refl
-item-inner (ByType usual special) = refl
-
 pub item-keys : (i : Item) (k : S.Key) → true ≡ keyFits (itemType i) k
 item-keys Any k = refl
 item-keys (Simple i) k = refl

@@ -4,6 +4,7 @@ use mathlib.Core.Path.{_≡_, refl, sym, ap, _∙_}
 use mathlib.Core.List.{List, [], _∷_}
 use mathlib.Core.Bool.{Bool, true, false, _&&_, _||_, or-false, or-true, and-true, and-false, or-assoc, and-assoc}
 use Prim.Native.Nat.{ℕ}
+use Rattle.laws.proofs.Bools.{or-false as neither}
 use Rattle.laws.specs.Tests.{anyMark, allMarks, adjacent}
 use Rattle.text.specs.Tree.{Forest}
 use Rattle.text.specs.Tree as T
@@ -84,9 +85,22 @@ module _ (text : List ℕ) where
   unfolding tally marksOf
   tally-end m = rw (members-none text)
 
+-- without a separator no two stand in a row
+unmarked : (ss : List Bool) → anyMark ss ≡ false → adjacent ss ≡ false
+unfolding anyMark adjacent
+unmarked [] e = refl
+unmarked (s ∷ []) e = refl
+unmarked (s ∷ k ∷ ss) e =
+    let (first, rest) = neither s (anyMark (k ∷ ss)) e in
+    rw (first, unmarked (k ∷ ss) rest)
+
 -- ---- a list by its tally
 
 module _ (m : Marks) (ss : List Bool) (e : m ≡ tally fresh ss) (ordered : Bool) where
+  pub no-separator : m .any ≡ false → false ≡ badlySeparated ss ordered
+  unfolding badlySeparated
+  no-separator q = let z = told-any m ss e ∙ q in rw (unmarked ss z, z)
+
   pub two-in-a-row : m .twice ≡ true → true ≡ badlySeparated ss ordered
   unfolding badlySeparated
   two-in-a-row q = rw (told-twice m ss e, q)

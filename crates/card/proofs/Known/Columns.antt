@@ -1,23 +1,27 @@
 -- The words of the catalog: the properties' spellings and the types' names, by computation over all of them. Assumes nothing.
-use mathlib.Core.Path.{_≡_, refl, ap, _∙_}
-use mathlib.Core.List.{List, [], map}
-use mathlib.Core.Bool.{Bool, true}
-use Prim.Native.Nat.{ℕ, _+_, _*_, _/_, _<_, _≤_}
+use mathlib.Core.Path.{_≡_, refl, sym, ap, _∙_}
+use mathlib.Core.List.{List, [], _∷_, map}
+use mathlib.Core.Bool.{Bool, true, false, _||_}
+use Prim.Native.Nat.{ℕ, zero, suc, _+_, _*_, _/_, _<_, _≤_}
 use native.Mathlib.Omega.{arith}
 use lib.ListN.{length, getD, take, drop, List·getD-map}
-use lib.Dec.{leb}
-use borrow.Author.Tests.{leb-true}
+use lib.Dec.{leb, eqb}
+use borrow.Author.Tests.{leb-true, eqb-false}
 use Rattle.laws.specs.Order.{orderOf, same}
+use Rattle.laws.proofs.Bools.{or-false}
 use Rattle.laws.proofs.Orders.{same-eq}
+use Rattle.laws.proofs.Places.{drop-byte}
 use Rattle.laws.proofs.Tables.{below, below-at}
-use Rattle.text.specs.Text.{bytes}
+use Rattle.text.specs.Text.{bytes, byteAt}
+use Rattle.text.specs.Strings.{nameOf}
 use Rattle.text.specs.Doc.{Name}
 use Rattle.contact.specs.Schema.{ObjectType, Known, TypeRecord, types, recordOf, ownName}
-use Rattle.card.specs.Catalog.{nameWidth, wordAt, joined, typeCount, namePlace, lines, noLine, count, allRules, ruleCount, typeWordsFrom, tableWords, Lent}
+use Rattle.card.specs.Catalog.{nameWidth, wordAt, joined, typeCount, namePlace, lines, noLine, count, allRules, ruleCount, ruleAt, ruleWords, typeWordsFrom, tableWords, Lent}
+use Rattle.card.proofs.Known.Beginnings.{name-apart}
 use Rattle.card.proofs.Known.Stretches.{place-within, place-record}
 
 pub words-length : length tableWords ≡ (typeWordsFrom + typeCount) * nameWidth
-unfolding tableWords lines allRules joined types
+unfolding tableWords lines joined types
 words-length = refl
 
 -- ---- names of properties
@@ -30,7 +34,7 @@ right : ℕ → Bool
 right i = same (take (length (getD spellings i [])) (drop (i * nameWidth) tableWords)) (getD spellings i [])
 
 all-right : below right count ≡ true
-unfolding right orderOf tableWords lines allRules joined types
+unfolding right orderOf tableWords lines joined types
 all-right = refl
 
 short : ℕ → Bool
@@ -40,13 +44,21 @@ all-short : below short count ≡ true
 unfolding short lines joined types
 all-short = refl
 
+-- none is empty
+some : ℕ → Bool
+some i = leb 1 (length (getD spellings i []))
+
+all-some : below some count ≡ true
+unfolding some lines joined types
+all-some = refl
+
 -- ---- names of object types
 
 called : ℕ → Bool
 called p = same (wordAt tableWords (typeWordsFrom + p)) (bytes (ownName p))
 
 all-called : below called (typeCount + 1) ≡ true
-unfolding called orderOf recordOf tableWords lines allRules joined types
+unfolding called orderOf recordOf tableWords lines joined types
 all-called = refl
 
 pub type-named : (o : ObjectType) → wordAt tableWords (typeWordsFrom + namePlace o) ≡ bytes (ownName o)
@@ -58,7 +70,14 @@ type-named o =
 
 -- ---- what is lent
 
+begins : (n : ℕ) (l : List ℕ) (i : ℕ) → 1 ≤ n → i < length l → (xs : List ℕ) × (take n (drop i l) ≡ byteAt l i ∷ xs)
+begins zero l i h k = absurd (omega arith)
+begins (suc n) l i h k = (take n (drop (i + 1) l), rw (drop-byte l i k))
+
 module _ {words numbers : List ℕ} (l : Lent words numbers) where
+  pub lent-length : length words ≡ (typeWordsFrom + typeCount) * nameWidth
+  lent-length = ap length (l .words-are) ∙ words-length
+
   module _ (i : ℕ) (h : i < count) where
     spelling-is : getD spellings i [] ≡ getD lines i noLine .spelling
     spelling-is = List·getD-map (λ (k : Known). k .spelling) lines i noLine
@@ -75,8 +94,25 @@ module _ {words numbers : List ℕ} (l : Lent words numbers) where
     lent-short =
         rw (l .numbers-are .code i h .size) (rw spelling-is at (leb-true (length (getD spellings i [])) nameWidth (below-at short count all-short i h)))
 
-  pub lent-length : length words ≡ (typeWordsFrom + typeCount) * nameWidth
-  lent-length = ap length (l .words-are) ∙ words-length
+    lent-some : 1 ≤ getD numbers i 0 / 65536
+    unfolding some
+    lent-some =
+        rw (l .numbers-are .code i h .size) (rw spelling-is at (leb-true 1 (length (getD spellings i [])) (below-at some count all-some i h)))
+
+    -- it begins with the byte at its place
+    lent-begins : (xs : List ℕ) × (getD lines i noLine .spelling ≡ byteAt words (i * nameWidth) ∷ xs)
+    lent-begins =
+        let (xs, e) = begins (getD numbers i 0 / 65536) words (i * nameWidth) lent-some (omega (arith, lent-length)) in
+        (xs, sym lent-spelled ∙ e)
+
+    -- so no name is the property's that begins, as written, with another byte but a backslash
+    pub lent-apart : (t : List ℕ) (s e : ℕ) → (eqb (byteAt t s) 92 || eqb (byteAt words (i * nameWidth)) (byteAt t s)) ≡ false
+        → false ≡ same (nameOf t s e) (getD lines i noLine .spelling)
+    lent-apart t s e q =
+        let b = byteAt t s in
+        let x = byteAt words (i * nameWidth) in
+        let (plain, apart) = or-false (eqb b 92) (eqb x b) q in
+        rw (lent-begins .1) (sym (name-apart x (lent-begins .0) t s e (eqb-false b 92 plain) (λ z. eqb-false x b apart (sym z))))
 
 -- ---- how many there are
 
@@ -87,3 +123,15 @@ lines-length = refl
 pub rules-length : length allRules ≡ ruleCount
 unfolding allRules joined types
 rules-length = refl
+
+-- a rule has no more words than the code keeps for it
+few : ℕ → Bool
+few i = leb (length (ruleWords (ruleAt i))) 6
+
+all-few : below few ruleCount ≡ true
+unfolding few allRules joined types
+all-few = refl
+
+pub rule-few : (i : ℕ) → i < ruleCount → length (ruleWords (ruleAt i)) ≤ 6
+unfolding few
+rule-few i h = leb-true (length (ruleWords (ruleAt i))) 6 (below-at few ruleCount all-few i h)

@@ -1,29 +1,32 @@
--- `card::rules::any_of` meets its contract: a search through the words. The measure is the words left. Assumes nothing.
+-- `card::rules::any_of` meets its contract: a search through the rule's words. The measure is the words left. Assumes nothing.
 use borrow.Author.Needs.{needs}
 use mathlib.Core.Path.{_≡_, refl, sym, _∙_}
 use denote.Ref.{now}
 use native.Mathlib.Omega.{arith}
 use Prim.Native.Nat.{_-_}
+use lib.ListN.{drop}
 use Rattle.text.specs.Tree.{Forest}
 use Rattle.text.specs.Doc.{membersOf}
-use Rattle.card.specs.Catalog.{MembersAt}
-use Rattle.card.specs.RuleTable.{anyWord}
+use Rattle.card.specs.Catalog.{MembersAt, ruleAt, ruleWords}
+use Rattle.card.specs.RuleTable.{anyCounted}
+use Rattle.card.proofs.Known.Columns.{rule-few}
 use Rattle.card.proofs.Judging.Rules.{any-hit, any-on, any-end}
 use Rattle.card.proofs.rules.any_of.Statement.{statement}
 use Rattle.card.proofs.rules.any_of.Tie as tie
 
 abbrev Inv-loop : tie.InvT-loop
-Inv-loop words numbers text table object first last j₀ j =
-    (f : Forest) → MembersAt table object f → anyWord (object .of) (membersOf text f) words j last ≡ anyWord (object .of) (membersOf text f) words first last
+Inv-loop words numbers text table object i from j₀ j =
+    (f : Forest) → MembersAt table object f
+    → anyCounted (object .of) (membersOf text f) (drop j (ruleWords (ruleAt i))) ≡ anyCounted (object .of) (membersOf text f) (drop from (ruleWords (ruleAt i)))
 
 abbrev μ-loop : tie.MeasureT-loop
-μ-loop words numbers text table object first last j₀ j = last - j
+μ-loop words numbers text table object i from j₀ j = 6 - j
 
 loop-holds : tie.Need-loop-holds Inv-loop μ-loop
 loop-holds c = λ f s. refl
 
-word-at-requires : tie.Need-word-at-requires Inv-loop μ-loop
-word-at-requires c κs = omega (arith, c .before .before .before .before .before .before .pre .1 .1)
+rule-word-requires : tie.Need-rule-word-requires Inv-loop μ-loop
+rule-word-requires c κs = let p = c .before .before .before .before .before .before .pre in (p .0, (p .1 .1, c .loop-test .taken))
 
 counts-requires : tie.Need-counts-requires Inv-loop μ-loop
 counts-requires c κs = let p = c .before .before .before .before .before .before .before .pre in (p .0, p .1 .0)
@@ -33,23 +36,24 @@ returns c =
     λ f s.
     let a = c .before .before .before .before .before .before .before .before .before .args in
     let loop = c .before .before .before .before .loop in
-    sym (sym (loop .inv f s) ∙ any-hit (a .object .of) (membersOf (now (a .text)) f) (now (a .words)) (loop .j) (a .last) (c .before .before .before .loop-test .taken)
-    (sym (rw (c .before .before .word-at .ensures) at (c .before .counts .ensures f s)) ∙ c .if1 .taken))
+    sym (sym (loop .inv f s) ∙ any-hit (a .object .of) (membersOf (now (a .text)) f) (ruleWords (ruleAt (a .i))) (loop .j)
+    (sym (rw (c .before .before .rule-word .ensures) at (c .before .counts .ensures f s)) ∙ c .if1 .taken))
 
 loop-again : tie.Need-loop-again Inv-loop μ-loop
 loop-again c =
     λ f s.
     let a = c .before .before .before .before .before .before .before .before .before .args in
     let loop = c .before .before .before .before .loop in
-    sym (any-on (a .object .of) (membersOf (now (a .text)) f) (now (a .words)) (loop .j) (a .last) (c .before .before .before .loop-test .taken)
-    (sym (rw (c .before .before .word-at .ensures) at (c .before .counts .ensures f s)) ∙ c .if1 .left)) ∙ loop .inv f s
+    sym (any-on (a .object .of) (membersOf (now (a .text)) f) (ruleWords (ruleAt (a .i))) (loop .j)
+    (sym (rw (c .before .before .rule-word .ensures) at (c .before .counts .ensures f s)) ∙ c .if1 .left)) ∙ loop .inv f s
 
 returns-2 : tie.Need-returns-2 Inv-loop μ-loop
 returns-2 c =
     λ f s.
     let a = c .before .before .before .before .before .before .args in
     let loop = c .before .loop in
-    sym (sym (loop .inv f s) ∙ any-end (a .object .of) (membersOf (now (a .text)) f) (now (a .words)) (loop .j) (a .last) (c .loop-test .left))
+    sym (sym (loop .inv f s) ∙ any-end (a .object .of) (membersOf (now (a .text)) f) (ruleWords (ruleAt (a .i))) (loop .j)
+    (omega (arith, rule-few (a .i) (c .before .before .before .before .before .before .pre .1 .1), c .loop-test .left)))
 
 pub any-of-spec : {M : Type 1} → statement M
-any-of-spec = tie.close (tie.spec Inv-loop μ-loop loop-holds word-at-requires counts-requires returns (λ c. search needs) (λ c. search needs) loop-again returns-2)
+any-of-spec = tie.close (tie.spec Inv-loop μ-loop loop-holds rule-word-requires counts-requires returns (λ c. search needs) (λ c. search needs) loop-again returns-2)

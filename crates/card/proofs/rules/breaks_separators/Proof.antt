@@ -4,30 +4,39 @@ use denote.Ref.{now}
 use native.Mathlib.Omega.{arith}
 use Rattle.text.specs.Doc.{membersOf}
 use Rattle.contact.specs.Rules.{present, marks}
+use Rattle.laws.proofs.Picks.{denied}
+use Rattle.card.proofs.Judging.Separators.{no-separator}
 use Rattle.card.proofs.rules.breaks_separators.Statement.{statement}
 use Rattle.card.proofs.rules.breaks_separators.Tie as tie
 
-word-at-requires : tie.Need-word-at-requires
-word-at-requires c κs = omega (arith, c .before .before .before .before .pre .1 .1)
+rule-word-requires : tie.Need-rule-word-requires
+rule-word-requires c κs = let p = c .before .before .before .before .pre in (p .0, (p .1 .1, omega arith))
 
 tally-in-requires : tie.Need-tally-in-requires
 tally-in-requires c κs = let p = c .before .before .before .before .before .pre in (p .0, p .1 .0)
 
-add-word-at : tie.Need-add-word-at
-add-word-at c = omega (arith, c .before .before .before .before .before .before .pre .1 .1)
-
-word-at-requires-2 : tie.Need-word-at-requires-2
-word-at-requires-2 c κs = omega (arith, c .before .before .before .before .before .before .pre .1 .1)
-
-is-true-requires : tie.Need-is-true-requires
-is-true-requires c κs = let p = c .before .before .before .before .before .before .before .pre in (p .0, p .1 .0)
-
 returns : tie.Need-returns
 returns c =
     λ f s.
-    let a = c .before .before .before .before .before .before .before .before .before .args in
-    rw (← c .before .before .before .before .word-at .ensures, ← c .before .before .word-at2 .ensures, ← c .before .is-true .ensures f s)
-    (c .badly-separated .ensures (marks (present (a .object .of) (now (c .before .before .before .before .word-at .result)) (membersOf (now (a .text)) f))) (c .before .before .before .tally-in .ensures f s))
+    let a = c .before .before .before .before .before .before .before .before .args in
+    let first = c .before .before .before .rule-word in
+    let m = c .before .before .tally-in in
+    rw (← first .ensures)
+    (no-separator (m .result) (marks (present (a .object .of) (now (first .result)) (membersOf (now (a .text)) f))) (m .ensures f s) _ (denied (m .result .any) (c .if1 .taken)))
+
+rule-word-requires-2 : tie.Need-rule-word-requires-2
+rule-word-requires-2 c κs = let p = c .before .before .before .before .before .before .before .before .pre in (p .0, (p .1 .1, omega arith))
+
+is-true-requires : tie.Need-is-true-requires
+is-true-requires c κs = let p = c .before .before .before .before .before .before .before .before .before .pre in (p .0, p .1 .0)
+
+returns-2 : tie.Need-returns-2
+returns-2 c =
+    λ f s.
+    let a = c .before .before .before .before .before .before .before .before .before .before .before .args in
+    let first = c .before .before .before .before .before .before .rule-word in
+    rw (← first .ensures, ← c .before .before .rule-word2 .ensures, ← c .before .is-true .ensures f s)
+    (c .badly-separated .ensures (marks (present (a .object .of) (now (first .result)) (membersOf (now (a .text)) f))) (c .before .before .before .before .before .tally-in .ensures f s))
 
 pub breaks-separators-spec : {M : Type 1} → statement M
-breaks-separators-spec = tie.close (tie.spec word-at-requires tally-in-requires add-word-at word-at-requires-2 is-true-requires (λ c κs. search needs) returns)
+breaks-separators-spec = tie.close (tie.spec rule-word-requires tally-in-requires returns rule-word-requires-2 is-true-requires (λ c κs. search needs) returns-2)

@@ -7,9 +7,6 @@ use Rattle.card.specs.RuleTable.{byShape}
 use Rattle.card.proofs.rules.breaks_shape.Statement.{statement}
 use Rattle.card.proofs.rules.breaks_shape.Tie as tie
 
-add-any-of : tie.Need-add-any-of
-add-any-of c = omega (arith, c .before .before .before .before .before .pre .1 .1)
-
 any-of-requires : tie.Need-any-of-requires
 any-of-requires c κs = c .before .before .before .before .before .pre
 
@@ -27,8 +24,8 @@ returns-2 c =
     let a = c .before .before .before .before .before .before .before .args in
     c .breaks-separators .ensures f s ∙ rw (ne-eqb (a .shape) 0 (c .before .before .if1 .left), eq-eqb (a .shape) 4 (c .before .if2 .taken))
 
-word-at-requires : tie.Need-word-at-requires
-word-at-requires c κs = omega (arith, c .before .before .before .before .before .before .pre .1 .1)
+rule-word-requires : tie.Need-rule-word-requires
+rule-word-requires c κs = let p = c .before .before .before .before .before .before .pre in (p .0, (p .1 .1, omega arith))
 
 counts-requires : tie.Need-counts-requires
 counts-requires c κs = let p = c .before .before .before .before .before .before .before .pre in (p .0, p .1 .0)
@@ -41,7 +38,7 @@ returns-3 c =
     rw (
       ne-eqb (a .shape) 0 (c .before .before .before .before .if1 .left),
       ne-eqb (a .shape) 4 (c .before .before .before .if2 .left),
-      ← c .before .before .word-at .ensures,
+      ← c .before .before .rule-word .ensures,
       ← c .before .counts .ensures f s,
       not-true (c .before .counts .result) (c .if3 .taken),
     )
@@ -57,7 +54,7 @@ returns-4 c =
     rw (
       ne-eqb (a .shape) 0 (c .before .before .before .before .before .if1 .left),
       ne-eqb (a .shape) 4 (c .before .before .before .before .if2 .left),
-      ← c .before .before .before .word-at .ensures,
+      ← c .before .before .before .rule-word .ensures,
       ← c .before .before .counts .ensures f s,
       not-false (c .before .before .counts .result) (c .before .if3 .left),
     ) (c .breaks-then .ensures f s)
@@ -65,4 +62,4 @@ returns-4 c =
 pub breaks-shape-spec : {M : Type 1} → statement M
 breaks-shape-spec =
     tie.close
-    (tie.spec add-any-of any-of-requires returns breaks-separators-requires returns-2 word-at-requires counts-requires returns-3 breaks-then-requires returns-4)
+    (tie.spec any-of-requires returns breaks-separators-requires returns-2 rule-word-requires counts-requires returns-3 breaks-then-requires returns-4)

@@ -6,7 +6,7 @@ use mathlib.Core.Option.{Option}
 use Rattle.text.specs.Doc.{Property}
 use Rattle.contact.specs.Schema.{properties, typeIn}
 use Rattle.contact.specs.Rules.{ifFits, present}
-use Rattle.card.specs.Types.{typeOf}
+use Rattle.card.specs.Types.{typeAt}
 use Rattle.card.specs.Rows.{ValueOf}
 use Rattle.json.specs.declared.lookup.Found.the-variants.{Nothing}
 use Rattle.json.proofs.Seeking.{standing}
@@ -33,22 +33,24 @@ type-in-requires c κs = c .before .before .before .before .before .before .befo
 returns-2 : tie.Need-returns-2
 returns-2 c =
     λ f s.
-    let a = c .before .before .before .before .before .before .before .before .before .before .before .before .before .before .before .args in
-    let found = standing (rw (c .before .before .before .before .before .before .before .k .given .1) at (c .before .before .before .before .before .before .before .before .before .find .ensures f s)) in
-    let type-in = c .before .before .before .type-in in
-    fitting (now (a .text)) (now (a .table)) (a .object .end) (now (a .name)) f (a .object .of) (c .before .before .before .before .before .before .before .k .given .0 .0) found (typeOf (type-in .result))
-    (rw (c .before .before .before .before .before .name-start .ensures, c .before .before .before .before .name-end .ensures) at (type-in .ensures))
-    (sym (rw (c .before .before .kind .ensures) at (c .before .kind-fits .ensures)) ∙ c .if1 .taken)
+    let a = c .before .before .before .before .before .before .before .before .before .before .before .before .before .before .before .before .args in
+    let k = c .before .before .before .before .before .before .before .before .k in
+    let found = standing (rw (k .given .1) at (c .before .before .before .before .before .before .before .before .before .before .find .ensures f s)) in
+    let type-in = c .before .before .before .before .type-in in
+    fitting (now (a .text)) (now (a .table)) (a .object .end) (now (a .name)) f (a .object .of) (k .given .0 .0) found (typeAt (type-in .result))
+    (rw (c .before .before .before .before .before .before .name-start .ensures, c .before .before .before .before .before .name-end .ensures) at (type-in .ensures))
+    (sym (rw (c .before .before .before .type-of .ensures, c .before .before .kind .ensures) at (c .before .kind-fits .ensures)) ∙ c .if1 .taken)
 
 returns-3 : tie.Need-returns-3
 returns-3 c =
     λ f s.
-    let a = c .before .before .before .before .before .before .before .before .before .before .before .before .before .before .before .args in
-    let found = standing (rw (c .before .before .before .before .before .before .before .k .given .1) at (c .before .before .before .before .before .before .before .before .before .find .ensures f s)) in
-    let type-in = c .before .before .before .type-in in
-    unfitting (now (a .text)) (now (a .table)) (a .object .end) (now (a .name)) f (a .object .of) (c .before .before .before .before .before .before .before .k .given .0 .0) found (typeOf (type-in .result))
-    (rw (c .before .before .before .before .before .name-start .ensures, c .before .before .before .before .name-end .ensures) at (type-in .ensures))
-    (sym (rw (c .before .before .kind .ensures) at (c .before .kind-fits .ensures)) ∙ c .if1 .left)
+    let a = c .before .before .before .before .before .before .before .before .before .before .before .before .before .before .before .before .args in
+    let k = c .before .before .before .before .before .before .before .before .k in
+    let found = standing (rw (k .given .1) at (c .before .before .before .before .before .before .before .before .before .before .find .ensures f s)) in
+    let type-in = c .before .before .before .before .type-in in
+    unfitting (now (a .text)) (now (a .table)) (a .object .end) (now (a .name)) f (a .object .of) (k .given .0 .0) found (typeAt (type-in .result))
+    (rw (c .before .before .before .before .before .before .name-start .ensures, c .before .before .before .before .before .name-end .ensures) at (type-in .ensures))
+    (sym (rw (c .before .before .before .type-of .ensures, c .before .before .kind .ensures) at (c .before .kind-fits .ensures)) ∙ c .if1 .left)
 
 pub present-spec : {M : Type 1} → statement M
-present-spec = tie.close (tie.spec (λ c κs. search needs) (λ c. search needs) (λ c. search needs) returns (λ c κs. search needs) (λ c κs. search needs) type-in-requires (λ c κs. search needs) (λ c κs. search needs) returns-2 returns-3)
+present-spec = tie.close (tie.spec (λ c κs. search needs) (λ c. search needs) (λ c. search needs) returns (λ c κs. search needs) (λ c κs. search needs) type-in-requires (λ c κs. search needs) (λ c κs. search needs) (λ c κs. search needs) returns-2 returns-3)

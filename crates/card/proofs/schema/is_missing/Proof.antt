@@ -11,11 +11,11 @@ use Rattle.card.proofs.Known.Columns.{lent-spelled, lent-short, lent-le
 use Rattle.card.proofs.schema.is_missing.Statement.{statement}
 use Rattle.card.proofs.schema.is_missing.Tie as tie
 
-mul-number : tie.Need-mul-number
-mul-number c = omega (arith, c .before .before .before .before .pre .0 .numbers-are .long, c .before .before .before .before .pre .1 .0)
+mul-code : tie.Need-mul-code
+mul-code c = omega (arith, c .before .before .before .before .pre .0 .numbers-are .long, c .before .before .before .before .pre .1 .0)
 
-shared-slice-read-number : tie.Need-shared-slice-read-number
-shared-slice-read-number c = omega (arith, c .before .before .before .before .before .pre .0 .numbers-are .long, c .before .before .before .before .before .pre .1 .0)
+shared-slice-read-code : tie.Need-shared-slice-read-code
+shared-slice-read-code c = omega (arith, c .before .before .before .before .before .pre .0 .numbers-are .long, c .before .before .before .before .before .pre .1 .0)
 
 returns : tie.Need-returns
 returns c =
@@ -42,4 +42,4 @@ returns-2 c =
     (ap not (c .has .ensures f s ∙ ap (λ (n : Name). isThere (seek n (membersOf (now (a .text)) f))) (c .before .sized-word .ensures ∙ lent-spelled (p .0) (a .i) (p .1 .0))))
 
 pub is-missing-spec : {M : Type 1} → statement M
-is-missing-spec = tie.close (tie.spec mul-number shared-slice-read-number returns cast-size sized-word-requires has-requires returns-2)
+is-missing-spec = tie.close (tie.spec mul-code shared-slice-read-code returns cast-size sized-word-requires has-requires returns-2)

@@ -9,7 +9,7 @@ use Rattle.text.specs.Tree.{Forest}
 use Rattle.text.specs.Firsts.{Kinds}
 use Rattle.text.specs.Doc.{docOf}
 use Rattle.text.proofs.Promise.{first-room}
-use Rattle.card.specs.Types.{typeOf}
+use Rattle.card.specs.Types.{typeAt}
 use Rattle.card.specs.Rows.{ValueAt}
 use Rattle.card.specs.Walk.{foundOf}
 use Rattle.card.proofs.Judging.Walk.{breach-free, breach-row, Ahead, Judging, judging-starts, value-here, judging-hit, judging-on, judging-ends}
@@ -40,10 +40,10 @@ breach-at-below t =
     and 4 breach-at-kinds.ps (falls 4 breach-at-kinds.ps _<_ μ-breach-at t) breach-at.Pre
 
 abbrev breach-at-Inv-loop : breach-at-lts.InvT-loop
-breach-at-Inv-loop words numbers text table row ty key number end first at₀ at = (Judging text table (typeOf ty) key row end at) × (row < at)
+breach-at-Inv-loop words numbers text table row code key number end first at₀ at = (Judging text table (typeAt code) key row end at) × (row < at)
 
 abbrev breach-at-μ-loop : breach-at-lts.MeasureT-loop
-breach-at-μ-loop words numbers text table row ty key number end first at₀ at = end - at
+breach-at-μ-loop words numbers text table row code key number end first at₀ at = end - at
 
 -- what is asked of the callees and learnt from them
 abbrev given : ℕ → breach-at-lts.Claims
@@ -73,7 +73,7 @@ breach-at-returns : (t : ℕ) → breach-at-lts.Need-returns (given t) (breach-a
 breach-at-returns t c =
     λ f v k.
     let a = c .before .before .before .before .before .before .args in
-    breach-free (typeOf (a .ty)) (a .key) (a .row) (docOf (now (a .text)) f) (c .before .is-free .ensures) (c .if1 .taken)
+    breach-free (typeAt (a .code)) (a .key) (a .row) (docOf (now (a .text)) f) (c .before .is-free .ensures) (c .if1 .taken)
 
 breach-at-row-number-requires : (t : ℕ) → breach-at-lts.Need-row-number-requires (given t) (breach-at-at t) breach-at.Post breach-at-Inv-loop breach-at-μ-loop
 breach-at-row-number-requires t c κs = let p = c .before .before .before .before .before .before .pre .1 in (p .0, (p .1 .0, p .1 .1))
@@ -82,7 +82,7 @@ breach-at-returns-2 : (t : ℕ) → breach-at-lts.Need-returns-2 (given t) (brea
 breach-at-returns-2 t c =
     λ f v k.
     let a = c .before .before .before .before .before .before .before .before .args in
-    breach-row (typeOf (a .ty)) (a .key) (a .row) (c .before .row-number .result) (docOf (now (a .text)) f) (c .if2 .taken) (c .before .row-number .ensures f v k)
+    breach-row (typeAt (a .code)) (a .key) (a .row) (c .before .row-number .result) (docOf (now (a .text)) f) (c .if2 .taken) (c .before .row-number .ensures f v k)
 
 breach-at-next-row-requires : (t : ℕ) → breach-at-lts.Need-next-row-requires (given t) (breach-at-at t) breach-at.Post breach-at-Inv-loop breach-at-μ-loop
 breach-at-next-row-requires t c κs = let p = c .before .before .before .before .before .before .before .before .pre .1 .1 in (p .0, p .1)
@@ -93,7 +93,7 @@ breach-at-add-first t c = let (f, v, k) = c .before .before .before .before .bef
 breach-at-loop-holds : (t : ℕ) → breach-at-lts.Need-loop-holds (given t) (breach-at-at t) breach-at.Post breach-at-Inv-loop breach-at-μ-loop
 breach-at-loop-holds t c =
     let a = c .before .before .before .before .before .before .before .before .before .args in (
-      judging-starts (now (a .text)) (now (a .table)) (typeOf (a .ty)) (a .key) (a .row) (c .next-row .result) (c .next-row .ensures)
+      judging-starts (now (a .text)) (now (a .table)) (typeAt (a .code)) (a .key) (a .row) (c .next-row .result) (c .next-row .ensures)
           (λ f v k. sym (c .before .if2 .left) ∙ c .before .before .row-number .ensures f v k),
       omega arith,
     )
@@ -108,7 +108,7 @@ breach-at-name-end-requires t c κs = search needs
 ahead : (t : ℕ) (c : breach-at-lts.In-loop (given t) (breach-at-at t) breach-at.Post breach-at-Inv-loop breach-at-μ-loop)
     → let a = c .before .before .before .before .before .before .before .before .before .before .before .args in
     (f : Forest) → ValueAt (now (a .table)) (a .row) f → Kinds f
-    → Ahead (now (a .text)) (now (a .table)) (typeOf (a .ty)) (a .key) (a .row) (c .before .before .next-row .result) f (c .before .loop .at)
+    → Ahead (now (a .text)) (now (a .table)) (typeAt (a .code)) (a .key) (a .row) (c .before .before .next-row .result) f (c .before .loop .at)
 ahead t c = c .before .loop .inv .0
 
 breach-at-member-type-requires : (t : ℕ) → breach-at-lts.Need-member-type-requires (given t) (breach-at-at t) breach-at.Post breach-at-Inv-loop breach-at-μ-loop
@@ -147,7 +147,7 @@ breach-at-returns-3 t c =
     let typed = rw (name-start .ensures, name-end .ensures) at (member-type .ensures (h .ahead) (value-here h lt)) in
     let keyed = key-fits .ensures (h .passed) (h .passes) in
     let is = breach-at .ensures (h .ahead) (value-here h lt) (h .kinds) in
-    rw (c .enum-told .given .1) (judging-hit h lt (typeOf (member-type .result)) (key-fits .result) (foundOf (breach-at .result)) typed keyed is
+    rw (c .enum-told .given .1) (judging-hit h lt (typeAt (member-type .result)) (key-fits .result) (foundOf (breach-at .result)) typed keyed is
     (c .enum-told .given .0 .0) (c .enum-told .given .0 .1 .0) (ap foundOf (c .enum-told .given .1)))
 
 breach-at-enum-told-2 : (t : ℕ) → breach-at-lts.Need-enum-told-2 (given t) (breach-at-at t) breach-at.Post breach-at-Inv-loop breach-at-μ-loop
@@ -176,7 +176,7 @@ breach-at-loop-again t c = (
       let typed = rw (name-start .ensures, name-end .ensures) at (member-type .ensures (h .ahead) (value-here h lt)) in
       let keyed = key-fits .ensures (h .passed) (h .passes) in
       let is = breach-at .ensures (h .ahead) (value-here h lt) (h .kinds) in
-      rw (c .next-row2 .ensures) (judging-on h lt (typeOf (member-type .result)) (key-fits .result) (foundOf (breach-at .result)) typed keyed is
+      rw (c .next-row2 .ensures) (judging-on h lt (typeAt (member-type .result)) (key-fits .result) (foundOf (breach-at .result)) typed keyed is
       (ap foundOf (c .before .enum-told2 .given .1)))),
   omega arith,
 )

@@ -3,7 +3,7 @@ use mathlib.Core.Path.{_≡_}
 use mathlib.Core.Bool.{Bool, cond}
 use denote.Ref.{now}
 use Rattle.text.specs.Tree.{Forest}
-use Rattle.card.specs.Types.{typeOf}
+use Rattle.card.specs.Types.{typeAt}
 use Rattle.card.specs.Rows.{ValueAt}
 use Rattle.card.specs.Walk.{valueNumber}
 use Rattle.text.proofs.Promise.{first-row}
@@ -22,7 +22,7 @@ allows-requires c κs = c .before .before .before .before .before .before .befor
 -- the number, by what the value's row was asked
 asked : (c : tie.After-allows) {b : Bool} → c .allows .result ≡ b → (f : Forest)
     → let a = c .before .before .before .before .before .before .before .before .args in ValueAt (now (a .table)) (a .row) f
-    → cond b 0 13 ≡ valueNumber (typeOf (a .ty)) (a .key) (now (a .text)) f
+    → cond b 0 13 ≡ valueNumber (typeAt (a .code)) (a .key) (now (a .text)) f
 unfolding valueNumber
 asked c e f v =
     let a = c .before .before .before .before .before .before .before .before .args in
