@@ -1,5 +1,4 @@
 -- The catalog, and searches through it.
-pub mod Words
 pub mod Codes
 pub mod Beginnings
 pub mod Stretches

@@ -25,21 +25,6 @@ MembersAt table object f = StandsTo table (object .from) (object .end) f
 abbrev pub nameWidth : ℕ
 nameWidth = 20
 
--- the bytes up to the next space
-abbrev pub wordOf : List ℕ → List ℕ
-wordOf [] = []
-wordOf (b ∷ bs) = let more = b ∷ wordOf bs in cond (eqb b 32) [] more
-
--- a place where the word that begins at another one ends
-pub record WordEnd (words : List ℕ) (from to : ℕ) : Type 0 where
-  pub after : from ≤ to
-  pub within : to ≤ length words
-  pub is : take (to - from) (drop from words) ≡ wordOf (drop from words)
-
--- the word with that number
-abbrev pub wordAt : List ℕ → ℕ → Name
-wordAt words j = wordOf (drop (j * nameWidth) words)
-
 -- words with spaces after them, each of the width
 abbrev pub padded : List Name → List ℕ
 padded [] = []

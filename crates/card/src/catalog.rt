@@ -3,8 +3,8 @@
 // A new property is a line in contact/specs/Schema.antt and, at the same place of its type, one in WORDS and one in NUMBERS; COUNT, the starts of the types
 // after it and the places of the rules' words after it go up by one. A new rule is in the record of its type there, and at the same place its shape and its
 // words in NUMBERS; RULE_COUNT and the rules' starts after it go up by one. A word that no property has is a line in WORDS, behind the properties, and one
-// in specs/Catalog.antt; FURTHER goes up by one. A new object type is a number here, its name, its start in both lists of starts and its properties; TYPES
-// goes up by one. COUNT, FURTHER, RULE_COUNT and TYPES stand in specs/Catalog.antt too. The proofs compute over the catalog.
+// in specs/Catalog.antt; FURTHER goes up by one. A new object type is a number here, its name and how long that is, its start in both lists of starts and its
+// properties; TYPES goes up by one. COUNT, FURTHER, RULE_COUNT and TYPES stand in specs/Catalog.antt too. The proofs compute over the catalog.
 use json::bytes::peek;
 ghost use mathlib.Core.Path.{_≡_};
 ghost use mathlib.Core.Bool.{_||_};
@@ -14,7 +14,7 @@ ghost use lib.ListN.{length, getD, take, drop};
 ghost use lib.Dec.{eqb};
 ghost use Rattle.text.specs.Text.{bytes, byteAt};
 ghost use Rattle.contact.specs.Schema.{properties, rulesOf, ownName};
-ghost use Rattle.card.specs.Catalog.{namePlace, nameWidth, wordOf, WordEnd, typeCount, lines, noLine, allRules, noRule, ruleCount, ruleAt, ruleWords, Stretch, tableWords, Numbers, Lent, spanIn};
+ghost use Rattle.card.specs.Catalog.{namePlace, nameWidth, typeCount, lines, noLine, allRules, noRule, ruleCount, ruleAt, ruleWords, Stretch, tableWords, Numbers, Lent, spanIn};
 
 // ---- numbers
 
@@ -350,37 +350,24 @@ pub(crate) const NUMBERS: [u32; COUNT + 2 * (TYPES + 2) + RULE_COUNT * RULE_WIDT
     NO_WORD,
 ];
 
+// How long the types' names are; the name of what is no type is empty.
+const NAME_SIZES: [u8; TYPES + 1] = [
+    4, // Card
+    4, // Name
+    13, // NameComponent
+    7, // Address
+    16, // AddressComponent
+    12, // EmailAddress
+    5, // Phone
+    0,
+];
+
 // ---- words
 
 // The byte that begins an escape, among the numbers that peeking gives.
 const BACKSLASH: u16 = b'\\' as u16;
 
-// The end of the word that begins at a place: the next space.
-fn word_end(words: &[u8], from: usize) -> usize
-    requires { ⌜ from ≤ length (now words) ⌝ }
-    ensures { λ r. ⌜ WordEnd (now (words .entry)) from r ⌝ }
-{
-    let mut at = from;
-    while at < words.len() {
-        if words[at] == b' ' {
-            return at;
-        }
-        at = at + 1;
-    }
-    at
-}
-
-// The word with that number, without the spaces after it.
-fn word_at(words: &[u8], i: usize) -> &[u8]
-    requires { ⌜ i * nameWidth ≤ length (now words) ⌝ }
-    ensures { λ r. ⌜ now r ≡ wordOf (drop (i * nameWidth) (now (words .entry))) ⌝ }
-{
-    let from = i * WIDTH;
-    let to = word_end(words, from);
-    &words[from..to]
-}
-
-// The word with that number, whose size is known.
+// The word with that number, of that size.
 pub(crate) fn sized_word(words: &[u8], i: usize, size: usize) -> &[u8]
     requires { ⌜ i * nameWidth + size ≤ length (now words) ⌝ }
     ensures { λ r. ⌜ now r ≡ take size (drop (i * nameWidth) (now (words .entry))) ⌝ }
@@ -426,13 +413,14 @@ fn name_place(o: u32) -> usize
     i
 }
 
-// The name of an object type; one without a record has the empty name, behind the last.
+// The name of an object type.
 pub(crate) fn type_name(words: &[u8], o: u32) -> &[u8]
     requires { ⌜ now words ≡ tableWords ⌝ }
     ensures { λ r. ⌜ now r ≡ bytes (ownName o) ⌝ }
 {
-    let place = TYPE_WORDS + name_place(o);
-    word_at(words, place)
+    let place = name_place(o);
+    let size = NAME_SIZES[place] as usize;
+    sized_word(words, TYPE_WORDS + place, size)
 }
 
 // ---- what a type has

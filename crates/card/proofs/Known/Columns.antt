@@ -1,6 +1,6 @@
 -- The words of the catalog: the properties' spellings and the types' names, by computation over all of them. Assumes nothing.
 use mathlib.Core.Path.{_≡_, refl, sym, ap, _∙_}
-use mathlib.Core.List.{List, [], _∷_, map}
+use mathlib.Core.List.{List, [], _∷_, _++_, map}
 use mathlib.Core.Bool.{Bool, true, false, _||_}
 use Prim.Native.Nat.{ℕ, zero, suc, _+_, _*_, _/_, _<_, _≤_}
 use native.Mathlib.Omega.{arith}
@@ -16,7 +16,7 @@ use Rattle.text.specs.Text.{bytes, byteAt}
 use Rattle.text.specs.Strings.{nameOf}
 use Rattle.text.specs.Doc.{Name}
 use Rattle.contact.specs.Schema.{ObjectType, Known, TypeRecord, types, recordOf, ownName}
-use Rattle.card.specs.Catalog.{nameWidth, wordAt, joined, typeCount, namePlace, lines, noLine, count, allRules, ruleCount, ruleAt, ruleWords, typeWordsFrom, tableWords, Lent}
+use Rattle.card.specs.Catalog.{nameWidth, joined, typeCount, namePlace, lines, noLine, count, allRules, ruleCount, ruleAt, ruleWords, typeWordsFrom, tableWords, Lent}
 use Rattle.card.proofs.Known.Beginnings.{name-apart}
 use Rattle.card.proofs.Known.Stretches.{place-within, place-record}
 
@@ -54,19 +54,36 @@ all-some = refl
 
 -- ---- names of object types
 
+-- how long they are, and the empty one of what is no type
+abbrev pub nameSizes : List ℕ
+nameSizes = map (λ (r : TypeRecord). length (bytes (r .own))) types ++ (0 ∷ [])
+
 called : ℕ → Bool
-called p = same (wordAt tableWords (typeWordsFrom + p)) (bytes (ownName p))
+called p = same (take (getD nameSizes p 0) (drop ((typeWordsFrom + p) * nameWidth) tableWords)) (bytes (ownName p))
 
 all-called : below called (typeCount + 1) ≡ true
 unfolding called orderOf recordOf tableWords lines joined types
 all-called = refl
 
-pub type-named : (o : ObjectType) → wordAt tableWords (typeWordsFrom + namePlace o) ≡ bytes (ownName o)
+pub type-named : (o : ObjectType) → take (getD nameSizes (namePlace o) 0) (drop ((typeWordsFrom + namePlace o) * nameWidth) tableWords) ≡ bytes (ownName o)
 unfolding called
 type-named o =
-    same-eq (wordAt tableWords (typeWordsFrom + namePlace o)) (bytes (ownName (namePlace o)))
+    same-eq (take (getD nameSizes (namePlace o) 0) (drop ((typeWordsFrom + namePlace o) * nameWidth) tableWords)) (bytes (ownName (namePlace o)))
     (below-at called (typeCount + 1) all-called (namePlace o) (omega (arith, place-within o)))
     ∙ ap (λ (r : TypeRecord). bytes (r .own)) (place-record o)
+
+within : ℕ → Bool
+within p = leb ((typeWordsFrom + p) * nameWidth + getD nameSizes p 0) ((typeWordsFrom + typeCount) * nameWidth)
+
+all-within : below within (typeCount + 1) ≡ true
+unfolding within types
+all-within = refl
+
+pub type-within : (p : ℕ) → p ≤ typeCount → (typeWordsFrom + p) * nameWidth + getD nameSizes p 0 ≤ (typeWordsFrom + typeCount) * nameWidth
+unfolding within
+type-within p h =
+    leb-true ((typeWordsFrom + p) * nameWidth + getD nameSizes p 0) ((typeWordsFrom + typeCount) * nameWidth)
+    (below-at within (typeCount + 1) all-within p (omega (arith, h)))
 
 -- ---- what is lent
 
