@@ -79,6 +79,7 @@ DUDS = [
     ("contact/name_respelled", localize(patch(b'"z":2', rb',"\u007a":1'), rb'{..,"\u007a":2}'), b'{..,"z":2}'),
     ("contact/room_one_short", localize(patch(b""), b"{..}", room=len(whole(b"{..}"))), (27, len(whole(b"{..}")))),
     ("contact/language_ignored", localize(b'{..,"localizations":{"":{"z":1},"de":{"z":2}}}', b'{..,"z":2}'), b'{..,"z":1}'),
+    ("contact/found_halfway", localize(patch(b'"y":{"z":1}'), b'{..,"y":{"z":1}}'), b'{..,"de":{"y":{"z":1}}}'),
     ("contact/all_own", localize(patch(b'"y/a":1', b',"y":{}'), b'{..,"y":{"a":1}}'), (23, 0)),
     ("contact/second_numbers", localize(b"{..}", (21, 0)), (21, 1)),
     ("contact/second_numbers", localize(patch(b'"kind":5'), (28, 11)), (28, 12)),
