@@ -1,5 +1,5 @@
-// The catalog: the known properties of a card's types and the rules between them, as words and numbers. A call of judging makes both lists once and lends
-// them to all below, since a constant list is stored anew wherever it is used.
+// The catalog: the known properties of a card's types and the rules between them (docs/RULES.md, 5.5 and 5.6), as words and numbers. A call of judging makes
+// both lists once and lends them to all below, since a constant list is stored anew wherever it is used.
 // A new property is a line in contact/specs/Schema.antt and, at the same place of its type, one in WORDS and one in NUMBERS; COUNT, the starts of the types
 // after it and the places of the rules' words after it go up by one. A new rule is in the record of its type there, and at the same place its shape and its
 // words in NUMBERS; RULE_COUNT and the rules' starts after it go up by one. A word that no property has is a line in WORDS, behind the properties, and one

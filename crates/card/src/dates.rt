@@ -1,5 +1,5 @@
-// UTCDateTime: real days of the Gregorian calendar, and the time of day.
-use crate::values::is_digit;
+// UTCDateTime (docs/RULES.md, 5.3): real days of the Gregorian calendar, and the time of day.
+use crate::formats::is_digit;
 use json::bytes::peek;
 use json::decode::Cursor;
 use json::decode::Next;

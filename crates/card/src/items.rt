@@ -1,4 +1,4 @@
-// The types of a card's values: what a value has to be, and of which kind it may then be.
+// The types of a card's values (docs/RULES.md, 5.3 and 5.4): what a value has to be, and of which kind it may then be.
 use json::rows::ARRAY;
 use json::rows::FALSE;
 use json::rows::NUMBER;

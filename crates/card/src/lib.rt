@@ -1,10 +1,10 @@
-// Judging and localizing a card.
+// Judging and localizing a card (docs/RULES.md, 5 and 6).
 // Judging, from the single value up:
-//   values      Ids and unsigned integers
+//   formats     Ids and unsigned integers
 //   dates       UTCDateTime
 //   content     the content of a string
 //   items       the types of a card's values, and their kinds
-//   rows        the members of a value, by its rows
+//   inside      the members of a value, by its rows
 //   catalog     the known properties and the rules, as words and numbers
 //   schema      what the catalog says of an object's members
 //   types       what a type asks of a value, of its key and of what stands below it
@@ -18,13 +18,13 @@
 mod catalog;
 mod content;
 mod dates;
+mod formats;
+mod inside;
 mod items;
 pub mod judge;
 pub mod localize;
 pub mod paper;
-mod rows;
 mod rules;
 mod schema;
 mod types;
-mod values;
 mod walk;

@@ -1,4 +1,4 @@
-// The answers of judging and localizing in the refusal sheet's numbers.
+// The answers of judging and localizing in the refusal sheet's numbers (docs/RULES.md, 2.1).
 use contact::CardFault;
 use contact::CardRefusal;
 use contact::LocalRefusal;

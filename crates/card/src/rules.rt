@@ -1,4 +1,4 @@
-// Rules between members (refusal 14), by the catalog's rules of a few shapes. A member of the wrong kind counts as absent.
+// Rules between members (refusal 14; docs/RULES.md, 5.6), by the catalog's rules of a few shapes. A member of the wrong kind counts as absent.
 use crate::catalog::EACH;
 use crate::catalog::NEEDS;
 use crate::catalog::NEEDS_STRING;
@@ -9,10 +9,10 @@ use crate::catalog::RULES;
 use crate::catalog::SEPARATORS;
 use crate::catalog::rule_word;
 use crate::catalog::rules_of;
+use crate::inside::has_string;
+use crate::inside::is_string_at;
+use crate::inside::next_row;
 use crate::items::kind_fits;
-use crate::rows::has_string;
-use crate::rows::is_string_at;
-use crate::rows::next_row;
 use crate::schema::Object;
 use crate::schema::type_in;
 use crate::schema::type_of;

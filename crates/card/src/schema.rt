@@ -1,4 +1,4 @@
-// What the catalog says of an object's members: the type of each, and whether a mandatory one is missing.
+// What the catalog says of an object's members (docs/RULES.md, 5.5): the type of each, and whether a mandatory one is missing.
 use crate::catalog::ANY;
 use crate::catalog::ANY_OBJECT;
 use crate::catalog::BOUNDED;
@@ -16,11 +16,11 @@ use crate::catalog::YES;
 use crate::catalog::lines_of;
 use crate::catalog::may_be;
 use crate::catalog::sized_word;
+use crate::inside::has;
 use crate::items::Item;
 use crate::items::Keys;
 use crate::items::SimpleItem;
 use crate::items::Ty;
-use crate::rows::has;
 use json::bytes::peek;
 use json::names::name_is;
 ghost use mathlib.Core.Path.{_≡_};

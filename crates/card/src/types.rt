@@ -1,23 +1,23 @@
-// What a type asks: of a value by itself, of the key that it stands under, and of what stands below it.
+// What a type asks (docs/RULES.md, 5.2 to 5.4): of a value by itself, of the key that it stands under, and of what stands below it.
 use crate::catalog::ANY;
 use crate::catalog::type_name;
 use crate::content::content;
 use crate::content::is_content;
 use crate::dates::is_time;
+use crate::formats::is_count;
+use crate::formats::is_id;
+use crate::inside::has_string;
+use crate::inside::next_row;
 use crate::items::Item;
 use crate::items::Keys;
 use crate::items::Role;
 use crate::items::SimpleItem;
 use crate::items::Ty;
 use crate::items::role_of;
-use crate::rows::has_string;
-use crate::rows::next_row;
 use crate::schema::inner;
 use crate::schema::object_of;
 use crate::schema::type_in;
 use crate::schema::type_of;
-use crate::values::is_count;
-use crate::values::is_id;
 use json::names::part;
 use json::rows::OBJECT;
 use json::rows::TRUE;

@@ -1,9 +1,9 @@
-// The verdict on a card's rows: the first breach in the order of the rows, and on one row the smallest number.
+// The verdict on a card's rows (docs/RULES.md, 5.2): the first breach in the order of the rows, and on one row the smallest number.
+use crate::inside::next_row;
 use crate::items::Role;
 use crate::items::is_any;
 use crate::items::kind_fits;
 use crate::items::role_of;
-use crate::rows::next_row;
 use crate::rules::breaks;
 use crate::schema::Object;
 use crate::schema::is_lacking;

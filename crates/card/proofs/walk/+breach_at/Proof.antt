@@ -19,7 +19,7 @@ use borrow.Fn.PlainCycle.{Measures, is, falls, and}
 use Rattle.card.proofs.walk.breach_at.Reads as breach-at
 use Rattle.card.proofs.walk.breach_at.Kinds as breach-at-kinds
 use Rattle.card.proofs.walk.+breach_at.Lts-breach_at as breach-at-lts
-use Rattle.card.proofs.rows.next_row.Reads as next-row-reads
+use Rattle.card.proofs.inside.next_row.Reads as next-row-reads
 use Rattle.card.proofs.types.key_fits.Reads as key-fits-reads
 use Rattle.card.proofs.types.member_type.Reads as member-type-reads
 use Rattle.card.proofs.walk.is_free.Reads as is-free-reads

@@ -1,4 +1,4 @@
--- `card::rows::is_string_at` meets its contract: each arm by what was found. Assumes nothing.
+-- `card::inside::is_string_at` meets its contract: each arm by what was found. Assumes nothing.
 use mathlib.Core.Path.{_≡_, refl}
 use mathlib.Core.Bool.{false}
 use mathlib.Core.Option.{Option}
@@ -7,8 +7,8 @@ use denote.Ref.{now}
 use Rattle.text.specs.Doc.{Doc}
 use Rattle.contact.specs.Rules.{isThisString}
 use Rattle.card.proofs.Judging.Values.{itself, by-found, by-nothing}
-use Rattle.card.proofs.rows.is_string_at.Statement.{statement}
-use Rattle.card.proofs.rows.is_string_at.Tie as tie
+use Rattle.card.proofs.inside.is_string_at.Statement.{statement}
+use Rattle.card.proofs.inside.is_string_at.Tie as tie
 
 returns : tie.Need-returns
 returns c =

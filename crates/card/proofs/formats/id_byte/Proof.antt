@@ -1,9 +1,9 @@
--- `card::values::id_byte` meets its contract: the tests of the code are those of the definition. Assumes nothing.
+-- `card::formats::id_byte` meets its contract: the tests of the code are those of the definition. Assumes nothing.
 use borrow.Author.Needs.{needs}
 use Rattle.laws.proofs.Picks.{picks}
 use Rattle.contact.specs.Values.{idByte}
-use Rattle.card.proofs.values.id_byte.Statement.{statement}
-use Rattle.card.proofs.values.id_byte.Tie as tie
+use Rattle.card.proofs.formats.id_byte.Statement.{statement}
+use Rattle.card.proofs.formats.id_byte.Tie as tie
 
 pub id-byte-spec : {M : Type 1} → statement M
 unfolding idByte

@@ -1,10 +1,10 @@
--- `card::rows::has_string` meets its contract. Assumes nothing.
+-- `card::inside::has_string` meets its contract. Assumes nothing.
 use mathlib.Core.Path.{_∙_}
 use borrow.Author.Needs.{needs}
 use denote.Ref.{now}
 use Rattle.card.proofs.Judging.Values.{seekIn, row-of, contentIn, content-row, content-string}
-use Rattle.card.proofs.rows.has_string.Statement.{statement}
-use Rattle.card.proofs.rows.has_string.Tie as tie
+use Rattle.card.proofs.inside.has_string.Statement.{statement}
+use Rattle.card.proofs.inside.has_string.Tie as tie
 
 returns : tie.Need-returns
 returns c =

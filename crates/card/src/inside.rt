@@ -1,4 +1,4 @@
-// The rows of a value's members, by the reading layer's accessors: from one member to the next, and the member of a name.
+// What stands inside a value, by its rows: from one member to the next, and the member of a name.
 use crate::content::is_content;
 use json::lookup;
 use json::lookup::Found;

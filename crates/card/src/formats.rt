@@ -1,4 +1,4 @@
-// Ids and unsigned integers.
+// Ids and unsigned integers (docs/RULES.md, 5.3).
 use json::decode::Next;
 use json::decode::next_byte;
 use json::decode::start;

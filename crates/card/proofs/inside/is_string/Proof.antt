@@ -1,4 +1,4 @@
--- `card::rows::is_string` meets its contract, by the words of the row. Assumes nothing.
+-- `card::inside::is_string` meets its contract, by the words of the row. Assumes nothing.
 use mathlib.Core.Path.{_≡_}
 use native.Mathlib.Omega.{arith}
 use borrow.Author.Needs.{needs}
@@ -6,8 +6,8 @@ use denote.Ref.{now}
 use borrow.Author.Tests.{eq-eqb, ne-eqb}
 use Rattle.contact.specs.Rules.{isString}
 use Rattle.card.proofs.Judging.Values.{value-kind, value-token}
-use Rattle.card.proofs.rows.is_string.Statement.{statement}
-use Rattle.card.proofs.rows.is_string.Tie as tie
+use Rattle.card.proofs.inside.is_string.Statement.{statement}
+use Rattle.card.proofs.inside.is_string.Tie as tie
 
 returns : tie.Need-returns
 unfolding isString

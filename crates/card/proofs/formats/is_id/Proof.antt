@@ -1,4 +1,4 @@
--- `card::values::is_id` meets its contract: byte by byte, after so many that passed. The measure is the number of bytes that the cursor has left.
+-- `card::formats::is_id` meets its contract: byte by byte, after so many that passed. The measure is the number of bytes that the cursor has left.
 -- Assumes nothing.
 use mathlib.Core.Path.{_≡_, sym, ap, _∙_}
 use Prim.Native.Nat.{_≤_}
@@ -13,8 +13,8 @@ use Rattle.json.specs.Cursors.{rest}
 use Rattle.contact.specs.Values.{isId}
 use Rattle.json.proofs.Unread.{byte-left, none-left}
 use Rattle.card.proofs.Judging.Ids.{idAfter, id-start, id-end, id-on, id-other, id-long}
-use Rattle.card.proofs.values.is_id.Statement.{statement}
-use Rattle.card.proofs.values.is_id.Tie as tie
+use Rattle.card.proofs.formats.is_id.Statement.{statement}
+use Rattle.card.proofs.formats.is_id.Tie as tie
 
 abbrev Inv-loop : tie.InvT-loop
 Inv-loop name at₀ passed₀ at passed = (idAfter passed (rest name at) ≡ isId (decode name)) × (passed ≤ 255)

@@ -1,4 +1,4 @@
--- `card::rows::has` meets its contract. Assumes nothing.
+-- `card::inside::has` meets its contract. Assumes nothing.
 use mathlib.Core.Path.{_≡_, refl}
 use borrow.Author.Needs.{needs}
 use denote.Ref.{now}
@@ -6,8 +6,8 @@ use mathlib.Core.Bool.{true, false}
 use mathlib.Core.Option.{Option}
 use Rattle.text.specs.Doc.{Property, isThere}
 use Rattle.card.proofs.Judging.Values.{seekIn, contentOf, row-of, by-found, by-nothing}
-use Rattle.card.proofs.rows.has.Statement.{statement}
-use Rattle.card.proofs.rows.has.Tie as tie
+use Rattle.card.proofs.inside.has.Statement.{statement}
+use Rattle.card.proofs.inside.has.Tie as tie
 
 returns : tie.Need-returns
 returns c =

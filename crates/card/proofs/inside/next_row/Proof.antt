@@ -1,11 +1,11 @@
--- `card::rows::next_row` meets its contract: the rows are inside the table. Assumes nothing.
+-- `card::inside::next_row` meets its contract: the rows are inside the table. Assumes nothing.
 use native.Mathlib.Omega.{arith}
 use borrow.Author.Needs.{needs}
 use mathlib.Core.List.{[]}
 use Rattle.json.proofs.Seeking.{row-after}
 use Rattle.card.proofs.Judging.Values.{value-room}
-use Rattle.card.proofs.rows.next_row.Statement.{statement}
-use Rattle.card.proofs.rows.next_row.Tie as tie
+use Rattle.card.proofs.inside.next_row.Statement.{statement}
+use Rattle.card.proofs.inside.next_row.Tie as tie
 
 returns : tie.Need-returns
 returns c =

@@ -1,4 +1,4 @@
--- `card::values::is_count` meets its contract: digit by digit, after digits of a value that is not too large. The measure is the digits left.
+-- `card::formats::is_count` meets its contract: digit by digit, after digits of a value that is not too large. The measure is the digits left.
 -- Assumes nothing.
 use mathlib.Core.Path.{_≡_, sym, ap, _∙_}
 use Prim.Native.Nat.{_≤_, _-_}
@@ -10,8 +10,8 @@ use borrow.Author.Tests.{not-true, not-false}
 use Rattle.laws.proofs.Picks.{picks}
 use Rattle.contact.specs.Values.{isCount}
 use Rattle.card.proofs.Judging.Counts.{digit-range, digits-from, countAfter, count-start, count-end, count-on, count-other, count-over}
-use Rattle.card.proofs.values.is_count.Statement.{statement}
-use Rattle.card.proofs.values.is_count.Tie as tie
+use Rattle.card.proofs.formats.is_count.Statement.{statement}
+use Rattle.card.proofs.formats.is_count.Tie as tie
 
 abbrev Inv-loop : tie.InvT-loop
 Inv-loop token low high value₀ i₀ value i = (countAfter low high value (drop i token) ≡ isCount low high token) × (value ≤ 9007199254740991) × (i ≤ length token)
