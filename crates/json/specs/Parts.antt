@@ -2,7 +2,7 @@
 use Prim.Native.Nat.{ℕ, _+_, _-_, _*_, _≤_, _<_}
 use mathlib.Core.Path.{_≡_}
 use mathlib.Core.List.{List}
-use mathlib.Core.Bool.{cond}
+use mathlib.Core.Bool.{Bool, true, cond}
 use lib.Dec.{eqb}
 use lib.ListN.{length}
 use lib.Seq.{sets}
@@ -67,6 +67,12 @@ abbrev pub Closes : (kind ns ne at n : ℕ) → Outcome → (old new : List ℕ)
 Closes kind ns ne at n (Next to after) old new r =
     (r ≡ Next to after) × (new ≡ sets old (n * rowWords) (rowOf kind ns ne at to (after - n - 1)))
 Closes kind ns ne at n (Stop x) old new r = r ≡ Stop x
+
+-- ---- numbers
+
+-- a byte that a fraction or an exponent begins with: `.`, `e`, `E`
+abbrev pub moreBy : ℕ → Bool
+moreBy b = cond (eqb b 46) true (cond (eqb b 101) true (eqb b 69))
 
 -- ---- the two containers
 

@@ -33,6 +33,7 @@ ghost use Prim.Native.Nat.{_≤_};
 ghost use lib.ListN.{length};
 ghost use Rattle.text.specs.Text.{byteAt};
 ghost use Rattle.text.specs.Tokens as tokens;
+ghost use Rattle.json.specs.Parts.{moreBy};
 
 // Does white space stand at a place?
 fn space_at(text: &[u8], at: usize) -> bool
@@ -169,6 +170,20 @@ fn exp(text: &[u8], at: usize) -> Token
     Token::End(at)
 }
 
+// Does a fraction or an exponent stand at a place? Most numbers have neither.
+fn more_at(text: &[u8], at: usize) -> bool
+    ensures { λ r. ⌜ r ≡ moreBy (byteAt (now (text .entry)) at) ⌝ }
+{
+    let b = peek(text, at);
+    if b == POINT {
+        return true;
+    }
+    if b == SMALL_E {
+        return true;
+    }
+    b == LARGE_E
+}
+
 // A number: a minus or none, its whole part, its fraction and its exponent.
 fn number(text: &[u8], at: usize) -> Token
     ensures { λ r. ⌜ r ≡ tokens.numberAt (now (text .entry)) at ⌝ }
@@ -177,6 +192,9 @@ fn number(text: &[u8], at: usize) -> Token
     let Token::End(point) = whole else {
         return whole;
     };
+    if !more_at(text, point) {
+        return whole;
+    }
     let part = frac(text, point);
     let Token::End(e) = part else {
         return part;
