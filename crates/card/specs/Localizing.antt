@@ -3,9 +3,7 @@ use Prim.Native.Nat.{ℕ, _≤_}
 use mathlib.Core.Path.{_≡_}
 use mathlib.Core.List.{List}
 use lib.ListN.{length, take}
-use Rattle.laws.specs.Lists.{filled}
 use Rattle.text.specs.Limits.{base}
-use Rattle.text.specs.Tree.{treeRows}
 use Rattle.contact.specs.Verdict.{judgedOf}
 use Rattle.contact.specs.Localize.{Outcome, done, denied, byJudge, answerOfOutcome, tableOfOutcome}
 use Rattle.contact.specs.declared.Localized.{Localized}
@@ -27,20 +25,20 @@ abbrev pub Made : (words room : ℕ) → Outcome → (out : List ℕ) → Attemp
 Made words room o out (Bytes n) = Composed words room o out n
 Made words room o out (Refused r) = o ≡ denied r
 
--- the answer, and the table, where the outcome is left to judging
-pub record Rejudged (words : ℕ) (o : Outcome) (r : Localized) (table : List ℕ) : Type 0 where
+-- the answer and the table are the outcome's
+pub record Yields (words : ℕ) (o : Outcome) (r : Localized) (table : List ℕ) : Type 0 where
   pub answer : r ≡ answerOfOutcome o
   pub rows : table ≡ tableOfOutcome words o
 
--- the output begins with the text and the table is as it must be, where there is a card
-abbrev pub LeavesCard : (words : ℕ) → Outcome → (table out : List ℕ) → Type 0
-LeavesCard words (done text f) table out = (table ≡ filled words (treeRows f)) × (length text ≤ length out) × (take (length text) out ≡ text)
-LeavesCard words (denied r) table out = Prim.Unit {0}
+-- the output begins with the text, where there is a card
+abbrev pub Begins : Outcome → (out : List ℕ) → Type 0
+Begins (done text f) out = (length text ≤ length out) × (take (length text) out ≡ text)
+Begins (denied r) out = Prim.Unit {0}
 
--- the answer is the outcome's, and the table and the output are left so
+-- the answer and the table are the outcome's, and the output begins so
 pub record Answers (words : ℕ) (o : Outcome) (r : Localized) (table out : List ℕ) : Type 0 where
-  pub answer : r ≡ answerOfOutcome o
-  pub left : LeavesCard words o table out
+  pub yields : Yields words o r table
+  pub begins : Begins o out
 
 -- how many bytes of the output an answer says are used
 abbrev pub usedBy : Localized → ℕ

@@ -8,7 +8,8 @@ use crate::walk::breach_at;
 use contact::CardFault;
 use contact::CardRefusal;
 use contact::Verdict;
-use json::read::read;
+use json::limits::ROW_WORDS;
+use json::read::read_rows;
 use json::rows::OBJECT;
 use json::rows::kind;
 use json::rows::value_start;
@@ -24,7 +25,7 @@ ghost use Rattle.contact.specs.Verdict.{faultOf};
 ghost use Rattle.contact.specs.Judging.{Judges};
 ghost use Rattle.card.specs.Rows.{ValueAt};
 ghost use Rattle.card.specs.Walk.{foundOf};
-ghost use Rattle.card.specs.Judged.{ReadInto, JudgedRows};
+ghost use Rattle.card.specs.Judged.{ReadInto, JudgedRows, JudgesRows};
 
 // The line of the sheet that a number from 11 to 14 names, at a place.
 fn fault_of(number: usize, place: usize) -> CardFault
@@ -71,12 +72,24 @@ fn judge_rows(text: &[u8], table: &mut [u32], n: usize) -> Verdict
     }
 }
 
+// Judges a text for a caller that clears later: its rows, and the words behind them as they were, or the first refusal and a table of zeros.
+pub(crate) fn judge_kept(text: &[u8], table: &mut [u32]) -> Verdict
+    ensures { λ r. ⌜ JudgesRows (now (text .entry)) (now (table .entry)) r (now (table .exit)) ⌝ }
+{
+    match read_rows(text, table) {
+        Reading::Refused(r) => Verdict::Failed(CardRefusal::Text(r)),
+        Reading::Rows(n) => judge_rows(text, table, n),
+    }
+}
+
 // Judges a text: 0 and its rows in the table, or the first refusal and a table of zeros.
 pub fn judge(text: &[u8], table: &mut [u32]) -> Verdict
     ensures { λ r. ⌜ Judges base (now (text .entry)) (now (table .entry)) r (now (table .exit)) ⌝ }
 {
-    match read(text, table) {
-        Reading::Refused(r) => Verdict::Failed(CardRefusal::Text(r)),
-        Reading::Rows(n) => judge_rows(text, table, n),
+    let v = judge_kept(text, table);
+    if let Verdict::Passed(n) = v {
+        let used = n * ROW_WORDS;
+        clear_words(&mut table[used..]);
     }
+    v
 }

@@ -1,5 +1,6 @@
 // Localizing: a card text and a language become the localized card and its rows, or a refusal.
 use crate::judge::judge;
+use crate::judge::judge_kept;
 use contact::LocalRefusal;
 use contact::Localized;
 use contact::Verdict;
@@ -13,12 +14,12 @@ ghost use lib.ListN.{length, take};
 ghost use Rattle.text.specs.Limits.{base};
 ghost use Rattle.contact.specs.Localize.{localizedOf};
 ghost use Rattle.contact.specs.Contract.{Localizes};
-ghost use Rattle.card.specs.Localizing.{judgedOutcome, Rejudged, Answers, usedBy};
+ghost use Rattle.card.specs.Localizing.{judgedOutcome, Yields, Answers, usedBy};
 
 // 28, or the rows: the first n bytes of the output are judged as any text is.
 fn judge_written(out: &[u8], n: usize, table: &mut [u32]) -> Localized
     requires { ⌜ n ≤ length (now out) ⌝ }
-    ensures { λ r. ⌜ ((room : ℕ) → Rejudged (length (now (table .entry))) (judgedOutcome (length (now (table .entry))) room (take n (now (out .entry)))) r (now (table .exit))) ⌝ }
+    ensures { λ r. ⌜ ((room : ℕ) → Yields (length (now (table .entry))) (judgedOutcome (length (now (table .entry))) room (take n (now (out .entry)))) r (now (table .exit))) ⌝ }
 {
     match judge(&out[..n], table) {
         Verdict::Passed(rows) => Localized::Written(rows, n),
@@ -26,15 +27,18 @@ fn judge_written(out: &[u8], n: usize, table: &mut [u32]) -> Localized
     }
 }
 
-// All but clearing: conditions 1 to 14 on the card, 21 to 27 as it is written, and 28 on what is written.
+// All but clearing the output: conditions 1 to 14 on the card, 21 to 27 as it is written, and 28 on what is written.
 fn localize_in(text: &[u8], language: &[u8], out: &mut [u8], table: &mut [u32]) -> Localized
     ensures { λ r. ⌜ Answers (length (now (table .entry))) (localizedOf base (length (now (table .entry))) (length (now (out .entry))) (now (text .entry)) (now (language .entry))) r (now (table .exit)) (now (out .exit)) ⌝ }
 {
-    if let Verdict::Failed(r) = judge(text, table) {
+    if let Verdict::Failed(r) = judge_kept(text, table) {
         return Localized::Denied(LocalRefusal::Given(r));
     }
     match compose_for(text, table, language, out) {
-        Attempt::Refused(r) => Localized::Denied(r),
+        Attempt::Refused(r) => {
+            clear_words(table);
+            Localized::Denied(r)
+        }
         Attempt::Bytes(n) => judge_written(out, n, table),
     }
 }
@@ -56,8 +60,5 @@ pub fn localize(text: &[u8], language: &[u8], out: &mut [u8], table: &mut [u32])
     let a = localize_in(text, language, out, table);
     let used = bytes_used(a);
     clear_bytes(&mut out[used..]);
-    if let Localized::Denied(_) = a {
-        clear_words(table);
-    }
     a
 }

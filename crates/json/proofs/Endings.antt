@@ -3,26 +3,20 @@
 --     again-good, again-bad                a second reading's answer
 --     whole-none                           a table without a row
 --     whole-rows, whole-all, whole-again, whole-other      from a reading with as many values as the table has rows to the answer
---     rows-fit, read-left                  the rows that are used, and zeros behind them
 -- Assumes nothing.
-use Prim.Native.Nat.{ℕ, zero, suc, _*_, _-_, _≤_, _<_}
+use Prim.Native.Nat.{ℕ, zero, suc, _≤_, _<_}
 use mathlib.Core.Path.{_≡_, refl, subst, _∙_}
-use mathlib.Core.List.{List, _++_, append-assoc, append-nil}
+use mathlib.Core.List.{List}
 use mathlib.Core.Bool.{Bool, true, false, cond}
-use native.Mathlib.Nat.{sub-zero}
 use native.Mathlib.Omega.{arith}
-use lib.ListN.{length, take, replicate}
-use lib.Seq.{sets, sets-eq, drop-length, take-append-seam}
-use borrow.Rule.Slice.PartMut.{midOf, putMid, mid-len, post-is}
+use lib.ListN.{length}
 use borrow.Author.Needs.{needs}
 use borrow.Author.Tests.{lt-ltb, le-ltb}
-use Rattle.laws.specs.Lists.{filled}
 use Rattle.text.specs.Limits.{Limits, rowWords, base}
 use Rattle.text.specs.Tokens.{skip}
-use Rattle.text.specs.Tree.{Bracket, Forest, size, rowsOf}
+use Rattle.text.specs.Tree.{Bracket, Forest, size}
 use Rattle.text.specs.Reader.{Read, good, bad, scalarWith, scalarAt, closeOf, container, deep, valueWith, valueAt, arrayAt, objectAt}
-use Rattle.text.specs.Whole.{endOf, readOf, wholeOf, sheetOf, tableOf, Reads}
-use Rattle.text.specs.Sheet as sheet
+use Rattle.text.specs.Whole.{endOf, readOf, wholeOf}
 use Rattle.text.specs.declared.Token.{Token}
 use Rattle.text.specs.declared.Token.the-variants.{End, No2, No3}
 use Rattle.text.specs.declared.Refusal.{Refusal}
@@ -30,10 +24,9 @@ use Rattle.text.specs.declared.Refusal.the-variants.{TooLong, Grammar, Characte
 use Rattle.text.specs.declared.Reading.{Reading}
 use Rattle.text.specs.declared.Reading.the-variants.{Rows, Refused}
 use Rattle.text.proofs.Laws.{value-parts}
-use Rattle.text.proofs.Standing.{rows-length}
 use Rattle.text.proofs.Fewer.{NotMany, whole-bad, small-whole, first-good, first-bad, many-small}
 use Rattle.json.specs.Parts.{upTo}
-use Rattle.json.specs.Answers.{Room, Ended, rowsUsed, isMany, againOf}
+use Rattle.json.specs.Answers.{Room, Ended, isMany, againOf}
 
 -- ---- a text by its value and what follows it ----
 
@@ -164,38 +157,3 @@ module _ (words : ℕ) (t old new : List ℕ) where
     whole-again l (Repeated p) m b a e = let z : _≡_ {A = ℕ} 0 1 = cc in absurd (omega arith)
     whole-again l (Deep p) m b a e = let z : _≡_ {A = ℕ} 0 1 = cc in absurd (omega arith)
     whole-again l (Small n) m b a e = let z : _≡_ {A = ℕ} 0 1 = cc in absurd (omega arith)
-
--- ---- the answer ----
-
-take-sets : (vs l : List ℕ) → length vs ≤ length l → take (length vs) (sets l 0 vs) ++ replicate (length l - length vs) 0 ≡ filled (length l) vs
-take-sets vs l h = rw (sets-eq vs l 0 (omega arith), append-assoc, take-append-seam)
-
-pub rows-fit : (R : Read) (old new : List ℕ) (a : Reading) → Ended R old new a → rowsUsed a * rowWords ≤ length old
-rows-fit R old new (Rows n) s = s .room
-rows-fit R old new (Refused r) s = omega arith
-
--- behind what is used the table is cleared
-rest-cleared : (l : List ℕ) (n : ℕ) → n ≤ length l → {rest : List ℕ} → rest ≡ replicate (length (midOf n (length l - n) l)) 0
-    → putMid n (length l - n) l rest ≡ take n l ++ replicate (length l - n) 0
-rest-cleared l n h e = rw (e, mid-len n (length l) l (omega arith), post-is n (length l) l h, drop-length, append-nil)
-
--- the rows, and zeros behind them
-left-of : (t old mid new : List ℕ) (a : Reading) → Ended (wholeOf base (length old) t) old mid a
-    → new ≡ take (rowsUsed a * rowWords) mid ++ replicate (length old - rowsUsed a * rowWords) 0 → Reads base (length old) t a new
-unfolding sheet.paper sheetOf tableOf
-left-of t old mid new (Rows n) s e =
-    let f = s .trees in
-    let h = rows-length f in
-    let u : n * rowWords ≡ length (rowsOf f) = omega (arith, s .count) in
-    record {
-      answered = rw (s .is, s .count);
-      left = e ∙ rw (s .is, u, s .table) (take-sets (rowsOf f) old (omega (arith, s .room)));
-    }
-left-of t old mid new (Refused r) s e = record { answered = rw s; left = e ∙ rw (s, sub-zero) }
-
-pub read-left : (t old mid : List ℕ) (a : Reading) (used : ℕ) {rest : List ℕ} → Ended (wholeOf base (length old) t) old mid a → length mid ≡ length old
-    → used ≡ rowsUsed a → rest ≡ replicate (length (midOf (used * rowWords) (length mid - used * rowWords) mid)) 0
-    → Reads base (length old) t a (putMid (used * rowWords) (length mid - used * rowWords) mid rest)
-read-left t old mid a used {rest} s long is clear =
-    let fit = rows-fit (wholeOf base (length old) t) old mid a s in
-    left-of t old mid _ a s (rest-cleared mid (used * rowWords) (omega arith) clear ∙ rw (is, long))

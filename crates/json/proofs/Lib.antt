@@ -8,5 +8,6 @@ pub mod Ways
 pub mod Items
 pub mod Closing
 pub mod Endings
+pub mod Kept
 pub mod Unread
 pub mod Seeking

@@ -3,15 +3,27 @@ use Prim.Native.Nat.{ℕ, suc, _*_, _≤_, _<_}
 use mathlib.Core.Path.{_≡_}
 use mathlib.Core.List.{List}
 use mathlib.Core.Bool.{Bool, true, false}
-use lib.ListN.{length}
+use lib.ListN.{length, replicate}
 use lib.Seq.{sets}
-use Rattle.text.specs.Limits.{rowWords, base}
-use Rattle.text.specs.Tree.{Forest, size, rowsOf}
+use Rattle.text.specs.Limits.{Limits, rowWords, base}
+use Rattle.text.specs.Tree.{Forest, size, rowsOf, treeRows}
 use Rattle.text.specs.Reader.{Read, good, bad}
+use Rattle.text.specs.Sheet.{paper}
+use Rattle.text.specs.Whole.{wholeOf, sheetOf}
 use Rattle.text.specs.declared.Refusal.{Refusal}
 use Rattle.text.specs.declared.Refusal.the-variants.{TooLong, Grammar, Character, Repeated, Deep, Many, Small}
 use Rattle.text.specs.declared.Reading.{Reading}
 use Rattle.text.specs.declared.Reading.the-variants.{Rows, Refused}
+
+-- what is left in a table where nothing is cleared behind the rows: these over its first words; after a refusal zeros alone
+abbrev pub keptOf : (old : List ℕ) → Read → List ℕ
+keptOf old (good f to) = sets old 0 (treeRows f)
+keptOf old (bad r) = replicate (length old) 0
+
+-- the answer, and every word of the table, of a reading that leaves what is behind the rows
+pub record ReadsRows (L : Limits) (t old : List ℕ) (answer : Reading) (new : List ℕ) : Type 0 where
+  pub answered : paper answer ≡ sheetOf (wholeOf L (length old) t)
+  pub left : new ≡ keptOf old (wholeOf L (length old) t)
 
 -- as many values as a table of so many words has rows, but no more than 01 allows
 pub record Room (words r : ℕ) : Type 0 where
@@ -32,11 +44,6 @@ pub record Stored (R : Read) (old new : List ℕ) (n : ℕ) : Type 0 where
 abbrev pub Ended : Read → (old new : List ℕ) → Reading → Type 0
 Ended R old new (Rows n) = Stored R old new n
 Ended R old new (Refused r) = R ≡ bad r
-
--- the rows that an answer uses of the table
-abbrev pub rowsUsed : Reading → ℕ
-rowsUsed (Rows n) = n
-rowsUsed (Refused r) = 0
 
 -- is it the refusal of one value too many?
 abbrev pub isMany : Refusal → Bool

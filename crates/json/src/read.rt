@@ -15,30 +15,33 @@ ghost use lib.ListN.{length};
 ghost use Rattle.text.specs.Limits.{rowWords, base};
 ghost use Rattle.text.specs.Whole.{readOf, wholeOf, Reads};
 ghost use Rattle.json.specs.Parts.{upTo};
-ghost use Rattle.json.specs.Answers.{Room, Ended, rowsUsed, isMany, againOf};
+ghost use Rattle.json.specs.Answers.{ReadsRows, Room, Ended, isMany, againOf};
 
 // Reads a text: its rows and zeros after them, or the refusal and zeros alone.
 pub fn read(text: &[u8], table: &mut [u32]) -> Reading
     ensures { λ r. ⌜ Reads base (length (now (table .entry))) (now (text .entry)) r (now (table .exit)) ⌝ }
 {
     let answer = read_rows(text, table);
-    let used = rows_used(answer) * ROW_WORDS;
-    clear_words(&mut table[used..]);
+    if let Reading::Rows(n) = answer {
+        let used = n * ROW_WORDS;
+        clear_words(&mut table[used..]);
+    }
     answer
 }
 
-// How many rows of the table are used.
-fn rows_used(answer: Reading) -> usize
-    ensures { λ r. ⌜ r ≡ rowsUsed answer ⌝ }
+// The same, for a caller that clears later: the words behind the rows stay as they were. After a refusal zeros alone.
+pub fn read_rows(text: &[u8], table: &mut [u32]) -> Reading
+    ensures { λ r. ⌜ ReadsRows base (now (text .entry)) (now (table .entry)) r (now (table .exit)) ⌝ }
 {
-    match answer {
-        Reading::Rows(n) => n,
-        Reading::Refused(_) => 0,
+    let answer = read_over(text, table);
+    if let Reading::Refused(_) = answer {
+        clear_words(table);
     }
+    answer
 }
 
 // The answer, and the rows in the table, which may hold anything after a refusal. A table without a row is too small for any text.
-fn read_rows(text: &[u8], table: &mut [u32]) -> Reading
+fn read_over(text: &[u8], table: &mut [u32]) -> Reading
     ensures { λ r. ⌜ Ended (wholeOf base (length (now (table .entry))) (now (text .entry))) (now (table .entry)) (now (table .exit)) r ⌝ }
 {
     if table.len() < ROW_WORDS {

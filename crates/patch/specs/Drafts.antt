@@ -7,9 +7,9 @@ use mathlib.Core.Option.{Option, none, some}
 use lib.Dec.{ltb}
 use lib.ListN.{length}
 use lib.Seq.{sets}
-use Rattle.laws.specs.Lists.{filled}
 use Rattle.text.specs.Limits.{Limits, base}
-use Rattle.text.specs.Tree.{Forest, treeRows}
+use Rattle.text.specs.Tree.{Forest}
+use Rattle.text.specs.Standing.{Stands}
 use Rattle.text.specs.Firsts.{insideAt}
 use Rattle.text.specs.Doc.{Name, Doc, scalar, array, object, Members, Property, membersOf, docOf}
 use Rattle.text.specs.Writing.{written}
@@ -68,10 +68,10 @@ draftOutcome L words room (refusal q) = denied q
 
 -- ---- contracts
 
--- the text passes as a card, and the table holds its rows
+-- the text passes as a card, and the table begins with its rows, whatever is behind them
 pub record CardIn (t table : List ℕ) (f : Forest) : Type 0 where
   pub passes : judgedOf base (length table) t ≡ passed f
-  pub rows : table ≡ filled (length table) (treeRows f)
+  pub rows : Stands table 0 f
 
 -- the bytes of what the entries make of the card can be counted, unless they break a condition
 abbrev pub Countable : Doc → Members → Type 0

@@ -3,32 +3,39 @@
 --     card-place                  the place of a breach is a word of its row
 --     read-into                   what reading's answer says of the rows
 --     rows-judged, text-refused   the verdict after the rows, and after a refusal of reading
+--     passed-rows, failed-rows    what the verdict says of the text and the table
+--     judged-cleared, judged-refused      and so to judging's contract
 -- Assumes nothing.
-use Prim.Native.Nat.{ℕ, _+_}
+use Prim.Native.Nat.{ℕ, _+_, _*_, _-_, _≤_}
 use mathlib.Core.Path.{_≡_, refl, sym, ap, _∙_}
 use mathlib.Core.List.{List}
 use native.Mathlib.Nat.{sub-zero}
 use native.Mathlib.Omega.{arith}
 use lib.ListN.{length, getD, replicate}
-use Rattle.text.specs.Limits.{base}
-use Rattle.text.specs.Tree.{Forest, size, startsOf}
+use lib.Seq.{sets}
+use borrow.Rule.Slice.PartMut.{midOf, putMid}
+use Rattle.text.specs.Limits.{rowWords, base}
+use Rattle.text.specs.Tree.{Forest, size, treeRows, startsOf}
 use Rattle.text.specs.Firsts.{Kinds}
 use Rattle.text.specs.Doc.{docOf}
 use Rattle.text.specs.Reader.{good}
-use Rattle.text.specs.Whole.{wholeOf, tableOf, Reads}
+use Rattle.text.specs.Whole.{wholeOf}
 use Rattle.text.specs.declared.Refusal.{Refusal}
 use Rattle.text.specs.declared.Reading.the-variants.{Rows, Refused}
-use Rattle.text.proofs.Promise.{placed-kinds, start-at, rows-tree, refusal-is}
+use Rattle.text.proofs.Promise.{placed-kinds, start-at, whole-good}
 use Rattle.json.specs.Rows.{startIn}
+use Rattle.json.specs.Answers.{ReadsRows}
+use Rattle.json.proofs.Kept.{rows-there, refused-there, tail-cleared}
 use Rattle.contact.specs.Judge.{Breach, nothing, found, cardBreach}
-use Rattle.contact.specs.Verdict.{faultOf, byBreach, judgedRead, judgedOf, paperOfVerdict, sheetOfJudged, tableOfJudged}
+use Rattle.contact.specs.Verdict.{faultOf, byBreach, judgedRead, Judged, passed, failed, judgedOf, answerOfJudged, paperOfVerdict, sheetOfJudged, tableOfJudged}
 use Rattle.contact.specs.Judging.{Judges}
+use Rattle.contact.specs.declared.CardRefusal.{CardRefusal}
 use Rattle.contact.specs.declared.CardRefusal.the-variants.{Text, Card}
 use Rattle.contact.specs.declared.Verdict.{Verdict}
 use Rattle.contact.specs.declared.Verdict.the-variants.{Passed, Failed}
 use Rattle.contact.proofs.Judging.{judging}
 use Rattle.card.specs.Rows.{ValueAt}
-use Rattle.card.specs.Judged.{ReadInto, Found, JudgedRows}
+use Rattle.card.specs.Judged.{ReadInto, Found, JudgedRows, keptOfJudged, JudgesRows}
 
 module _ {t table : List ℕ} {n : ℕ} {f : Forest} (h : ReadInto t table n f) where
   pub card-value : ValueAt table 0 f
@@ -45,44 +52,89 @@ module _ {t table : List ℕ} {n : ℕ} {f : Forest} (h : ReadInto t table n f) 
 
 -- ---- reading's answer ----
 
-pub read-into : (t lent table : List ℕ) (n : ℕ) → length table ≡ length lent → Reads base (length lent) t (Rows n) table
-    → (f : Forest) × ReadInto t table n f
+pub read-into : (t lent table : List ℕ) (n : ℕ) → length table ≡ length lent → ReadsRows base t lent (Rows n) table
+    → (f : Forest) × ReadInto t table n f × (table ≡ sets lent 0 (treeRows f))
 read-into t lent table n l h =
-    let r = rows-tree base (length lent) t table n h in (
-      r .tree,
-      record {
-        filled = r .filled-by;
-        count = r .count;
-        end = r .end;
-        whole = rw l (r .whole);
-        rows = h .left ∙ ap (tableOf (length lent)) (r .whole) ∙ ap (λ k. tableOf k (good (r .tree) (r .end))) (sym l);
-      },
-    )
+    let (s, filled) = rows-there h in
+    (s .trees, record { filled = filled; count = sym (s .count); end = s .to; whole = rw l (s .is) }, s .table)
 
 -- ---- the verdict ----
 
 module _ (t lent new : List ℕ) where
   passes : (n : ℕ) (f : Forest) (to : ℕ) (r : Verdict) → wholeOf base (length lent) t ≡ good f to → size f ≡ n → cardBreach (docOf t f) ≡ nothing
-      → r ≡ Passed n → new ≡ tableOf (length lent) (good f to) → Judges base t lent r new
-  unfolding judgedOf judgedRead byBreach paperOfVerdict sheetOfJudged tableOfJudged tableOf
-  passes n f to r w c e p q = record { answered = rw (p, w, e, c); table = rw (w, e) q }
+      → r ≡ Passed n → new ≡ sets lent 0 (treeRows f) → JudgesRows t lent r new
+  unfolding judgedOf judgedRead byBreach
+  passes n f to r w c e p q = record { answered = rw (p, w, e, c); left = rw (w, e) q }
 
   fails : (f : Forest) (to row number : ℕ) (r : Verdict) → wholeOf base (length lent) t ≡ good f to → cardBreach (docOf t f) ≡ found row number
-      → r ≡ Failed (Card (faultOf number (getD (startsOf f) row 0))) → new ≡ replicate (length lent) 0 → Judges base t lent r new
-  unfolding judgedOf judgedRead byBreach paperOfVerdict sheetOfJudged tableOfJudged
-  fails f to row number r w e p q = record { answered = rw (p, w, e); table = rw (w, e, sub-zero) q }
+      → r ≡ Failed (Card (faultOf number (getD (startsOf f) row 0))) → new ≡ replicate (length lent) 0 → JudgesRows t lent r new
+  unfolding judgedOf judgedRead byBreach
+  fails f to row number r w e p q = record { answered = rw (p, w, e); left = rw (w, e) q }
 
-  pub text-refused : (r : Refusal) → Reads base (length lent) t (Refused r) new → Judges base t lent (Failed (Text r)) new
-  unfolding judgedOf judgedRead paperOfVerdict sheetOfJudged tableOfJudged tableOf
-  text-refused r h = let x = refusal-is base (length lent) t new r h in record { answered = rw (x .whole); table = rw (x .whole) (x .cleared) }
+  pub text-refused : (r : Refusal) → ReadsRows base t lent (Refused r) new → JudgesRows t lent (Failed (Text r)) new
+  unfolding judgedOf judgedRead
+  text-refused r h = let (w, zeros) = refused-there h in record { answered = rw w; left = rw w zeros }
 
 pub rows-judged : (t lent old new : List ℕ) (n : ℕ) (f : Forest) (r : Verdict) → length old ≡ length lent → ReadInto t old n f
-    → JudgedRows t old n f r new → Judges base t lent r new
-rows-judged t lent old new n f r l h j = go (cardBreach (docOf t f)) refl j
+    → old ≡ sets lent 0 (treeRows f) → JudgedRows t old n f r new → JudgesRows t lent r new
+rows-judged t lent old new n f r l h is j = go (cardBreach (docOf t f)) refl j
   where
     whole : wholeOf base (length lent) t ≡ good f (h .end)
     whole = rw l at (h .whole)
 
-    go : (b : Breach) → cardBreach (docOf t f) ≡ b → Found old n f b r new → Judges base t lent r new
-    go nothing e p = passes t lent new n f (h .end) r whole (h .count) e (p .0) (p .1 ∙ h .rows ∙ ap (λ k. tableOf k (good f (h .end))) l)
+    go : (b : Breach) → cardBreach (docOf t f) ≡ b → Found old n f b r new → JudgesRows t lent r new
+    go nothing e p = passes t lent new n f (h .end) r whole (h .count) e (p .0) (p .1 ∙ is)
     go (found row number) e p = fails t lent new f (h .end) row number r whole e (p .0) (p .1 ∙ ap (λ k. replicate k 0) l)
+
+-- ---- clearing ----
+
+-- a card that passed: its tree, and its rows over the first words of the table
+pub record PassedRows (t lent table : List ℕ) (n : ℕ) : Type 0 where
+  pub tree : Forest
+  pub is : judgedOf base (length lent) t ≡ passed tree
+  pub count : n ≡ size tree
+  pub rows : table ≡ sets lent 0 (treeRows tree)
+  pub room : rowWords * size tree ≤ length lent
+
+module _ {t lent table : List ℕ} where
+  module _ {n : ℕ} (h : JudgesRows t lent (Passed n) table) where
+    pub passed-rows : PassedRows t lent table n
+    passed-rows = go (judgedOf base (length lent) t) refl
+      where
+        go : (o : Judged) → judgedOf base (length lent) t ≡ o → PassedRows t lent table n
+        go (passed f) e =
+            let answer : Passed n ≡ Passed (size f) = h .answered ∙ ap answerOfJudged e in
+            let (to, whole, keeps) = judging .accepted base (length lent) t f .0 e in
+            record { tree = f; is = e; count = cc; rows = h .left ∙ ap (keptOfJudged lent) e; room = whole-good base (length lent) t f to whole .room }
+        go (failed r) e =
+            let answer : Passed n ≡ Failed r = h .answered ∙ ap answerOfJudged e in
+            let z : _≡_ {A = ℕ} 0 1 = cc in
+            absurd (omega arith)
+
+    pub judged-cleared : {rest : List ℕ} → rest ≡ replicate (length (midOf (n * rowWords) (length table - n * rowWords) table)) 0
+        → Judges base t lent (Passed n) (putMid (n * rowWords) (length table - n * rowWords) table rest)
+    unfolding sheetOfJudged tableOfJudged
+    judged-cleared clear =
+        let p = passed-rows in
+        record {
+          answered = ap paperOfVerdict (h .answered);
+          table = tail-cleared (p .tree) lent (p .room) (p .rows) n (p .count) clear ∙ rw (p .is);
+        }
+
+  module _ {r : CardRefusal} (h : JudgesRows t lent (Failed r) table) where
+    pub failed-rows : (judgedOf base (length lent) t ≡ failed r) × (table ≡ replicate (length lent) 0)
+    failed-rows = go (judgedOf base (length lent) t) refl
+      where
+        go : (o : Judged) → judgedOf base (length lent) t ≡ o → (judgedOf base (length lent) t ≡ failed r) × (table ≡ replicate (length lent) 0)
+        go (passed f) e =
+            let answer : Failed r ≡ Passed (size f) = h .answered ∙ ap answerOfJudged e in
+            let z : _≡_ {A = ℕ} 0 1 = cc in
+            absurd (omega arith)
+        go (failed q) e =
+            let answer : Failed r ≡ Failed q = h .answered ∙ ap answerOfJudged e in
+            let same : q ≡ r = cc in
+            (e ∙ ap failed same, h .left ∙ ap (keptOfJudged lent) e)
+
+    pub judged-refused : Judges base t lent (Failed r) table
+    unfolding sheetOfJudged tableOfJudged
+    judged-refused = record { answered = ap paperOfVerdict (h .answered); table = failed-rows .1 ∙ rw (failed-rows .0, sub-zero) }

@@ -4,7 +4,7 @@
 --     for-none, for-nothing, for-other, for-object     what it has for a language: no localizations, nothing, no object, or a PatchObject
 -- Assumes nothing.
 use Prim.Native.Nat.{ℕ}
-use mathlib.Core.Path.{_≡_, refl, sym, ap, subst, _∙_}
+use mathlib.Core.Path.{_≡_, refl, sym, ap, _∙_}
 use mathlib.Core.List.{List}
 use mathlib.Core.Bool.{true}
 use mathlib.Core.Option.{none, some}
@@ -13,13 +13,12 @@ use lib.ListN.{length}
 use Rattle.text.specs.Limits.{base}
 use Rattle.text.specs.Text.{bytes}
 use Rattle.text.specs.Tree.{Forest}
-use Rattle.text.specs.Standing.{Stands}
 use Rattle.text.specs.Firsts.{HasFirst, insideAt}
 use Rattle.text.specs.Doc.{Name, Doc, scalar, array, object, kindOf, Members, property, membersOf, docOf}
 use Rattle.text.specs.Reader.{good}
 use Rattle.text.specs.Whole.{readOf}
 use Rattle.text.specs.Promised.{Promised}
-use Rattle.text.proofs.Promise.{promised, whole-good, filled-stands, placed-kinds, doc-object}
+use Rattle.text.proofs.Promise.{promised, whole-good, placed-kinds, doc-object}
 use Rattle.contact.specs.Pointer.{find}
 use Rattle.contact.specs.Localize.{patchAt}
 use Rattle.contact.specs.Conditions.{PatchOf}
@@ -54,12 +53,7 @@ module _ {t table : List ℕ} {f : Forest} (c : CardIn t table f) where
   card-held =
       let p = card-promised in
       record {
-        value =
-            record {
-              some = p .some;
-              kinds = placed-kinds (p .placed);
-              stands = subst (λ (l : List ℕ). Stands l 0 f) (sym (c .rows)) (filled-stands (length table) f .stands);
-            };
+        value = record { some = p .some; kinds = placed-kinds (p .placed); stands = c .rows };
         within = omega (arith, p .few);
       }
 

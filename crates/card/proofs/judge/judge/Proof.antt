@@ -1,45 +1,32 @@
--- `card::judge::judge` meets its contract. Assumes nothing.
-use denote.Ref.{now}
-use Rattle.card.proofs.Judging.Verdict.{read-into, rows-judged, text-refused}
+-- `card::judge::judge` meets its contract: behind the rows of a card that passes the table is cleared. Assumes nothing.
+use Prim.Native.Nat.{_*_, _≤_}
+use native.Mathlib.Omega.{arith}
+use lib.ListN.{length}
 use borrow.Author.Needs.{needs}
+use Rattle.text.specs.Limits.{rowWords}
+use Rattle.card.proofs.Judging.Verdict.{passed-rows, judged-cleared, judged-refused}
 use Rattle.card.proofs.judge.judge.Statement.{statement}
 use Rattle.card.proofs.judge.judge.Tie as tie
 
-judge-rows-requires : tie.Need-judge-rows-requires
-judge-rows-requires c κs =
-    let a = c .before .before .before .before .before .before .before .before .before .before .args in
-    let read = c .before .before .before .before .before .before .read in
-    let n = c .before .before .n in
-    (read-into (now (a .text)) (now (a .table)) (read .last .1 .0) (n .given .0 .0) (read .kept .1 .0) (rw (n .given .1) at (read .ensures)))
+-- the rows fit
+fit : (c : tie.After-known-told) → c .before .v .given .0 .0 * rowWords ≤ length (c .before .before .before .before .before .judge-kept .last .1 .0)
+fit c =
+    let judge-kept = c .before .before .before .before .before .judge-kept in
+    let p = passed-rows (rw (c .before .v .given .1) at (judge-kept .ensures)) in
+    omega (arith, p .room, p .count, judge-kept .kept .1 .0)
 
 returns : tie.Need-returns
 returns c =
-    let a = c .before .before .before .before .before .before .before .before .before .args in
-    let read = c .before .before .before .before .before .read in
-    text-refused (now (a .text)) (now (a .table)) (read .last .1 .0) (c .before .r .given .0 .0) (rw (c .before .r .given .1) at (read .ensures))
+    let told = c .before .before .before .before .before in
+    let judge-kept = told .before .before .before .before .judge-kept in
+    judged-cleared (rw (told .v .given .1) at (judge-kept .ensures)) (c .before .before .clear-words .ensures)
 
 returns-2 : tie.Need-returns-2
-returns-2 c =
-    let a = c .before .before .before .before .before .before .before .before .before .before .before .before .before .args in
-    let text = now (a .text) in
-    let table = now (a .table) in
-    let read = c .before .before .before .before .before .before .before .before .before .read in
-    let n = c .before .before .before .before .before .n in
-    let judge-rows = c .before .before .judge-rows in
-    let (f, h) =
-    (read-into text table (read .last .1 .0) (n .given .0 .0) (read .kept .1 .0) (rw (n .given .1) at (read .ensures))) in
-    rows-judged text table (read .last .1 .0) (judge-rows .last .1 .0) (n .given .0 .0) f (judge-rows .result) (read .kept .1 .0) h
-    (judge-rows .ensures f h)
+returns-2 c = let is = c .enum-told .given .1 in rw is (judged-refused (rw is at (c .before .before .before .before .judge-kept .ensures)))
 
 pub judge-spec : {M : Type 1} → statement M
 judge-spec =
     tie.close
-    (tie.spec
-    (λ c κs. search needs)
-    (λ c. search needs)
-    (λ c. search needs)
-    judge-rows-requires
-    (λ c. search needs)
-    returns
-    (λ c. search needs)
+    (tie.spec (λ c κs. search needs) (λ c. search needs) (λ c. omega (arith, fit c)) (λ c. omega (arith, fit c)) (λ c. omega (arith, fit c))
+    (λ c. omega (arith, fit c)) (λ c. omega (arith, fit c)) (λ c κs. search needs) (λ c. search needs) (λ c. search needs) returns (λ c. search needs)
     returns-2)

@@ -1,0 +1,104 @@
+-- A table that was read into, before and after it is cleared:
+--     kept-rows, kept-none           from a reading's answer to `ReadsRows` (specs/Answers.antt)
+--     rows-there, refused-there      what `ReadsRows` says of the text and the table
+--     one-outcome                    two outcomes that it allows are equal
+--     rest-cleared, tail-cleared     clearing behind what is used, and behind the rows
+--     read-cleared, read-refused     and so to reading's contract
+-- Assumes nothing.
+use Prim.Native.Nat.{ℕ, _+_, _*_, _-_, _≤_}
+use mathlib.Core.Path.{_≡_, refl, sym, ap, _∙_}
+use mathlib.Core.List.{List, _++_, append-assoc, append-nil}
+use native.Mathlib.Nat.{sub-zero}
+use native.Mathlib.Omega.{arith}
+use lib.ListN.{length, take, drop, replicate}
+use lib.Seq.{sets, sets-eq, length-sets, drop-length, take-append-seam}
+use borrow.Rule.Slice.PartMut.{midOf, putMid, mid-len, post-is}
+use Rattle.laws.specs.Lists.{filled}
+use Rattle.text.specs.Limits.{Limits, rowWords, base}
+use Rattle.text.specs.Tree.{Forest, size, rowsOf}
+use Rattle.text.specs.Standing.{StandsTo}
+use Rattle.text.specs.Promised.{Filled}
+use Rattle.text.specs.Reader.{bad}
+use Rattle.text.specs.Sheet.{paper}
+use Rattle.text.specs.Whole.{wholeOf, sheetOf, tableOf, Reads}
+use Rattle.text.specs.declared.Refusal.{Refusal}
+use Rattle.text.specs.declared.Reading.{Reading}
+use Rattle.text.specs.declared.Reading.the-variants.{Rows, Refused}
+use Rattle.text.proofs.Standing.{rows-length, rows-stand}
+use Rattle.text.proofs.Promise.{paper-unique, rows-tree, refusal-is}
+use Rattle.json.specs.Answers.{keptOf, ReadsRows, Stored, Ended}
+
+pub one-outcome : (L : Limits) (t old : List ℕ) (a b : Reading) (x y : List ℕ) → ReadsRows L t old a x → ReadsRows L t old b y → (a ≡ b) × (x ≡ y)
+one-outcome L t old a b x y h k = (paper-unique a b (h .answered ∙ sym (k .answered)), h .left ∙ sym (k .left))
+
+-- ---- clearing
+
+-- behind what is used the table is cleared
+pub rest-cleared : (l : List ℕ) (n : ℕ) → n ≤ length l → {rest : List ℕ} → rest ≡ replicate (length (midOf n (length l - n) l)) 0
+    → putMid n (length l - n) l rest ≡ take n l ++ replicate (length l - n) 0
+rest-cleared l n h e = rw (e, mid-len n (length l) l (omega arith), post-is n (length l) l h, drop-length, append-nil)
+
+take-sets : (vs l : List ℕ) → length vs ≤ length l → take (length vs) (sets l 0 vs) ++ replicate (length l - length vs) 0 ≡ filled (length l) vs
+take-sets vs l h = rw (sets-eq vs l 0 (omega arith), append-assoc, take-append-seam)
+
+-- the rows were written over a table's first words
+module _ (f : Forest) (old : List ℕ) (room : rowWords * size f ≤ length old) {mid : List ℕ} (is : mid ≡ sets old 0 (rowsOf f)) where
+  pub rows-stay : StandsTo mid 0 (size f) f
+  rows-stay =
+      let h = rows-length f in
+      record {
+        stands = rows-stand mid 0 f (drop (0 + length (rowsOf f)) old) (omega arith) (is ∙ sets-eq (rowsOf f) old 0 (omega arith));
+        ends = omega arith;
+      }
+
+  pub tail-cleared : (n : ℕ) → n ≡ size f → {rest : List ℕ} → rest ≡ replicate (length (midOf (n * rowWords) (length mid - n * rowWords) mid)) 0
+      → putMid (n * rowWords) (length mid - n * rowWords) mid rest ≡ filled (length old) (rowsOf f)
+  tail-cleared n count clear =
+      let h = rows-length f in
+      let used : n * rowWords ≡ length (rowsOf f) = omega arith in
+      let long : length mid ≡ length old = ap length is ∙ length-sets old 0 (rowsOf f) in
+      rest-cleared mid (n * rowWords) (omega arith) clear ∙ rw (long, is, used) (take-sets (rowsOf f) old (omega arith))
+
+-- ---- reading
+
+module _ {t old : List ℕ} where
+  pub kept-rows : {n : ℕ} {new : List ℕ} → Ended (wholeOf base (length old) t) old new (Rows n) → ReadsRows base t old (Rows n) new
+  unfolding paper sheetOf
+  kept-rows s = record { answered = rw (s .is, s .count); left = rw (s .is) (s .table) }
+
+  pub kept-none : (mid : List ℕ) {r : Refusal} {new : List ℕ} → Ended (wholeOf base (length old) t) old mid (Refused r) → length mid ≡ length old
+      → new ≡ replicate (length mid) 0 → ReadsRows base t old (Refused r) new
+  unfolding paper sheetOf
+  kept-none mid s long e = record { answered = rw s; left = e ∙ rw (s, long) }
+
+  -- what the reading layer promises is said of the table that is cleared behind the rows
+  as-read : {a : Reading} {new : List ℕ} → ReadsRows base t old a new → Reads base (length old) t a (tableOf (length old) (wholeOf base (length old) t))
+  as-read h = record { answered = h .answered; left = refl }
+
+  module _ {n : ℕ} {new : List ℕ} (h : ReadsRows base t old (Rows n) new) where
+    pub rows-there : (s : Stored (wholeOf base (length old) t) old new n) × Filled base t new n (s .trees)
+    rows-there =
+        let a = rows-tree base (length old) t _ n (as-read h) in
+        let is : new ≡ sets old 0 (rowsOf (a .tree)) = h .left ∙ ap (keptOf old) (a .whole) in
+        let stay = rows-stay (a .tree) old (omega (arith, a .room, a .count)) is in (
+          record { trees = a .tree; to = a .end; is = a .whole; count = sym (a .count); table = is; room = omega (arith, a .room) },
+          record { promised = a .filled-by .promised; stands = rw (a .count) at stay },
+        )
+
+    pub read-cleared : {rest : List ℕ} → rest ≡ replicate (length (midOf (n * rowWords) (length new - n * rowWords) new)) 0
+        → Reads base (length old) t (Rows n) (putMid (n * rowWords) (length new - n * rowWords) new rest)
+    unfolding tableOf
+    read-cleared clear =
+        let s = rows-there .0 in
+        record {
+          answered = h .answered;
+          left = tail-cleared (s .trees) old (omega (arith, s .room, s .count)) (s .table) n (s .count) clear ∙ rw (s .is);
+        }
+
+  module _ {r : Refusal} {new : List ℕ} (h : ReadsRows base t old (Refused r) new) where
+    pub refused-there : (wholeOf base (length old) t ≡ bad r) × (new ≡ replicate (length old) 0)
+    refused-there = let w = refusal-is base (length old) t _ r (as-read h) .whole in (w, h .left ∙ ap (keptOf old) w)
+
+    pub read-refused : Reads base (length old) t (Refused r) new
+    unfolding tableOf
+    read-refused = record { answered = h .answered; left = refused-there .1 ∙ rw (refused-there .0, sub-zero) }
