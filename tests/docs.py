@@ -111,12 +111,13 @@ def named(page):
 def unknown():
     """What the two pages name and nothing declares: files, must-fail edits, and names in backquotes."""
     known = declared() | OTHERS
+    crates = "|".join(sorted(os.listdir(os.path.join(ROOT, "crates"))))
     for name in ("PROMISES.md", "DUDS.md"):
         page = page_of(name)
-        for path in re.findall(r"(?:text|contact|laws|json|card|bezinkol|intake)/[\w/]+\.(?:antt|rt)", page):
+        for path in re.findall(rf"(?:{crates})/[\w/]+\.(?:antt|rt)", page):
             if not os.path.exists(os.path.join(ROOT, "crates", path)):
                 yield f"{name}: {path}"
-        for crate, edit in re.findall(r"[| ,](text|contact|laws|json|card|bezinkol)/([a-z0-9_]+)(?=[ ,])", page):
+        for crate, edit in re.findall(rf"[| ,]({crates})/([a-z0-9_]+)(?=[ ,])", page):
             if not os.path.exists(os.path.join(ROOT, "crates", crate, "must-fail", edit + ".edit")):
                 yield f"{name}: {crate}/{edit}"
         for word in named(page):

@@ -30,7 +30,7 @@ DUDS = [
     ("patch/order_decides contact/half_patched", localize(patch(b'"n":{},"n/x":1'), (24, 0)), b'{..,"n":{"x":1}}'),
     ("patch/order_decides contact/half_patched", localize(patch(b'"no/a":1,"y/b":1', b',"y":{}'), (26, 0)), b'{..,"y":{"b":1}}'),
     ("patch/order_decides", localize(patch(b'"y/b":1,"no/a":1', b',"y":{}'), (26, 0)), OK),
-    ("contact/tilde_undone_twice", localize(patch(b'"~01":1'), b'{..,"~1":1}'), b'{..,"/":1}'),
+    ("patch/tilde_zero_is_slash contact/tilde_undone_twice", localize(patch(b'"~01":1'), b'{..,"~1":1}'), b'{..,"/":1}'),
     ("patch/tilde_zero_is_slash", localize(patch(b'"~0a":2', b',"~a":1'), b'{..,"~a":2}'), (28, 4)),
     ("card/never_judged contact/never_judged", localize(
         patch(b'"name/full":null,"name/components":null', b"," + GIVEN), (28, 14)), b'{..,"name":{}}'),

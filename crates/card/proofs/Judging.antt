@@ -1,4 +1,5 @@
 -- Judging: single values, the members of an object, the rules between them, the walk over a card's rows, and the verdict.
+pub mod Along
 pub mod Ids
 pub mod Counts
 pub mod Times

@@ -1,5 +1,4 @@
 -- Laws by subject, which the functions' proofs cite.
-pub mod Along
 pub mod Known
 pub mod Judging
-pub mod OutcomeLaws
+pub mod Localizing

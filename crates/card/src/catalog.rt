@@ -5,6 +5,7 @@
 // words in NUMBERS; RULE_COUNT and the rules' starts after it go up by one. A word that no property has is a line in WORDS, behind the properties, and one
 // in specs/Catalog.antt; FURTHER goes up by one. A new object type is a number here, its name and how long that is, its start in both lists of starts and its
 // properties; TYPES goes up by one. COUNT, FURTHER, RULE_COUNT and TYPES stand in specs/Catalog.antt too. The proofs compute over the catalog.
+use json::bytes::BACKSLASH;
 use json::bytes::peek;
 ghost use mathlib.Core.Path.{_≡_};
 ghost use mathlib.Core.Bool.{_||_};
@@ -33,7 +34,7 @@ const IDS: u32 = 24576;
 // The items: the value of a property, or each value of a list or a map. Nothing is judged of an unknown property.
 pub(crate) const ANY: u32 = 0;
 
-pub(crate) const STRING: u32 = 1;
+pub(crate) const ANY_STRING: u32 = 1;
 
 pub(crate) const VERSION: u32 = 2;
 
@@ -50,8 +51,8 @@ pub(crate) const BOUNDED: u32 = 32;
 
 const PREF: u32 = BOUNDED;
 
-// An object of a type, as `OBJECT + NAME`, and a type's own name, as `NAME_OF + NAME`.
-pub(crate) const OBJECT: u32 = 64;
+// An object of a type, as `OBJECT_OF + NAME`, and a type's own name, as `NAME_OF + NAME`.
+pub(crate) const OBJECT_OF: u32 = 64;
 
 pub(crate) const NAME_OF: u32 = 128;
 
@@ -205,63 +206,63 @@ pub(crate) const NUMBERS: [u32; COUNT + 2 * (TYPES + 2) + RULE_COUNT * RULE_WIDT
     // Card
     5 * LONG + MUST + NAME_OF + CARD, // @type
     7 * LONG + MUST + VERSION, // version
-    3 * LONG + MUST + STRING, // uid
+    3 * LONG + MUST + ANY_STRING, // uid
     7 * LONG + TIME, // created
     7 * LONG + TIME, // updated
-    4 * LONG + STRING, // kind
-    8 * LONG + STRING, // language
-    6 * LONG + STRING, // prodId
+    4 * LONG + ANY_STRING, // kind
+    8 * LONG + ANY_STRING, // language
+    6 * LONG + ANY_STRING, // prodId
     7 * LONG + FREE + YES, // members
-    4 * LONG + OBJECT + NAME, // name
-    6 * LONG + IDS + OBJECT + EMAIL_ADDRESS, // emails
-    6 * LONG + IDS + OBJECT + PHONE, // phones
-    9 * LONG + IDS + OBJECT + ADDRESS, // addresses
+    4 * LONG + OBJECT_OF + NAME, // name
+    6 * LONG + IDS + OBJECT_OF + EMAIL_ADDRESS, // emails
+    6 * LONG + IDS + OBJECT_OF + PHONE, // phones
+    9 * LONG + IDS + OBJECT_OF + ADDRESS, // addresses
     13 * LONG + FREE + ANY_OBJECT, // localizations
     // Name
     5 * LONG + NAME_OF + NAME, // @type
-    10 * LONG + LIST + OBJECT + NAME_COMPONENT, // components
-    6 * LONG + FREE + STRING, // sortAs
+    10 * LONG + LIST + OBJECT_OF + NAME_COMPONENT, // components
+    6 * LONG + FREE + ANY_STRING, // sortAs
     9 * LONG + FLAG, // isOrdered
-    16 * LONG + STRING, // defaultSeparator
-    4 * LONG + STRING, // full
-    14 * LONG + STRING, // phoneticScript
-    14 * LONG + STRING, // phoneticSystem
+    16 * LONG + ANY_STRING, // defaultSeparator
+    4 * LONG + ANY_STRING, // full
+    14 * LONG + ANY_STRING, // phoneticScript
+    14 * LONG + ANY_STRING, // phoneticSystem
     // NameComponent
     5 * LONG + NAME_OF + NAME_COMPONENT, // @type
-    5 * LONG + MUST + STRING, // value
-    4 * LONG + MUST + STRING, // kind
-    8 * LONG + STRING, // phonetic
+    5 * LONG + MUST + ANY_STRING, // value
+    4 * LONG + MUST + ANY_STRING, // kind
+    8 * LONG + ANY_STRING, // phonetic
     // Address
     5 * LONG + NAME_OF + ADDRESS, // @type
-    10 * LONG + LIST + OBJECT + ADDRESS_COMPONENT, // components
-    11 * LONG + STRING, // countryCode
-    11 * LONG + STRING, // coordinates
-    8 * LONG + STRING, // timeZone
+    10 * LONG + LIST + OBJECT_OF + ADDRESS_COMPONENT, // components
+    11 * LONG + ANY_STRING, // countryCode
+    11 * LONG + ANY_STRING, // coordinates
+    8 * LONG + ANY_STRING, // timeZone
     8 * LONG + FREE + YES, // contexts
     4 * LONG + PREF, // pref
     9 * LONG + FLAG, // isOrdered
-    16 * LONG + STRING, // defaultSeparator
-    4 * LONG + STRING, // full
-    14 * LONG + STRING, // phoneticScript
-    14 * LONG + STRING, // phoneticSystem
+    16 * LONG + ANY_STRING, // defaultSeparator
+    4 * LONG + ANY_STRING, // full
+    14 * LONG + ANY_STRING, // phoneticScript
+    14 * LONG + ANY_STRING, // phoneticSystem
     // AddressComponent
     5 * LONG + NAME_OF + ADDRESS_COMPONENT, // @type
-    5 * LONG + MUST + STRING, // value
-    4 * LONG + MUST + STRING, // kind
-    8 * LONG + STRING, // phonetic
+    5 * LONG + MUST + ANY_STRING, // value
+    4 * LONG + MUST + ANY_STRING, // kind
+    8 * LONG + ANY_STRING, // phonetic
     // EmailAddress
     5 * LONG + NAME_OF + EMAIL_ADDRESS, // @type
-    7 * LONG + MUST + STRING, // address
+    7 * LONG + MUST + ANY_STRING, // address
     8 * LONG + FREE + YES, // contexts
     4 * LONG + PREF, // pref
-    5 * LONG + STRING, // label
+    5 * LONG + ANY_STRING, // label
     // Phone
     5 * LONG + NAME_OF + PHONE, // @type
-    6 * LONG + MUST + STRING, // number
+    6 * LONG + MUST + ANY_STRING, // number
     8 * LONG + FREE + YES, // features
     8 * LONG + FREE + YES, // contexts
     4 * LONG + PREF, // pref
-    5 * LONG + STRING, // label
+    5 * LONG + ANY_STRING, // label
     // where the properties of each type begin; two more, for what is no type
     0, // Card
     14, // Name
@@ -363,9 +364,6 @@ const NAME_SIZES: [u8; TYPES + 1] = [
 ];
 
 // ---- words
-
-// The byte that begins an escape, among the numbers that peeking gives.
-const BACKSLASH: u16 = b'\\' as u16;
 
 // The word with that number, of that size.
 pub(crate) fn sized_word(words: &[u8], i: usize, size: usize) -> &[u8]

@@ -1,4 +1,4 @@
-// The content of a string: what its token has between the quotes.
+// The content of a string (docs/RULES.md, 3.4): what its token has between the quotes.
 use json::names::part;
 use json::names::part_is;
 ghost use mathlib.Core.Path.{_≡_};

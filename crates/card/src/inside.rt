@@ -1,4 +1,4 @@
-// What stands inside a value, by its rows: from one member to the next, and the member of a name.
+// What stands inside a value, by its rows (docs/RULES.md, 4): from one member to the next, and the member of a name.
 use crate::content::is_content;
 use json::lookup;
 use json::lookup::Found;

@@ -1,4 +1,4 @@
-// Judging a text as a card.
+// Judging a text as a card (docs/RULES.md, 5).
 use crate::catalog::CARD;
 use crate::catalog::NUMBERS;
 use crate::catalog::WORDS;
@@ -82,7 +82,7 @@ pub(crate) fn judge_kept(text: &[u8], table: &mut [u32]) -> Verdict
     }
 }
 
-// Judges a text: 0 and its rows in the table, or the first refusal and a table of zeros.
+// Judges a text: the number of its rows, and these in the table, or the first refusal and a table of zeros.
 pub fn judge(text: &[u8], table: &mut [u32]) -> Verdict
     ensures { λ r. ⌜ Judges base (now (text .entry)) (now (table .entry)) r (now (table .exit)) ⌝ }
 {

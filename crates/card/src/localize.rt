@@ -1,4 +1,4 @@
-// Localizing: a card text and a language become the localized card and its rows, or a refusal.
+// Localizing (docs/RULES.md, 6): a card text and a language become the localized card and its rows, or a refusal.
 use crate::judge::judge;
 use crate::judge::judge_kept;
 use contact::LocalRefusal;

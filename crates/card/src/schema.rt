@@ -1,6 +1,7 @@
 // What the catalog says of an object's members (docs/RULES.md, 5.5): the type of each, and whether a mandatory one is missing.
 use crate::catalog::ANY;
 use crate::catalog::ANY_OBJECT;
+use crate::catalog::ANY_STRING;
 use crate::catalog::BOUNDED;
 use crate::catalog::BY_TYPE;
 use crate::catalog::FLAG;
@@ -8,8 +9,7 @@ use crate::catalog::LIST;
 use crate::catalog::LONG;
 use crate::catalog::MUST;
 use crate::catalog::NAME_OF;
-use crate::catalog::OBJECT;
-use crate::catalog::STRING;
+use crate::catalog::OBJECT_OF;
 use crate::catalog::TIME;
 use crate::catalog::VERSION;
 use crate::catalog::YES;
@@ -57,14 +57,14 @@ fn item_of(n: u32) -> Item
     if NAME_OF <= n {
         return Item::Simple(SimpleItem::TypeName(n - NAME_OF));
     }
-    if OBJECT <= n {
-        return Item::ObjectOf(n - OBJECT);
+    if OBJECT_OF <= n {
+        return Item::ObjectOf(n - OBJECT_OF);
     }
     if BOUNDED <= n {
         return Item::Simple(bounded(n - BOUNDED));
     }
     match n {
-        STRING => Item::Simple(SimpleItem::AnyString),
+        ANY_STRING => Item::Simple(SimpleItem::AnyString),
         VERSION => Item::Simple(SimpleItem::Version),
         FLAG => Item::Simple(SimpleItem::Flag),
         YES => Item::Simple(SimpleItem::Yes),
@@ -102,7 +102,7 @@ pub(crate) fn object_of(o: u32) -> u32
     requires { ⌜ o < 64 ⌝ }
     ensures { λ r. ⌜ typeAt r ≡ objectOf o ⌝ }
 {
-    OBJECT + o
+    OBJECT_OF + o
 }
 
 // An object: its type, and the rows from .. end of its members.

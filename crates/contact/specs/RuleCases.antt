@@ -22,7 +22,7 @@ use Rattle.contact.specs.Rules.{present, isString, isSeparator, marksOf,
 abbrev has : String → Doc → Members → Members
 has n d ms = member (bytes n) [] d ms
 
--- the String of that token, the value true, and a list
+-- the String of that token, and the value true
 abbrev token : String → Doc
 token s = scalar 5 (bytes s)
 

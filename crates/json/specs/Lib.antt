@@ -1,4 +1,4 @@
--- What the contracts of reading cite beside crate text: Cursors, Rows and Lookup in public ones, Names, Plain, Parts and Answers inside the crate.
+-- What the contracts of reading cite beside crate text: Cursors, Rows, Lookup, Names and Answers in public ones, Plain and Parts inside the crate.
 pub mod Cursors
 pub mod Rows
 pub mod Lookup

@@ -1,4 +1,4 @@
-// The byte at a place of a text.
+// The byte at a place of a text, and the bytes that have a meaning in one (docs/RULES.md, 3.2 and 3.4).
 ghost use mathlib.Core.Path.{_≡_};
 ghost use Prim.Native.Nat.{_≤_};
 ghost use Rattle.text.specs.Text.{byteAt};
@@ -6,7 +6,7 @@ ghost use Rattle.text.specs.Text.{byteAt};
 // Bytes that reading tests for, as wide as what `peek` gives.
 pub(crate) const QUOTE: u16 = b'"' as u16;
 
-pub(crate) const BACKSLASH: u16 = b'\\' as u16;
+pub const BACKSLASH: u16 = b'\\' as u16;
 
 pub(crate) const COLON: u16 = b':' as u16;
 
@@ -26,11 +26,11 @@ pub(crate) const PLUS: u16 = b'+' as u16;
 
 pub(crate) const POINT: u16 = b'.' as u16;
 
-pub(crate) const ZERO: u16 = b'0' as u16;
+pub const ZERO: u16 = b'0' as u16;
 
 pub(crate) const NINE: u16 = b'9' as u16;
 
-pub(crate) const SLASH: u16 = b'/' as u16;
+pub const SLASH: u16 = b'/' as u16;
 
 pub(crate) const LARGE_A: u16 = b'A' as u16;
 
@@ -72,7 +72,7 @@ pub(crate) const LARGE_TEN: u16 = LARGE_A - 10;
 pub(crate) const SMALL_TEN: u16 = SMALL_A - 10;
 
 // What `peek` gives where the text is over.
-pub(crate) const OVER: u16 = 256;
+pub const OVER: u16 = 256;
 
 // The byte at a place, or 256 at or past the end.
 pub fn peek(text: &[u8], at: usize) -> u16

@@ -1,4 +1,4 @@
-// What stands at a place inside a string (docs/RULES.md, 3.4): one step, used by reading and by decoding.
+// What stands at a place inside a string (docs/RULES.md, 3.4): one step, used by reading; decoding uses its escapes.
 use crate::bytes::BACKSLASH;
 use crate::bytes::LARGE_A;
 use crate::bytes::LARGE_F;

@@ -1,4 +1,4 @@
-// The two containers, and how an item of each begins.
+// The two containers, and how an item of each begins (docs/RULES.md, 3.2).
 use crate::bytes::CLOSE_ARRAY;
 use crate::bytes::CLOSE_OBJECT;
 use crate::members::Key;

@@ -1,4 +1,4 @@
-// Rows found from other rows: the one after a value, and the member of a name.
+// Rows found from other rows (docs/RULES.md, 4): the one after a value, and the member of a name.
 use crate::names::name_is;
 use crate::rows::below;
 use crate::rows::name_end;

@@ -74,7 +74,7 @@ fn order_from(a: &[u8], b: &[u8], from: usize) -> Order
 }
 
 // The order by the bytes at the first difference, 256 where a string is over.
-fn order_at(p: u16, q: u16) -> Order
+pub fn order_at(p: u16, q: u16) -> Order
     ensures { λ r. ⌜ r ≡ orderAt p q ⌝ }
 {
     if p == q {

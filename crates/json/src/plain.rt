@@ -1,4 +1,4 @@
-// Bytes of a string that stand for themselves, eight at a time.
+// Bytes of a string that stand for themselves (docs/RULES.md, 3.4), eight at a time.
 use crate::bytes::peek;
 ghost use mathlib.Core.Path.{_≡_};
 ghost use Prim.Native.Nat.{_+_, _*_, _<_, _≤_};

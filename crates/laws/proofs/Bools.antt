@@ -21,9 +21,6 @@ pub or-either : {G : Type 0} (a b : Bool) → (a || b) ≡ true → (a ≡ true 
 or-either true b e f g = f refl
 or-either false b e f g = g e
 
-pub or-left : (a b : Bool) → a ≡ true → (a || b) ≡ true
-or-left a b e = rw e
-
 pub or-right : (a b : Bool) → b ≡ true → (a || b) ≡ true
 or-right true b e = refl
 or-right false b e = e

@@ -108,8 +108,3 @@ pub asks : {P Q : Type 0} {a b : Bool} → Decides P a → Decides Q b → Decid
 asks (holds p) (holds q) = holds (λ _. q)
 asks (holds p) (fails g) = fails (λ h. g (h p))
 asks (fails f) y = holds (λ p. absurd (f p))
-
--- of two statements that don't hold both, one doesn't
-pub not-both : {P Q : Type 0} {a : Bool} → Decides P a → (P × Q → ⊥) → (P → ⊥) ⊎ (Q → ⊥)
-not-both (holds p) f = inr (λ q. f (p, q))
-not-both (fails g) f = inl g

@@ -40,10 +40,3 @@ drop-replicate : (n m a : ℕ) → drop m (replicate n a) ≡ replicate (n - m) 
 drop-replicate n zero a = rw sub-zero
 drop-replicate zero (suc m) a = rw zero-sub
 drop-replicate (suc n) (suc m) a = rw suc-sub-suc (drop-replicate n m a)
-
--- stores from the start of a cleared list
-pub sets-cleared : (vs : List ℕ) (n : ℕ) → length vs ≤ n → sets (replicate n 0) 0 vs ≡ vs ++ replicate (n - length vs) 0
-sets-cleared vs n h =
-    let e : 0 + length vs ≡ length vs = omega arith in
-    sets-eq vs (replicate n 0) 0 (omega (arith, length-replicate {A = ℕ} n 0))
-    ∙ rw (e, drop-replicate)

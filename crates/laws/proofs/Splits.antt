@@ -3,7 +3,6 @@
 --     beyond                 behind the run stands what follows it
 --     within                 the run lies inside the list
 --     part-there, there-part the run is the part of the list from the place on, and such a part is a run
---     at-seam                a list that is put together has its second run where the first ends
 -- Assumes nothing.
 use mathlib.Core.Path.{_≡_, sym, ap, _∙_}
 use mathlib.Core.List.{List, [], _∷_, _++_, append-assoc}
@@ -46,6 +45,3 @@ there-part l i e h k =
 pub length-part : (l : List ℕ) (i e : ℕ) → i ≤ e → e ≤ length l → length (partOf l i e) ≡ e - i
 unfolding partOf
 length-part l i e h k = simp (le-leb e (length l) k, le-leb i e h, length-take, length-drop) (omega arith)
-
-pub at-seam : (u w r : List ℕ) → drop (length u) (u ++ w ++ r) ≡ w ++ r
-at-seam u w r = ap (drop (length u)) (append-assoc u w r) ∙ drop-append-seam u (w ++ r)

@@ -1,4 +1,4 @@
-// The members of an object by their rows: the name of one, and the one of a name or that a part of a pointer names.
+// The members of an object by their rows (docs/RULES.md, 6.3): the name of one, and the one of a name or that a part of a pointer names.
 use crate::parts::part_same;
 use json::decode::Cursor;
 use json::decode::start;

@@ -1,5 +1,5 @@
 // Localizing a card: the patch of a language applied to it. From the single part of a pointer up:
-//   parts       one part of a pointer, read off a key as the key is decoded
+//   parts       one part of a pointer, read off a key as written or as it is decoded
 //   pointers    keys as pointers: prefixes, order, bad tildes
 //   children    the members of an object by their rows
 //   paths       where a pointer leads

@@ -115,12 +115,15 @@ fn short_of(b: u8) -> u8
     }
 }
 
+// What `a` would be if it stood for 0: it is ten.
+const SMALL_TEN: u8 = b'a' - 10;
+
 // A small hexadecimal digit.
 fn small_hex(n: u8) -> u8
     requires { ⌜ n < 16 ⌝ }
     ensures { λ r. ⌜ r ≡ smallHex n ⌝ }
 {
-    if n < 10 { b'0' + n } else { 87 + n }
+    if n < 10 { b'0' + n } else { SMALL_TEN + n }
 }
 
 // A byte below 32, by \u00 and two digits.

@@ -1,33 +1,29 @@
 // One part of a pointer, read off a key while the key is decoded: nothing is copied. In a part `~1` is `/` and `~0` is `~` (docs/RULES.md, 6.2).
 // Up to a backslash keys are compared, and passed, as they are written.
+use json::bytes::BACKSLASH;
+use json::bytes::OVER;
+use json::bytes::SLASH;
+use json::bytes::ZERO;
 use json::bytes::peek;
 use json::decode::Cursor;
 use json::decode::Next;
 use json::decode::next_byte;
+use json::names::order_at;
 use laws::Order;
 ghost use mathlib.Core.Path.{_≡_};
 ghost use mathlib.Core.Bool.{true};
 ghost use Rattle.laws.specs.Order.{orderOf, same};
 ghost use Rattle.text.specs.Text.{byteAt};
 ghost use Rattle.json.specs.Cursors.{rest, cursor};
-ghost use Rattle.json.specs.Names.{orderAt};
 ghost use Rattle.contact.specs.Pointer.{pointerOf};
 ghost use Rattle.patch.specs.Parts.{partLeft, partUnread, nameLeft, Goes, nameUnread, tildeLeft, leftAt, Shows, Later};
 
 // Bytes that are told apart as written, as wide as what `peek` gives.
-const SLASH: u16 = b'/' as u16;
-
 const TILDE: u16 = b'~' as u16;
-
-const BACKSLASH: u16 = b'\\' as u16;
-
-const ZERO: u16 = b'0' as u16;
 
 const ONE: u16 = b'1' as u16;
 
-// A glyph's value where it is no byte: at the end, and where a backslash has to be decoded.
-const END: u16 = 256;
-
+// A glyph's value where a backslash has to be decoded; at the end it is OVER.
 const CODED: u16 = 257;
 
 // What follows a part: another, where the cursor stands, or none.
@@ -140,28 +136,15 @@ fn glyph_at(part: bool, key: &[u8], at: usize) -> Glyph
         return Glyph { value: b, len: 1 };
     }
     if b == SLASH {
-        return Glyph { value: END, len: 1 };
+        return Glyph {
+            value: OVER,
+            len: 1,
+        };
     }
     if b == TILDE {
         return tilde_at(key, at);
     }
     Glyph { value: b, len: 1 }
-}
-
-// The order by the first two glyphs that differ.
-fn order_at(p: u16, q: u16) -> Order
-    ensures { λ r. ⌜ r ≡ orderAt p q ⌝ }
-{
-    if p == q {
-        return Order::Same;
-    }
-    if p == END {
-        return Order::Less;
-    }
-    if q == END {
-        return Order::More;
-    }
-    if p < q { Order::Less } else { Order::More }
 }
 
 // The order of a part and another part, or a name, decoded from their cursors on; `is_part` says which.
@@ -217,7 +200,7 @@ fn written_order(key: &[u8], from: usize, is_part: bool, name: &[u8], name_from:
         if x != y {
             return order_at(x, y);
         }
-        if x == END {
+        if x == OVER {
             return Order::Same;
         }
         i = i + p.len;
@@ -274,7 +257,7 @@ fn run_end(key: &[u8], from: usize) -> usize
         if b == BACKSLASH {
             return at;
         }
-        if b == END {
+        if b == OVER {
             return at;
         }
         at += 1;

@@ -1,5 +1,5 @@
 -- `bezinkol_localize` leaves what the service leaves. Assumes nothing.
-use mathlib.Core.Path.{refl, ap, _∙_}
+use mathlib.Core.Path.{ap, _∙_}
 use borrow.Author.Needs.{needs}
 use Rattle.contact.specs.Services.{served}
 use Rattle.bezinkol.specs.Answer.{answerWords}

@@ -70,10 +70,6 @@ inside-few {g = g} h = let v = h .value in omega (arith, h .within, inside-size 
 pub no-patch-in : (lang : Name) (card : Doc) → child (bytes "localizations") card ≡ none → find (patchAt lang) card ≡ none
 no-patch-in lang card e = ap (within (find (last lang))) e
 
--- what an answer that found it says
-pub child-at : {t table : List ℕ} {limit row : ℕ} {n : Name} {g : Forest} {m : ℕ} → ChildAt t table limit row n g m → ChildAt t table limit row n g m
-child-at a = a
-
 module _ {t table : List ℕ} {limit : ℕ} (lang : Name) {f : Forest} {m : ℕ} (a : ChildAt t table limit 0 (bytes "localizations") f m) where
   -- it is looked for in what was found
   patch-within : find (patchAt lang) (docOf t f) ≡ child lang (docOf t (a .place .found))

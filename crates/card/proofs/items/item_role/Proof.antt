@@ -1,5 +1,4 @@
 -- `card::items::item_role` meets its contract: each arm by what its pattern says of the item. Assumes nothing.
-use mathlib.Core.Path.{_∙_}
 use borrow.Author.Needs.{needs}
 use Rattle.card.proofs.items.item_role.Statement.{statement}
 use Rattle.card.proofs.items.item_role.Tie as tie

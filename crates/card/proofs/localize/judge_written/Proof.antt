@@ -2,7 +2,7 @@
 use mathlib.Core.Path.{sym}
 use denote.Ref.{now}
 use lib.Seq.{length-take-le}
-use Rattle.card.proofs.OutcomeLaws.{judged-passed, judged-failed}
+use Rattle.card.proofs.Localizing.{judged-passed, judged-failed}
 use borrow.Author.Needs.{needs}
 use Rattle.card.proofs.localize.judge_written.Statement.{statement}
 use Rattle.card.proofs.localize.judge_written.Tie as tie

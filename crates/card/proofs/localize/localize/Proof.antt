@@ -1,6 +1,6 @@
 -- Behind what is used the output is cleared. Assumes nothing.
 use native.Mathlib.Omega.{arith}
-use Rattle.card.proofs.OutcomeLaws.{used-fits, localizes}
+use Rattle.card.proofs.Localizing.{used-fits, localizes}
 use borrow.Author.Needs.{needs}
 use Rattle.card.proofs.localize.localize.Statement.{statement}
 use Rattle.card.proofs.localize.localize.Tie as tie

@@ -1,6 +1,6 @@
 -- By the verdict on the card, and then by what was made of it. Assumes nothing.
 use lib.ListN.{length}
-use Rattle.card.proofs.OutcomeLaws.{given-so, refused-so, fits-so, written-so}
+use Rattle.card.proofs.Localizing.{given-so, refused-so, fits-so, written-so}
 use native.Mathlib.Omega.{arith}
 use denote.Ref.{now}
 use borrow.Author.Needs.{needs}

@@ -6,7 +6,7 @@ use borrow.Author.Needs.{needs}
 use denote.Ref.{now}
 use Rattle.card.specs.Marks.{fresh}
 use Rattle.card.specs.declared.rules.Marks.{Marks}
-use Rattle.card.proofs.Along.{Along, along, along-here, along-on, along-end}
+use Rattle.card.proofs.Judging.Along.{Along, along, along-here, along-on, along-end}
 use Rattle.card.proofs.Judging.Separators.{tallyIn, tally-on, tally-end}
 use Rattle.card.proofs.rules.tally_of.Statement.{statement}
 use Rattle.card.proofs.rules.tally_of.Tie as tie
