@@ -18,7 +18,7 @@ use crate::schema::inner;
 use crate::schema::object_of;
 use crate::schema::type_in;
 use crate::schema::type_of;
-use json::names::part;
+use json::names::slice;
 use json::rows::OBJECT;
 use json::rows::TRUE;
 use json::rows::kind;
@@ -109,7 +109,7 @@ pub(crate) fn key_fits(text: &[u8], table: &[u32], code: u32, first: usize, at: 
         Ty::ListOf(_) => true,
         Ty::MapOf(keys, _) => match keys {
             Keys::Free => true,
-            Keys::Ids => is_id(part(text, name_start(table, at), name_end(table, at))),
+            Keys::Ids => is_id(slice(text, name_start(table, at), name_end(table, at))),
         },
     }
 }
@@ -134,7 +134,7 @@ fn simple_allows(
         SimpleItem::Version => is_content(text, from, to, b"1.0"),
         SimpleItem::Flag => true,
         SimpleItem::Yes => kind == TRUE,
-        SimpleItem::Count(low, high) => is_count(part(text, from, to), low, high),
+        SimpleItem::Count(low, high) => is_count(slice(text, from, to), low, high),
         SimpleItem::Time => is_time(content(text, from, to)),
     }
 }

@@ -8,7 +8,7 @@ use Rattle.text.specs.Tree.{Bracket, square, curly, bracketKind, none, node, si
 use Rattle.text.specs.Reader.{Read, closeOf}
 use Rattle.text.proofs.Stores.{rows-close}
 use Rattle.json.specs.Rows.{Word}
-use Rattle.json.specs.Parts.{Took, Closable, Closes}
+use Rattle.json.specs.Readers.{Took, Closable, Closes}
 use Rattle.json.specs.declared.values.Outcome.{Outcome}
 use Rattle.json.specs.declared.values.Outcome.the-variants.{Next, Stop}
 

@@ -25,7 +25,7 @@ use Rattle.text.specs.declared.Reading.{Reading}
 use Rattle.text.specs.declared.Reading.the-variants.{Rows, Refused}
 use Rattle.text.proofs.Laws.{value-parts}
 use Rattle.text.proofs.Fewer.{NotMany, whole-bad, small-whole, first-good, first-bad, many-small}
-use Rattle.json.specs.Parts.{upTo}
+use Rattle.json.specs.Readers.{upTo}
 use Rattle.json.specs.Answers.{Room, Ended, isMany, againOf}
 
 -- ---- a text by its value and what follows it ----

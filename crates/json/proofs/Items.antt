@@ -20,7 +20,7 @@ use Rattle.text.specs.declared.Refusal.the-variants.{Grammar}
 use Rattle.text.proofs.Grammar.Sound.{byte-closing}
 use Rattle.text.proofs.TokenEnds.{skip-span}
 use Rattle.text.proofs.Stores.{size-join, rows-then, stored-stands}
-use Rattle.json.specs.Parts.{Gone}
+use Rattle.json.specs.Readers.{Gone}
 
 -- `done` are the items read from `start` up to `at`, and the definition has gone as far
 pub record Upto (t : List ℕ) (item : ItemReader) (z start limit first : ℕ) (old : List ℕ) (at n : ℕ) (new : List ℕ) : Type 0 where

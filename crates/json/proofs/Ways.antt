@@ -18,7 +18,7 @@ use Rattle.text.specs.Reader.{good, bad, Reader, scalarWith, scalarAt, closeOf,
 use Rattle.text.specs.declared.Token.the-variants.{End, No2, No3}
 use Rattle.text.specs.declared.Refusal.the-variants.{Grammar, Character, Repeated, Deep, Many}
 use Rattle.text.proofs.Laws.{value-parts}
-use Rattle.json.specs.Parts.{containerOf, bracketOf, containerAt, itemsAt}
+use Rattle.json.specs.Readers.{containerOf, bracketOf, containerAt, itemsAt}
 use Rattle.json.specs.declared.containers.Container.{Container}
 use Rattle.json.specs.declared.containers.Container.the-variants.{Array, Object}
 

@@ -39,7 +39,7 @@ fn digit(b: u16) -> u32
 }
 
 // The digit at a place, or 16.
-fn digit_at(text: &[u8], at: usize) -> u32
+fn hex_at(text: &[u8], at: usize) -> u32
     ensures { λ r. ⌜ r ≡ digitAt (now (text .entry)) at ⌝ }
 {
     digit(peek(text, at))
@@ -50,19 +50,19 @@ fn hex4(text: &[u8], at: usize) -> Hex
     requires { ⌜ at ≤ length (now text) + 8 ⌝ }
     ensures { λ r. ⌜ r ≡ hex4At (now (text .entry)) at ⌝ }
 {
-    let a = digit_at(text, at);
+    let a = hex_at(text, at);
     if a == 16 {
         return Hex::Bad(at);
     }
-    let b = digit_at(text, at + 1);
+    let b = hex_at(text, at + 1);
     if b == 16 {
         return Hex::Bad(at + 1);
     }
-    let c = digit_at(text, at + 2);
+    let c = hex_at(text, at + 2);
     if c == 16 {
         return Hex::Bad(at + 2);
     }
-    let d = digit_at(text, at + 3);
+    let d = hex_at(text, at + 3);
     if d == 16 {
         return Hex::Bad(at + 3);
     }

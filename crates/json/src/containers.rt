@@ -12,7 +12,7 @@ ghost use lib.ListN.{length};
 ghost use Rattle.text.specs.Grammar as grammar;
 ghost use Rattle.text.specs.Tree as tree;
 ghost use Rattle.json.specs.Rows.{Word};
-ghost use Rattle.json.specs.Parts.{containerOf, bracketOf, ItemRead};
+ghost use Rattle.json.specs.Readers.{containerOf, bracketOf, ItemRead};
 
 // The two containers: they differ in their kind, their closing byte and their items.
 pub enum Container {

@@ -18,7 +18,7 @@ ghost use Rattle.text.specs.Standing.{StandsTo};
 ghost use Rattle.text.specs.Strings.{nameOf};
 ghost use Rattle.text.specs.Reader as reader;
 ghost use Rattle.json.specs.Rows.{Word};
-ghost use Rattle.json.specs.Parts.{Colon, KeyRead};
+ghost use Rattle.json.specs.Readers.{Colon, KeyRead};
 
 // A member's name: where it ends and where the value is; or the refusal.
 pub enum Key {

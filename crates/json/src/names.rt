@@ -117,7 +117,7 @@ fn is_same(o: Order) -> bool
 }
 
 // Are two strings' inner bytes the same, decoded?
-fn same_parts(a: &[u8], b: &[u8]) -> bool
+fn same_slices(a: &[u8], b: &[u8]) -> bool
     ensures { λ r. ⌜ r ≡ same (decode (now (a .entry))) (decode (now (b .entry))) ⌝ }
 {
     let i = alike(a, b);
@@ -161,7 +161,7 @@ fn goes_on(a: &[u8], lit: &[u8], from: usize) -> bool
 }
 
 // Do a string's inner bytes decode to the literal?
-pub fn part_is(a: &[u8], lit: &[u8]) -> bool
+pub fn slice_is(a: &[u8], lit: &[u8]) -> bool
     ensures { λ r. ⌜ r ≡ same (decode (now (a .entry))) (now (lit .entry)) ⌝ }
 {
     let i = alike(a, lit);
@@ -174,7 +174,7 @@ pub fn part_is(a: &[u8], lit: &[u8]) -> bool
 }
 
 // The bytes of a text from s up to e, or none where they are not inside.
-pub fn part(text: &[u8], s: usize, e: usize) -> &[u8]
+pub fn slice(text: &[u8], s: usize, e: usize) -> &[u8]
     ensures { λ r. ⌜ now r ≡ partOf (now (text .entry)) s e ⌝ }
 {
     if e <= text.len() {
@@ -188,19 +188,19 @@ pub fn part(text: &[u8], s: usize, e: usize) -> &[u8]
 pub fn name_order(text: &[u8], s1: usize, e1: usize, s2: usize, e2: usize) -> Order
     ensures { λ r. ⌜ r ≡ orderOf (nameOf (now (text .entry)) s1 e1) (nameOf (now (text .entry)) s2 e2) ⌝ }
 {
-    order_of(part(text, s1, e1), part(text, s2, e2))
+    order_of(slice(text, s1, e1), slice(text, s2, e2))
 }
 
 // Are two names of a text the same, decoded?
 pub fn same_name(text: &[u8], s1: usize, e1: usize, s2: usize, e2: usize) -> bool
     ensures { λ r. ⌜ r ≡ same (nameOf (now (text .entry)) s1 e1) (nameOf (now (text .entry)) s2 e2) ⌝ }
 {
-    same_parts(part(text, s1, e1), part(text, s2, e2))
+    same_slices(slice(text, s1, e1), slice(text, s2, e2))
 }
 
 // Is a name of a text, decoded, the literal, as b"uid"?
 pub fn name_is(text: &[u8], s: usize, e: usize, lit: &[u8]) -> bool
     ensures { λ r. ⌜ r ≡ same (nameOf (now (text .entry)) s e) (now (lit .entry)) ⌝ }
 {
-    part_is(part(text, s, e), lit)
+    slice_is(slice(text, s, e), lit)
 }

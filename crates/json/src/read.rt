@@ -14,7 +14,7 @@ ghost use Prim.Native.Nat.{_*_, _≤_};
 ghost use lib.ListN.{length};
 ghost use Rattle.text.specs.Limits.{rowWords, base};
 ghost use Rattle.text.specs.Whole.{readOf, wholeOf, Reads};
-ghost use Rattle.json.specs.Parts.{upTo};
+ghost use Rattle.json.specs.Readers.{upTo};
 ghost use Rattle.json.specs.Answers.{ReadsRows, Room, Ended, isMany, againOf};
 
 // Reads a text: its rows and zeros after them, or the refusal and zeros alone.

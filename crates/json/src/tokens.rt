@@ -33,7 +33,7 @@ ghost use Prim.Native.Nat.{_≤_};
 ghost use lib.ListN.{length};
 ghost use Rattle.text.specs.Text.{byteAt};
 ghost use Rattle.text.specs.Tokens as tokens;
-ghost use Rattle.json.specs.Parts.{moreBy};
+ghost use Rattle.json.specs.Readers.{moreBy};
 
 // Does white space stand at a place?
 fn space_at(text: &[u8], at: usize) -> bool
@@ -195,9 +195,9 @@ fn number(text: &[u8], at: usize) -> Token
     if !more_at(text, point) {
         return whole;
     }
-    let part = frac(text, point);
-    let Token::End(e) = part else {
-        return part;
+    let fraction = frac(text, point);
+    let Token::End(e) = fraction else {
+        return fraction;
     };
     exp(text, e)
 }

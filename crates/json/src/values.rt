@@ -24,9 +24,9 @@ ghost use Rattle.text.specs.Tree.{Forest};
 ghost use Rattle.text.specs.Standing.{StandsTo};
 ghost use Rattle.text.specs.Reader.{scalarAt, valueAt};
 ghost use Rattle.json.specs.Rows.{Row};
-ghost use Rattle.json.specs.Parts.{upTo, ItemAsks, NamePlaces, Took, Closable, Closes, containerAt, itemsAt, itemOf};
+ghost use Rattle.json.specs.Readers.{upTo, ItemAsks, NamePlaces, Took, Closable, Closes, containerAt, itemsAt, itemOf};
 
-// What reading a part of a text gives: the place after it and the number of values so far, or the refusal.
+// What reading some of a text gives: the place after it and the number of values so far, or the refusal.
 pub enum Outcome {
     Next(usize, usize),
     Stop(Refusal),

@@ -5,7 +5,7 @@ use json::decode::start;
 use json::lookup::Found;
 use json::lookup::find;
 use json::lookup::next_row;
-use json::names::part;
+use json::names::slice;
 use json::rows::OBJECT;
 use json::rows::kind;
 use json::rows::name_end;
@@ -23,7 +23,7 @@ ghost use Rattle.patch.specs.Children.{keyBytes, Held, ChildFound};
 pub(crate) fn key_at<'a>(text: &'a [u8], table: &[u32], row: usize) -> &'a [u8]
     ensures { λ r. ⌜ now r ≡ keyBytes (now (text .entry)) (now (table .entry)) row ⌝ }
 {
-    part(text, name_start(table, row), name_end(table, row))
+    slice(text, name_start(table, row), name_end(table, row))
 }
 
 // The row of the first value among those from one row up to another whose name is the part at the cursor.

@@ -81,7 +81,7 @@ struct Glyph {
 }
 
 // A cursor at a place where a character begins.
-fn place(at: usize) -> Cursor
+fn cursor_at(at: usize) -> Cursor
     ensures { λ r. ⌜ r ≡ cursor at 0 0 ⌝ }
 {
     Cursor {
@@ -192,10 +192,10 @@ fn written_order(key: &[u8], from: usize, is_part: bool, name: &[u8], name_from:
         let x = p.value;
         let y = q.value;
         if x == CODED {
-            return order_from(key, place(i), is_part, name, place(j));
+            return order_from(key, cursor_at(i), is_part, name, cursor_at(j));
         }
         if y == CODED {
-            return order_from(key, place(i), is_part, name, place(j));
+            return order_from(key, cursor_at(i), is_part, name, cursor_at(j));
         }
         if x != y {
             return order_at(x, y);
@@ -245,7 +245,7 @@ pub(crate) fn part_same(
 }
 
 // Past the bytes from a place on that are neither a slash nor a backslash.
-fn run_end(key: &[u8], from: usize) -> usize
+fn written_end(key: &[u8], from: usize) -> usize
     ensures { λ r. ⌜ Later (now (key .entry)) (cursor from 0 0) (cursor r 0 0) ⌝ }
 {
     let mut at = from;
@@ -265,13 +265,13 @@ fn run_end(key: &[u8], from: usize) -> usize
 }
 
 // Past such bytes, if a character begins at the cursor.
-fn run_after(key: &[u8], c: Cursor) -> Cursor
+fn past_written(key: &[u8], c: Cursor) -> Cursor
     ensures { λ r. ⌜ Later (now (key .entry)) c r ⌝ }
 {
     if c.left != 0 {
         return c;
     }
-    place(run_end(key, c.at))
+    cursor_at(written_end(key, c.at))
 }
 
 // What follows the part at the cursor.
@@ -280,7 +280,7 @@ pub(crate) fn next_part(key: &[u8], from: Cursor) -> Onward
 {
     let mut c = from;
     loop {
-        match next_byte(key, run_after(key, c)) {
+        match next_byte(key, past_written(key, c)) {
             Next::Over => {
                 return Onward::Last;
             }

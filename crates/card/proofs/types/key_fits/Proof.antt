@@ -23,7 +23,7 @@ returns-4 : tie.Need-returns-4
 returns-4 c =
     λ f s.
     c .is-id .ensures
-    ∙ rw (c .before .part .ensures, c .before .before .before .name-start .ensures, c .before .before .name-end .ensures, ← c .before .before .before .before .before .before .before .before .before .type-of .ensures, c .before .before .before .before .before .before .before .keys .given .1, c .before .before .before .before .enum-told4 .given .1)
+    ∙ rw (c .before .slice .ensures, c .before .before .before .name-start .ensures, c .before .before .name-end .ensures, ← c .before .before .before .before .before .before .before .before .before .type-of .ensures, c .before .before .before .before .before .before .before .keys .given .1, c .before .before .before .before .enum-told4 .given .1)
 
 pub key-fits-spec : {M : Type 1} → statement M
 key-fits-spec =

@@ -12,5 +12,5 @@ simple-allows-spec =
     (λ c. search needs) (λ c κs. search needs) (λ c κs. search needs) (λ c. rw (c .enum-told .given .1))
     (λ c. c .is-content .ensures ∙ rw (c .before .type-name .ensures, c .before .before .before .item .given .1)) (λ c. c .is-content2 .ensures ∙ rw (c .before .before .enum-told2 .given .1))
     (λ c. rw (c .enum-told3 .given .1)) (λ c. rw (c .enum-told4 .given .1))
-    (λ c. c .is-count .ensures ∙ rw (c .before .part .ensures, c .before .before .before .item2 .given .1))
+    (λ c. c .is-count .ensures ∙ rw (c .before .slice .ensures, c .before .before .before .item2 .given .1))
     (λ c. c .is-time .ensures ∙ rw (c .before .content .ensures, c .before .before .enum-told5 .given .1)))

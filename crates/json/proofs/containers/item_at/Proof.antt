@@ -8,7 +8,7 @@ use lib.ListN.{length}
 use borrow.Author.Needs.{needs}
 use Rattle.text.specs.Reader.{valueAt}
 use Rattle.text.specs.declared.Refusal.{Refusal}
-use Rattle.json.specs.Parts.{upTo, KeyRead, ItemRead}
+use Rattle.json.specs.Readers.{upTo, KeyRead, ItemRead}
 use Rattle.json.specs.declared.members.Key.the-variants.{Value, Broken}
 use Rattle.json.specs.declared.containers.Container.the-variants.{Array, Object}
 use Rattle.json.specs.declared.containers.Item.the-variants.{At, Wrong}

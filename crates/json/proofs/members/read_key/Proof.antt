@@ -13,7 +13,7 @@ use Rattle.text.specs.Standing.{StandsTo}
 use Rattle.text.specs.Reader.{named}
 use Rattle.text.specs.declared.Token.the-variants.{End}
 use Rattle.text.proofs.Laws.{EndInside, end-inside}
-use Rattle.json.specs.Parts.{upTo, Colon, KeyRead}
+use Rattle.json.specs.Readers.{upTo, Colon, KeyRead}
 use Rattle.json.specs.declared.members.Key.{Key}
 use Rattle.json.specs.declared.members.Key.the-variants.{Value, Broken}
 use Rattle.json.proofs.Ways.{member-none, member-no2, member-no3, member-known, member-new}

@@ -4,7 +4,7 @@ use Rattle.json.proofs.names.name_is.Statement.{statement}
 use Rattle.json.proofs.names.name_is.Tie as tie
 
 returns : tie.Need-returns
-returns c = rw (← c .before .part .ensures, ← c .part-is .ensures)
+returns c = rw (← c .before .slice .ensures, ← c .slice-is .ensures)
 
 pub name-is-spec : {M : Type 1} → statement M
 name-is-spec = tie.close (tie.spec (λ c κs. search needs) (λ c κs. search needs) returns)

@@ -6,4 +6,4 @@ pub same-name-spec : {M : Type 1} → statement M
 same-name-spec =
     tie.close
     (tie.spec (λ c κs. tt) (λ c κs. tt) (λ c κs. tt)
-    (λ c. rw (← c .before .before .part .ensures, ← c .before .part2 .ensures, ← c .same-parts .ensures)))
+    (λ c. rw (← c .before .before .slice .ensures, ← c .before .slice2 .ensures, ← c .same-slices .ensures)))

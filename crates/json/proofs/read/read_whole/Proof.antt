@@ -5,7 +5,7 @@ use Rattle.text.specs.Limits.{base}
 use Rattle.text.specs.Tokens.{skip}
 use Rattle.text.specs.Reader.{valueAt}
 use Rattle.text.proofs.TokenEnds.{skip-span}
-use Rattle.json.specs.Parts.{upTo, Gone}
+use Rattle.json.specs.Readers.{upTo, Gone}
 use Rattle.text.proofs.Fewer.{long-text}
 use Rattle.json.proofs.Endings.{text-stop, text-more, text-good}
 use Rattle.json.proofs.read.read_whole.Statement.{statement}

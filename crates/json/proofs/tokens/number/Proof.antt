@@ -12,7 +12,7 @@ use Rattle.text.specs.declared.Token.{Token}
 use Rattle.text.specs.declared.Token.the-variants.{End, No2, No3}
 use Rattle.text.specs.Text.{byteAt}
 use Rattle.text.specs.Tokens.{thenAt, fracAt, expAt, numberAt}
-use Rattle.json.specs.Parts.{moreBy}
+use Rattle.json.specs.Readers.{moreBy}
 use Rattle.json.proofs.tokens.number.Statement.{statement}
 use Rattle.json.proofs.tokens.number.Tie as tie
 
@@ -69,7 +69,7 @@ returns-4 : tie.Need-returns-4
 unfolding numberAt
 returns-4 c =
     rw
-    (← c .before .before .before .before .before .before .before .before .before .before .before .minus-end .ensures, ← c .before .before .before .before .before .before .before .before .before .before .int .ensures, c .before .before .before .before .before .before .before .before .whole .given .1, ← c .before .before .before .before .frac .ensures, c .before .before .part .given .1)
+    (← c .before .before .before .before .before .before .before .before .before .before .before .minus-end .ensures, ← c .before .before .before .before .before .before .before .before .before .before .int .ensures, c .before .before .before .before .before .before .before .before .whole .given .1, ← c .before .before .before .before .frac .ensures, c .before .before .fraction .given .1)
     (c .exp .ensures)
 
 pub number-spec : {M : Type 1} → statement M

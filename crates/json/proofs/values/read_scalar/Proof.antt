@@ -5,7 +5,7 @@ use native.Mathlib.Omega.{arith}
 use borrow.Author.Needs.{needs}
 use Rattle.text.specs.Tree.{none, leaf, size, rowsOf}
 use Rattle.text.proofs.TokenEnds.{Span, token-span}
-use Rattle.json.specs.Parts.{upTo}
+use Rattle.json.specs.Readers.{upTo}
 use Rattle.json.proofs.Ways.{scalar-many, scalar-end, scalar-no2, scalar-no3}
 use Rattle.json.proofs.values.read_scalar.Statement.{statement}
 use Rattle.json.proofs.values.read_scalar.Tie as tie

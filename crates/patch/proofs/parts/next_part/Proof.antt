@@ -23,31 +23,31 @@ loop-holds c = refl
 
 returns : tie.Need-returns Inv-loop μ-loop
 returns c =
-    let run-after = c .before .before .before .run-after in
-    ends _ (rw (← c .before .before .before .before .loop .inv, ← run-after .ensures .follows, ← c .before .before .next-byte .ensures .0, c .enum-told .given .1))
+    let past-written = c .before .before .before .past-written in
+    ends _ (rw (← c .before .before .before .before .loop .inv, ← past-written .ensures .follows, ← c .before .before .next-byte .ensures .0, c .enum-told .given .1))
 
 returns-2 : tie.Need-returns-2 Inv-loop μ-loop
 returns-2 c =
     let next-byte = c .before .before .before .before .next-byte in
-    let run-after = c .before .before .before .before .before .run-after in
+    let past-written = c .before .before .before .before .before .past-written in
     let loop = c .before .before .before .before .before .before .loop in
-    goes _ _ (rw (← loop .inv, ← run-after .ensures .follows, ← next-byte .ensures .0, c .before .before .b .given .1, c .if1 .taken))
+    goes _ _ (rw (← loop .inv, ← past-written .ensures .follows, ← next-byte .ensures .0, c .before .before .b .given .1, c .if1 .taken))
 
 loop-less : tie.Need-loop-less Inv-loop μ-loop
 loop-less c =
     let next-byte = c .before .before .before .before .next-byte in
-    let run-after = c .before .before .before .before .before .run-after in
+    let past-written = c .before .before .before .before .before .past-written in
     let a = c .before .before .before .before .before .before .before .before .args in
-    omega (arith, ap length (byte-left (now (a .key)) (run-after .result) (next-byte .ensures .0) (c .before .before .b .given .1)), run-after .ensures .fewer)
+    omega (arith, ap length (byte-left (now (a .key)) (past-written .result) (next-byte .ensures .0) (c .before .before .b .given .1)), past-written .ensures .fewer)
 
 loop-again : tie.Need-loop-again Inv-loop μ-loop
 loop-again c =
     let next-byte = c .before .before .before .before .next-byte in
-    let run-after = c .before .before .before .before .before .run-after in
+    let past-written = c .before .before .before .before .before .past-written in
     let loop = c .before .before .before .before .before .before .loop in
     let a = c .before .before .before .before .before .before .before .before .args in
     let b = c .before .before .b in
-    rw (← loop .inv, ← run-after .ensures .follows, ← next-byte .ensures .0, b .given .1) (sym (tail-on _ (rest (now (a .key)) (b .given .0 .1 .0)) (c .if1 .left)))
+    rw (← loop .inv, ← past-written .ensures .follows, ← next-byte .ensures .0, b .given .1) (sym (tail-on _ (rest (now (a .key)) (b .given .0 .1 .0)) (c .if1 .left)))
 
 pub next-part-spec : {M : Type 1} → statement M
 next-part-spec =

@@ -22,7 +22,7 @@ abbrev μ-loop : tie.MeasureT-loop
 returns : tie.Need-returns Inv-loop μ-loop
 returns c =
     c .order-from .ensures
-    ∙ rw (c .before .before .place .ensures, c .before .place2 .ensures) (c .before .before .before .before .before .before .loop .inv)
+    ∙ rw (c .before .before .cursor-at .ensures, c .before .cursor-at2 .ensures) (c .before .before .before .before .before .before .loop .inv)
 
 returns-2 : tie.Need-returns-2 Inv-loop μ-loop
 returns-2 c =

@@ -1,7 +1,7 @@
 -- The needs of `read_container`. Assumes nothing.
 use native.Mathlib.Omega.{arith}
 use Prim.Native.Nat.{ℕ, _+_, _-_}
-use Rattle.json.specs.Parts.{upTo, bracketOf, itemsAt}
+use Rattle.json.specs.Readers.{upTo, bracketOf, itemsAt}
 use Rattle.json.proofs.Ways.{container-deep, container-many, container-open}
 use Rattle.json.proofs.Closing.{kind-fits, closable, closed}
 use Rattle.json.proofs.values.read_container.Reads as container

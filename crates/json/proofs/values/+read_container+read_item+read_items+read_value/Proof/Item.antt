@@ -2,7 +2,7 @@
 use native.Mathlib.Omega.{arith}
 use Prim.Native.Nat.{ℕ}
 use Rattle.text.specs.Reader.{valueAt}
-use Rattle.json.specs.Parts.{upTo, ItemRead}
+use Rattle.json.specs.Readers.{upTo, ItemRead}
 use Rattle.json.specs.declared.containers.Item.the-variants.{At, Wrong}
 use Rattle.json.proofs.Closing.{took-from}
 use Rattle.json.proofs.containers.item_at.Reads as item-at-reads

@@ -8,7 +8,7 @@ use Rattle.text.specs.Text.{byteAt}
 use Rattle.text.specs.Grammar.{closing}
 use Rattle.text.specs.Reader.{ItemReader}
 use Rattle.text.proofs.TokenEnds.{skip-span}
-use Rattle.json.specs.Parts.{upTo, Gone, bracketOf, itemOf}
+use Rattle.json.specs.Readers.{upTo, Gone, bracketOf, itemOf}
 use Rattle.text.proofs.Grammar.Sound.{byte-closing}
 use Rattle.json.proofs.Items.{Upto, Open, inside-none, upto-none, upto-length, upto-stands, upto-stop, upto-bad, upto-done, upto-more, more-later}
 use Rattle.json.proofs.values.read_items.Reads as items

@@ -2,7 +2,7 @@
 use native.Mathlib.Omega.{arith}
 use Prim.Native.Nat.{ℕ}
 use Rattle.text.specs.Text.{byteAt}
-use Rattle.json.specs.Parts.{upTo}
+use Rattle.json.specs.Readers.{upTo}
 use Rattle.json.proofs.Ways.{kind-inside, kind-small, value-none, value-container, value-scalar}
 use Rattle.json.proofs.values.read_value.Reads as value
 use Rattle.json.proofs.values.read_container.Reads as container

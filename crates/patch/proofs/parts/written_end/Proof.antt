@@ -1,4 +1,4 @@
--- `patch::parts::run_end` meets its contract: each turn passes one byte of the part (`later-on`). The measure is what is left of the key.
+-- `patch::parts::written_end` meets its contract: each turn passes one byte of the part (`later-on`). The measure is what is left of the key.
 -- Assumes nothing.
 use Prim.Native.Nat.{_-_, _<_}
 use mathlib.Core.Path.{_∙_}
@@ -9,8 +9,8 @@ use Rattle.text.specs.Text.{byteAt}
 use Rattle.json.specs.Cursors.{cursor}
 use Rattle.patch.specs.Parts.{Later}
 use Rattle.patch.proofs.Pointing.Glyphs.{later-self, later-on}
-use Rattle.patch.proofs.parts.run_end.Statement.{statement}
-use Rattle.patch.proofs.parts.run_end.Tie as tie
+use Rattle.patch.proofs.parts.written_end.Statement.{statement}
+use Rattle.patch.proofs.parts.written_end.Tie as tie
 
 abbrev Inv-loop : tie.InvT-loop
 Inv-loop key from at₀ at = Later key (cursor from 0 0) (cursor at 0 0)
@@ -33,8 +33,8 @@ loop-again c =
     later-on (a .key .now) (cursor (a .from) 0 0) (l .loop .at) (byte c) (λ z. c .before .if2 .left (k .peek .ensures .0 ∙ z))
     (λ z. c .before .before .if1 .left (k .peek .ensures .0 ∙ z)) (l .loop .inv)
 
-pub run-end-spec : {M : Type 1} → statement M
-run-end-spec =
+pub written-end-spec : {M : Type 1} → statement M
+written-end-spec =
     tie.close
     (tie.spec Inv-loop μ-loop (λ c. later-self _ _) (λ c κs. tt) (λ c. c .before .before .loop .inv) (λ c. c .before .before .before .loop .inv)
     (λ c. c .before .before .before .before .loop .inv) (λ c. omega (arith, in-key c)) (λ c. omega (arith, in-key c)) loop-again)

@@ -1,9 +1,9 @@
--- `json::names::part` meets its contract: at each `return` the tests pick the case of `partOf`. Assumes nothing.
+-- `json::names::slice` meets its contract: at each `return` the tests pick the case of `partOf`. Assumes nothing.
 use borrow.Author.Needs.{needs}
 use Rattle.laws.specs.Lists.{partOf}
 use Rattle.laws.proofs.Picks.{picks}
-use Rattle.json.proofs.names.part.Statement.{statement}
-use Rattle.json.proofs.names.part.Tie as tie
+use Rattle.json.proofs.names.slice.Statement.{statement}
+use Rattle.json.proofs.names.slice.Tie as tie
 
 returns : tie.Need-returns
 unfolding partOf
@@ -17,7 +17,7 @@ returns-3 : tie.Need-returns-3
 unfolding partOf
 returns-3 c = search picks
 
-pub part-spec : {M : Type 1} → statement M
-part-spec =
+pub slice-spec : {M : Type 1} → statement M
+slice-spec =
     tie.close
     (tie.spec (λ c. search needs) (λ c. search needs) (λ c. search needs) (λ c. search needs) returns returns-2 returns-3)
