@@ -27,7 +27,7 @@ returns c =
 returns-2 : tie.Need-returns-2 Inv-loop μ-loop
 returns-2 c =
     c .order-from2 .ensures
-    ∙ rw (c .before .before .place3 .ensures, c .before .place4 .ensures) (c .before .before .before .before .before .before .before .loop .inv)
+    ∙ rw (c .before .before .cursor-at3 .ensures, c .before .cursor-at4 .ensures) (c .before .before .before .before .before .before .before .loop .inv)
 
 returns-3 : tie.Need-returns-3 Inv-loop μ-loop
 returns-3 c =
