@@ -102,5 +102,8 @@ static void serve(void) {
 }
 
 /* The kernel leaves the stack aligned; a function expects it so before the call. */
-__asm__(".globl _start\n_start:\n    xor %ebp, %ebp\n    call serve_from_start\n");
+/* PLACE bytes behind the start move the library, which is linked behind this file. */
+#define QUOTED(x) #x
+#define TEXT_OF(x) QUOTED(x)
+__asm__(".globl _start\n_start:\n    xor %ebp, %ebp\n    call serve_from_start\n    .skip " TEXT_OF(PLACE) "\n");
 __attribute__((used)) void serve_from_start(void) { serve(); }

@@ -33,11 +33,13 @@ pub fn read(text: &[u8], table: &mut [u32]) -> Reading
 pub fn read_rows(text: &[u8], table: &mut [u32]) -> Reading
     ensures { λ r. ⌜ ReadsRows base (now (text .entry)) (now (table .entry)) r (now (table .exit)) ⌝ }
 {
-    let answer = read_over(text, table);
-    if let Reading::Refused(_) = answer {
-        clear_words(table);
+    match read_over(text, table) {
+        Reading::Rows(n) => Reading::Rows(n),
+        Reading::Refused(r) => {
+            clear_words(table);
+            Reading::Refused(r)
+        }
     }
-    answer
 }
 
 // The answer, and the rows in the table, which may hold anything after a refusal. A table without a row is too small for any text.
