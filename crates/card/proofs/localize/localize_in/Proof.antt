@@ -13,9 +13,6 @@ returns c =
     let judge-kept = c .before .before .before .before .before .judge-kept in
     given-so (now (a .language)) (now (a .out)) (rw (c .before .r .given .1) at (judge-kept .ensures))
 
-enum-told : tie.Need-enum-told
-enum-told c = search needs
-
 judge-written-requires : tie.Need-judge-written-requires
 judge-written-requires c κs =
     let early = c .before .before .before .before .before .before .before .before .before .before .before .before in
@@ -53,5 +50,5 @@ returns-3 c =
 pub localize-in-spec : {M : Type 1} → statement M
 localize-in-spec =
     tie.close
-    (tie.spec (λ c κs. search needs) (λ c. search needs) (λ c. search needs) returns enum-told (λ c κs. search needs) (λ c. search needs) (λ c κs. search needs)
+    (tie.spec (λ c κs. search needs) (λ c. search needs) (λ c. search needs) returns (λ c. search needs) (λ c κs. search needs) (λ c. search needs) (λ c κs. search needs)
     (λ c. search needs) judge-written-requires (λ c. search needs) (λ c. search needs) returns-2 (λ c. search needs) (λ c. search needs) returns-3)

@@ -66,9 +66,6 @@ given t = (
   breach-at.Post,
 )
 
-breach-at-is-free-requires : (t : ℕ) → breach-at-lts.Need-is-free-requires (given t) (breach-at-at t) breach-at.Post breach-at-Inv-loop breach-at-μ-loop
-breach-at-is-free-requires t c κs = search needs
-
 breach-at-returns : (t : ℕ) → breach-at-lts.Need-returns (given t) (breach-at-at t) breach-at.Post breach-at-Inv-loop breach-at-μ-loop
 breach-at-returns t c =
     λ f v k.
@@ -98,12 +95,6 @@ breach-at-loop-holds t c =
       omega arith,
     )
 
-breach-at-name-start-requires : (t : ℕ) → breach-at-lts.Need-name-start-requires (given t) (breach-at-at t) breach-at.Post breach-at-Inv-loop breach-at-μ-loop
-breach-at-name-start-requires t c κs = search needs
-
-breach-at-name-end-requires : (t : ℕ) → breach-at-lts.Need-name-end-requires (given t) (breach-at-at t) breach-at.Post breach-at-Inv-loop breach-at-μ-loop
-breach-at-name-end-requires t c κs = search needs
-
 -- what is ahead where the loop is
 ahead : (t : ℕ) (c : breach-at-lts.In-loop (given t) (breach-at-at t) breach-at.Post breach-at-Inv-loop breach-at-μ-loop)
     → let a = c .before .before .before .before .before .before .before .before .before .before .before .args in
@@ -130,9 +121,6 @@ breach-at-breach-at-requires t c κs =
     let h = ahead t (c .before .before .before .before) (q .0) (q .1) (q .2) in
     (omega (arith, p .0, first-room (q .0) (q .1 .some) (q .1 .stands), c .before .before .before .before .before .loop .inv .1), (p .1 .0, (h .ahead, value-here h (c .before .before .before .before .loop-test .taken), h .kinds)))
 
-breach-at-enum-told : (t : ℕ) → breach-at-lts.Need-enum-told (given t) (breach-at-at t) breach-at.Post breach-at-Inv-loop breach-at-μ-loop
-breach-at-enum-told t c = search needs
-
 breach-at-returns-3 : (t : ℕ) → breach-at-lts.Need-returns-3 (given t) (breach-at-at t) breach-at.Post breach-at-Inv-loop breach-at-μ-loop
 breach-at-returns-3 t c =
     λ f v k.
@@ -149,9 +137,6 @@ breach-at-returns-3 t c =
     let is = breach-at .ensures (h .ahead) (value-here h lt) (h .kinds) in
     rw (c .enum-told .given .1) (judging-hit h lt (typeAt (member-type .result)) (key-fits .result) (foundOf (breach-at .result)) typed keyed is
     (c .enum-told .given .0 .0) (c .enum-told .given .0 .1 .0) (ap foundOf (c .enum-told .given .1)))
-
-breach-at-enum-told-2 : (t : ℕ) → breach-at-lts.Need-enum-told-2 (given t) (breach-at-at t) breach-at.Post breach-at-Inv-loop breach-at-μ-loop
-breach-at-enum-told-2 t c = search needs
 
 breach-at-next-row-requires-2 : (t : ℕ) → breach-at-lts.Need-next-row-requires-2 (given t) (breach-at-at t) breach-at.Post breach-at-Inv-loop breach-at-μ-loop
 breach-at-next-row-requires-2 t c κs =
@@ -190,21 +175,21 @@ pub +breach-at-spec : {M : Type 1} → statement M
     breach-at.Post
     breach-at-Inv-loop
     breach-at-μ-loop
-    (breach-at-is-free-requires t)
+    (λ c κs. search needs)
     (breach-at-returns t)
     (breach-at-row-number-requires t)
     (breach-at-returns-2 t)
     (breach-at-next-row-requires t)
     (breach-at-add-first t)
     (breach-at-loop-holds t)
-    (breach-at-name-start-requires t)
-    (breach-at-name-end-requires t)
+    (λ c κs. search needs)
+    (λ c κs. search needs)
     (breach-at-member-type-requires t)
     (breach-at-key-fits-requires t)
     (breach-at-breach-at-requires t)
-    (breach-at-enum-told t)
+    (λ c. search needs)
     (breach-at-returns-3 t)
-    (breach-at-enum-told-2 t)
+    (λ c. search needs)
     (breach-at-next-row-requires-2 t)
     (breach-at-loop-less t)
     (breach-at-loop-again t)

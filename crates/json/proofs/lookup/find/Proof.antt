@@ -16,17 +16,11 @@ abbrev μ-loop : tie.MeasureT-loop
 loop-holds : tie.Need-loop-holds Inv-loop μ-loop
 loop-holds c = seeks _ _ _ _ _
 
-is-named-requires : tie.Need-is-named-requires Inv-loop μ-loop
-is-named-requires c κs = search needs
-
 returns : tie.Need-returns Inv-loop μ-loop
 returns c =
     λ f h.
     seek-hit _ _ _ _ _ _ (c .before .before .before .loop .inv) f h (c .before .before .loop-test .taken)
     (sym (c .before .is-named .ensures) ∙ c .if1 .taken)
-
-next-row-requires : tie.Need-next-row-requires Inv-loop μ-loop
-next-row-requires c κs = search needs
 
 loop-less : tie.Need-loop-less Inv-loop μ-loop
 loop-less c = omega (arith, row-after _ _ (c .next-row .ensures) (omega arith), c .before .before .before .loop-test .taken)
@@ -49,9 +43,9 @@ find-spec =
     Inv-loop
     μ-loop
     loop-holds
-    is-named-requires
+    (λ c κs. search needs)
     returns
-    next-row-requires
+    (λ c κs. search needs)
     loop-less
     loop-again
     returns-2)

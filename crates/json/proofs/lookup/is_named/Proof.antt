@@ -4,17 +4,8 @@ use borrow.Author.Needs.{needs}
 use Rattle.json.proofs.lookup.is_named.Statement.{statement}
 use Rattle.json.proofs.lookup.is_named.Tie as tie
 
-name-start-requires : tie.Need-name-start-requires
-name-start-requires c κs = search needs
-
-name-end-requires : tie.Need-name-end-requires
-name-end-requires c κs = search needs
-
-name-is-requires : tie.Need-name-is-requires
-name-is-requires c κs = search needs
-
 returns : tie.Need-returns
 returns c = c .name-is .ensures ∙ rw (c .before .before .name-start .ensures, c .before .name-end .ensures)
 
 pub is-named-spec : {M : Type 1} → statement M
-is-named-spec = tie.close (tie.spec name-start-requires name-end-requires name-is-requires returns)
+is-named-spec = tie.close (tie.spec (λ c κs. search needs) (λ c κs. search needs) (λ c κs. search needs) returns)

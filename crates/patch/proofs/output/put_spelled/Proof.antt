@@ -22,9 +22,6 @@ abbrev μ-loop : tie.MeasureT-loop
 loop-holds : tie.Need-loop-holds Inv-loop μ-loop
 loop-holds c = left-all
 
-enum-told : tie.Need-enum-told Inv-loop μ-loop
-enum-told c = search needs
-
 -- the byte that is handed out, and those after it
 handed : (c : tie.After-slice-known4 Inv-loop μ-loop)
     → let k = now (c .before .before .before .before .before .before .before .before .before .before .before .before .before .before .before .args .key) in
@@ -80,7 +77,7 @@ put-spelled-spec =
     loop-holds
     (λ c κs. tt)
     (λ c. search needs)
-    enum-told
+    (λ c. search needs)
     (λ c κs. tt)
     same-length
     returns

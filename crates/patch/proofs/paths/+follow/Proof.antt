@@ -51,9 +51,6 @@ given t = (
   follow.Post,
 )
 
-follow-kind-requires : (t : ℕ) → follow-lts.Need-kind-requires (given t) (follow-at t) follow.Post
-follow-kind-requires t c κs = search needs
-
 follow-returns : (t : ℕ) → follow-lts.Need-returns (given t) (follow-at t) follow.Post
 follow-returns t c =
     λ f v.
@@ -75,15 +72,6 @@ follow-returns-2 t c =
     walk-scalar (now (a .text)) f s k (pointerOf (rest (now (a .key)) (a .c))) (λ e. c .before .if1 .left (kind .ensures ∙ first-row f s h .kind ∙ e))
     (λ e. c .if2 .taken (kind .ensures ∙ first-row f s h .kind ∙ e))
 
-follow-next-part-requires : (t : ℕ) → follow-lts.Need-next-part-requires (given t) (follow-at t) follow.Post
-follow-next-part-requires t c κs = search needs
-
-follow-enum-known-on : (t : ℕ) → follow-lts.Need-enum-known-on (given t) (follow-at t) follow.Post
-follow-enum-known-on t c = search needs
-
-follow-enum-told : (t : ℕ) → follow-lts.Need-enum-told (given t) (follow-at t) follow.Post
-follow-enum-told t c = search needs
-
 follow-returns-3 : (t : ℕ) → follow-lts.Need-returns-3 (given t) (follow-at t) follow.Post
 follow-returns-3 t c =
     λ f v.
@@ -103,12 +91,6 @@ follow-add-first t c =
     let row = row-inside (now (start .args .table)) (start .args .row) (omega (arith, kind .ensures, c .before .before .before .before .if2 .left)) in
     omega (arith, row, start .good .1 .0 .0)
 
-follow-next-row-requires : (t : ℕ) → follow-lts.Need-next-row-requires (given t) (follow-at t) follow.Post
-follow-next-row-requires t c κs = search needs
-
-follow-member-row-requires : (t : ℕ) → follow-lts.Need-member-row-requires (given t) (follow-at t) follow.Post
-follow-member-row-requires t c κs = search needs
-
 -- what is inside the object stands in the rows up to the next
 inside-there : (t : ℕ) (c : follow-lts.After-next-row (given t) (follow-at t) follow.Post)
     → let a = c .before .before .before .before .before .before .before .before .before .before .before .args in
@@ -119,12 +101,6 @@ inside-there t c =
     let a = start .args in
     let row = row-inside (a .table .now) (a .row) (omega (arith, c .before .before .before .before .before .before .before .kind .ensures, c .before .before .before .before .before .if2 .left)) in
     members-stand s h (row-after (a .table .now) (a .row) (c .next-row .ensures) (omega (arith, row, start .good .1 .0 .0)))
-
-follow-enum-known-m : (t : ℕ) → follow-lts.Need-enum-known-m (given t) (follow-at t) follow.Post
-follow-enum-known-m t c = search needs
-
-follow-enum-told-2 : (t : ℕ) → follow-lts.Need-enum-told-2 (given t) (follow-at t) follow.Post
-follow-enum-told-2 t c = search needs
 
 follow-returns-4 : (t : ℕ) → follow-lts.Need-returns-4 (given t) (follow-at t) follow.Post
 follow-returns-4 t c =
@@ -170,18 +146,18 @@ pub +follow-spec : {M : Type 1} → statement M
 +follow-spec = close μ-follow λ t. follow-lts.spec (given t)
     (follow-at t)
     follow.Post
-    (follow-kind-requires t)
+    (λ c κs. search needs)
     (follow-returns t)
     (follow-returns-2 t)
-    (follow-next-part-requires t)
-    (follow-enum-known-on t)
-    (follow-enum-told t)
+    (λ c κs. search needs)
+    (λ c. search needs)
+    (λ c. search needs)
     (follow-returns-3 t)
     (follow-add-first t)
-    (follow-next-row-requires t)
-    (follow-member-row-requires t)
-    (follow-enum-known-m t)
-    (follow-enum-told-2 t)
+    (λ c κs. search needs)
+    (λ c κs. search needs)
+    (λ c. search needs)
+    (λ c. search needs)
     (follow-returns-4 t)
     (follow-follow-requires t)
     (follow-returns-5 t)
