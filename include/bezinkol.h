@@ -50,8 +50,8 @@ extern "C" {
 #define BEZINKOL_TABLE_WORDS (BEZINKOL_ROW_WORDS * BEZINKOL_MAX_VALUES)
 #define BEZINKOL_ANSWER_WORDS 3
 
-/* The bytes of stack that a call needs, with a margin of 13 KiB or more. Measured on x86-64 with this kit (rattle-kit-5b): 67 KiB for reading and for
- * judging, 83 KiB for localizing, by calls that nest as deep as the limits let them; by the frames of the machine code no call takes more. tests/c
+/* The bytes of stack that a call needs, with a margin of 19 KiB or more. Measured on x86-64 with this kit (rattle-kit-5b): 59 KiB for reading, 61 KiB for
+ * judging, 69 KiB for localizing, by calls that nest as deep as the limits let them; by the frames of the machine code no call takes more. tests/c
  * measures both again (stack.c, frames.py) and fails where it is more than is said here; another kit may write other machine code. */
 #define BEZINKOL_READ_STACK 81920
 #define BEZINKOL_JUDGE_STACK 81920
