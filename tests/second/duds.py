@@ -18,7 +18,7 @@ DUDS = [
     ("bezinkol/refuses_all contact/judge_refuses_all bezinkol/fixed_answer contact/judge_fixed_answer", judge(b"{..}", OK), (12, 0)),
     ("contact/judge_passes_all contact/judge_fixed_answer bezinkol/fixed_answer", judge(b'{..,"kind":5}', (11, 50)), OK),
     ("bezinkol/invented_rows contact/judge_invented_rows json/one_row_more", judge(b'{..,"x":[1,2,3]}', OK), OTHER),
-    ("card/localize_refuses_all contact/refuses_all", localize(patch(b""), b"{..}"), (21, 0)),
+    ("bezinkol/localize_refuses_all contact/refuses_all", localize(patch(b""), b"{..}"), (21, 0)),
     ("contact/refuses_by_28", localize(patch(b'"z":1'), b'{..,"z":1}'), (28, 12)),
     ("patch/unpatched contact/unpatched contact/nothing_said", localize(patch(b'"z":2', b',"z":1'), b'{..,"z":2}'), b'{..,"z":1}'),
     ("card/nothing_done", localize(patch(b'"z":null', b',"z":1'), b"{..}"), b""),
