@@ -1,8 +1,5 @@
--- Judging: single values, the members of an object, the rules between them, the walk over a card's rows, and the verdict.
+-- Judging: values, the members of an object, the rules between them, the walk over a card's rows, and the verdict.
 pub mod Along
-pub mod Ids
-pub mod Counts
-pub mod Times
 pub mod Roles
 pub mod Values
 pub mod Separators

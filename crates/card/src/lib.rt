@@ -1,7 +1,5 @@
 // Judging and localizing a card (docs/RULES.md, 5 and 6).
-// Judging, from the single value up:
-//   formats     Ids and unsigned integers
-//   dates       UTCDateTime
+// Judging, on the tests of crate formats, from the single value up:
 //   content     the content of a string
 //   items       the types of a card's values, and their kinds
 //   inside      the members of a value, by its rows
@@ -17,8 +15,6 @@
 //   paper       the answers in the refusal sheet's numbers
 mod catalog;
 mod content;
-mod dates;
-mod formats;
 mod inside;
 mod items;
 pub mod judge;

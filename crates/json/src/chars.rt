@@ -21,10 +21,15 @@ use crate::bytes::ZERO;
 use crate::bytes::peek;
 use text::Hex;
 use text::Step;
+use unicode::checked;
+use unicode::code2;
+use unicode::code3;
+use unicode::code4;
+use unicode::tail;
 ghost use mathlib.Core.Path.{_≡_};
 ghost use Prim.Native.Nat.{_+_, _<_, _≤_};
 ghost use lib.ListN.{length};
-ghost use Rattle.text.specs.Chars.{digitOf, digitAt, hex4At, letterOf, checkedAt, tailOf, tailAt, seq2, seq3, seq4, rawAt, pairAt, unitAt, escapeAt, stepAt};
+ghost use Rattle.text.specs.Chars.{digitOf, digitAt, hex4At, letterOf, tailAt, rawAt, pairAt, unitAt, escapeAt, stepAt};
 
 // The value of a hexadecimal digit, or 16.
 fn digit(b: u16) -> u32
@@ -106,89 +111,11 @@ fn letter(b: u16) -> u32
     0
 }
 
-// A character of `len` bytes at `at`, if its code point is allowed.
-fn checked(at: usize, code: u32, len: usize) -> Step
-    ensures { λ r. ⌜ r ≡ checkedAt at code len ⌝ }
-{
-    if code < 0xD800 {
-        return Step::Char(code, len);
-    }
-    if code < 0xE000 {
-        return Step::Bad3(at);
-    }
-    if code < 0xFDD0 {
-        return Step::Char(code, len);
-    }
-    if code < 0xFDF0 {
-        return Step::Bad3(at);
-    }
-    if 0x10FFFF < code {
-        return Step::Bad3(at);
-    }
-    if code % 65536 < 0xFFFE {
-        Step::Char(code, len)
-    } else {
-        Step::Bad3(at)
-    }
-}
-
-// The six bits of a continuation byte, or 64.
-fn tail(b: u16) -> u32
-    ensures { λ r. ⌜ r ≡ tailOf b ⌝ }
-{
-    match b {
-        0x80..=0xBF => (b - 0x80) as u32,
-        _ => 64,
-    }
-}
-
 // The six bits of the continuation byte at a place, or 64.
 fn tail_at(text: &[u8], at: usize) -> u32
     ensures { λ r. ⌜ r ≡ tailAt (now (text .entry)) at ⌝ }
 {
     tail(peek(text, at))
-}
-
-// The code point of a sequence of two bytes, or 0x110000 where it is none.
-fn code2(b: u16, x: u32) -> u32
-    ensures { λ r. ⌜ r ≡ seq2 b x ⌝ }
-{
-    if 63 < x {
-        return 0x110000;
-    }
-    let code = (b % 32) as u32 * 64 + x;
-    if code < 128 { 0x110000 } else { code }
-}
-
-// The same of three bytes.
-fn code3(b: u16, x: u32, y: u32) -> u32
-    ensures { λ r. ⌜ r ≡ seq3 b x y ⌝ }
-{
-    if 63 < x {
-        return 0x110000;
-    }
-    if 63 < y {
-        return 0x110000;
-    }
-    let code = (b % 16) as u32 * 4096 + x * 64 + y;
-    if code < 2048 { 0x110000 } else { code }
-}
-
-// The same of four bytes.
-fn code4(b: u16, x: u32, y: u32, z: u32) -> u32
-    ensures { λ r. ⌜ r ≡ seq4 b x y z ⌝ }
-{
-    if 63 < x {
-        return 0x110000;
-    }
-    if 63 < y {
-        return 0x110000;
-    }
-    if 63 < z {
-        return 0x110000;
-    }
-    let code = (b % 8) as u32 * 262144 + x * 4096 + y * 64 + z;
-    if code < 65536 { 0x110000 } else { code }
 }
 
 // A raw character of several bytes, with the first byte b.

@@ -1,7 +1,0 @@
--- `card::formats::is_digit` meets its contract. Assumes nothing.
-use Rattle.laws.proofs.Picks.{picks}
-use Rattle.card.proofs.formats.is_digit.Statement.{statement}
-use Rattle.card.proofs.formats.is_digit.Tie as tie
-
-pub is-digit-spec : {M : Type 1} → statement M
-is-digit-spec = tie.close (tie.spec (λ c. search picks) (λ c. search picks) (λ c. search picks))
