@@ -12,7 +12,7 @@ use Rattle.text.specs.Standing.{Stands, StandsTo}
 use Rattle.text.specs.Doc.{Members, empty, member, labelAt, docOf, membersOf}
 use Rattle.contact.specs.Pointer.{pointerOf}
 use Rattle.contact.specs.Patch.{Entry, entry, changeOf}
-use Rattle.patch.specs.Pointers.{pointerOrder, strip}
+use Rattle.pointers.specs.Pointers.{pointerOrder, strip}
 use Rattle.patch.specs.Children.{keyAt}
 
 -- at the rows that the words i up to n of a list name stand these members, one after the other

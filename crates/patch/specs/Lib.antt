@@ -1,5 +1,3 @@
-pub mod Parts
-pub mod Pointers
 pub mod Children
 pub mod Entries
 pub mod Paths

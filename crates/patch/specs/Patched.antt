@@ -18,14 +18,14 @@ use Rattle.text.specs.Writing.{spelled, written, writtenMembers}
 use Rattle.contact.specs.Pointer.{Pointer, last, down, pointerOf, firstPart}
 use Rattle.contact.specs.Patch.{Change, remove, set, Entry, entry, changeOf, without, mine, under, applied, added}
 use Rattle.contact.specs.Localize.{start, patchedDoc}
-use Rattle.patch.specs.Pointers.{strip}
+use Rattle.pointers.specs.Pointers.{strip}
 use Rattle.patch.specs.Entries.{Listed, stripped}
 use Rattle.patch.specs.Runs.{InOrder}
 use Rattle.patch.specs.Written.{Wrote}
 use Rattle.json.specs.Lookup.{KnownAt}
 use Rattle.patch.specs.Copied.{headOf, labelIn}
-use Rattle.patch.specs.declared.parts.Onward.{Onward}
-use Rattle.patch.specs.declared.parts.Onward.the-variants.{Last, Part}
+use Rattle.pointers.specs.declared.parts.Onward.{Onward}
+use Rattle.pointers.specs.declared.parts.Onward.the-variants.{Last, Part}
 use Rattle.patch.specs.declared.writing.Spot.{Spot}
 
 -- ---- a run of entries

@@ -9,7 +9,7 @@ use Rattle.laws.specs.declared.Order.the-variants.{Less, Same, More}
 use Rattle.text.specs.Doc.{Name, Members, empty, member}
 use Rattle.contact.specs.Pointer.{Pointer, firstPart}
 use Rattle.contact.specs.Patch.{Change, Entry, entry}
-use Rattle.patch.specs.Pointers.{pointerOrder}
+use Rattle.pointers.specs.Pointers.{pointerOrder}
 use Rattle.patch.specs.Entries.{Listed, stripped}
 
 -- ---- strictly ascending entries

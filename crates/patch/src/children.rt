@@ -1,5 +1,4 @@
 // The members of an object by their rows (docs/RULES.md, 6.3): the name of one, and the one of a name or that a part of a pointer names.
-use crate::parts::part_same;
 use json::decode::Cursor;
 use json::decode::start;
 use json::lookup::Found;
@@ -10,13 +9,14 @@ use json::rows::OBJECT;
 use json::rows::kind;
 use json::rows::name_end;
 use json::rows::name_start;
+use pointers::parts::part_same;
 ghost use mathlib.Core.Path.{_≡_};
 ghost use Prim.Native.Nat.{ℕ};
 ghost use Rattle.text.specs.Tree.{Forest};
 ghost use Rattle.text.specs.Standing.{StandsTo};
 ghost use Rattle.json.specs.Cursors.{rest};
 ghost use Rattle.json.specs.Lookup.{Finds};
-ghost use Rattle.patch.specs.Parts.{partLeft};
+ghost use Rattle.pointers.specs.Parts.{partLeft};
 ghost use Rattle.patch.specs.Children.{keyBytes, Held, ChildFound};
 
 // The key at a row, as it is written.

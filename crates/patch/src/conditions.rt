@@ -2,11 +2,11 @@
 use crate::children::key_at;
 use crate::paths::Path;
 use crate::paths::follow;
-use crate::pointers::clashes;
-use crate::pointers::has_bad_tilde;
-use crate::pointers::is_own;
 use contact::LocalRefusal;
 use json::decode::start;
+use pointers::keys::clashes;
+use pointers::keys::has_bad_tilde;
+use pointers::keys::is_own;
 ghost use mathlib.Core.Path.{_≡_};
 ghost use mathlib.Core.Bool.{_||_};
 ghost use Prim.Native.Nat.{_≤_};

@@ -1,6 +1,4 @@
-// Localizing a card: the patch of a language applied to it. From the single part of a pointer up:
-//   parts       one part of a pointer, read off a key as written or as it is decoded
-//   pointers    keys as pointers: prefixes, order, bad tildes
+// Localizing a card: the patch of a language applied to it, by the pointers of crate pointers. From the members of an object up:
 //   children    the members of an object by their rows
 //   paths       where a pointer leads
 //   entries     the entries of a PatchObject, listed
@@ -15,9 +13,7 @@ pub mod compose;
 mod conditions;
 mod entries;
 mod output;
-mod parts;
 mod paths;
-mod pointers;
 mod runs;
 mod sort;
 mod writing;

@@ -1,7 +1,7 @@
 // Bytes for a lent output (docs/RULES.md, 6.7): each is counted, and stored where it fits. So the count says how long the output has to be.
-use crate::parts::part_byte;
 use json::decode::Cursor;
 use json::decode::Next;
+use pointers::parts::part_byte;
 ghost use mathlib.Core.Path.{_≡_};
 ghost use mathlib.Core.Bool.{cond};
 ghost use mathlib.Core.List.{[], _∷_};
@@ -13,7 +13,7 @@ ghost use Rattle.laws.specs.Lists.{partOf};
 ghost use Rattle.text.specs.Doc.{labelAt};
 ghost use Rattle.text.specs.Writing.{comma, smallHex, shortOf, spelledByte, spelled, coded};
 ghost use Rattle.json.specs.Cursors.{rest};
-ghost use Rattle.patch.specs.Parts.{partLeft};
+ghost use Rattle.pointers.specs.Parts.{partLeft};
 ghost use Rattle.patch.specs.Written.{Wrote};
 
 // Counting stops here: no lent output has so many bytes.

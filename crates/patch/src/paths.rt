@@ -1,13 +1,13 @@
 // Where a pointer leads in a card (docs/RULES.md, 6.3): the walk goes one part at a time, from the root, until the last part is left.
 use crate::children::member_row;
-use crate::parts::Onward;
-use crate::parts::next_part;
 use json::decode::Cursor;
 use json::lookup::Found;
 use json::lookup::next_row;
 use json::rows::ARRAY;
 use json::rows::OBJECT;
 use json::rows::kind;
+use pointers::parts::Onward;
+use pointers::parts::next_part;
 ghost use mathlib.Core.Path.{_≡_};
 ghost use Rattle.text.specs.Tree.{Forest};
 ghost use Rattle.text.specs.Doc.{docOf};

@@ -1,16 +1,16 @@
 // Where a name parts a run of sorted entries (docs/RULES.md, 6.5), found by halving.
 use crate::children::key_at;
-use crate::parts::part_order;
-use crate::pointers::part_at;
 use json::decode::start;
 use laws::Order;
+use pointers::keys::part_at;
+use pointers::parts::part_order;
 ghost use mathlib.Core.Path.{_≡_};
 ghost use Prim.Native.Nat.{_≤_};
 ghost use lib.ListN.{length};
 ghost use Rattle.laws.specs.Order.{orderOf};
 ghost use Rattle.text.specs.Strings.{decode};
 ghost use Rattle.contact.specs.Pointer.{pointerOf, firstPart};
-ghost use Rattle.patch.specs.Pointers.{strip};
+ghost use Rattle.pointers.specs.Pointers.{strip};
 ghost use Rattle.patch.specs.Children.{keyAt};
 ghost use Rattle.patch.specs.Runs.{aheadBy, Bound};
 

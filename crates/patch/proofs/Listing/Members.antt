@@ -16,11 +16,11 @@ use Rattle.laws.proofs.Orders.{order-refl, same-eq, same-refl}
 use Rattle.text.specs.Doc.{Name, Doc, Members, empty, member}
 use Rattle.contact.specs.Pointer.{Pointer, last, down, pointerOf, firstPart}
 use Rattle.contact.specs.Patch.{Change, Entry, entry, changeOf, mine, under}
-use Rattle.patch.specs.Pointers.{pointerOrder, strip}
+use Rattle.pointers.specs.Pointers.{pointerOrder, strip}
 use Rattle.patch.specs.Entries.{stripped}
 use Rattle.patch.specs.Runs.{BeforeAll, leads-none, leads-more, InOrder, asc-none, asc-more, aheadBy, Side, side-none, side-more, joined, Bound}
 use Rattle.patch.specs.Patched.{Said}
-use Rattle.patch.proofs.Pointing.Pointers.{strip-on}
+use Rattle.pointers.proofs.Laws.Pointers.{strip-on}
 
 -- ---- runs in two parts ----
 

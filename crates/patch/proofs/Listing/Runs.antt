@@ -20,11 +20,11 @@ use Rattle.text.specs.Strings.{nameOf}
 use Rattle.text.specs.Firsts.{nameStart, nameEnd}
 use Rattle.text.specs.Doc.{Name, Members, empty, member, labelAt, docOf}
 use Rattle.contact.specs.Pointer.{Pointer, pointerOf, firstPart}
-use Rattle.patch.specs.Pointers.{pointerOrder, strip}
+use Rattle.pointers.specs.Pointers.{pointerOrder, strip}
 use Rattle.patch.specs.Children.{keyAt}
 use Rattle.patch.specs.Entries.{Listed, over, next, stripped}
 use Rattle.patch.specs.Runs.{BeforeAll, leads-more, InOrder, asc-more, aheadBy, Side, side-none, side-more, joined, Bound}
-use Rattle.patch.proofs.Pointing.Orders.{first-upto}
+use Rattle.pointers.proofs.Laws.Orders.{first-upto}
 use Rattle.patch.proofs.Listing.Orders.{key-is}
 
 -- ---- by the order of names

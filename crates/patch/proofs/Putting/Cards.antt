@@ -11,7 +11,7 @@ use lib.ListN.{length}
 use Rattle.text.specs.Doc.{Members, empty, member}
 use Rattle.contact.specs.Pointer.{pointerOf}
 use Rattle.contact.specs.Patch.{Entry, entry, changeOf, entriesOf}
-use Rattle.patch.specs.Pointers.{strip}
+use Rattle.pointers.specs.Pointers.{strip}
 use Rattle.patch.specs.Entries.{stripped}
 use Rattle.patch.specs.Written.{full, Wrote}
 

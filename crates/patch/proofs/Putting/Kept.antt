@@ -29,7 +29,7 @@ use Rattle.json.specs.Cursors.{rest}
 use Rattle.json.specs.declared.decode.Cursor.{Cursor}
 use Rattle.contact.specs.Pointer.{Pointer, last, down, pointerOf, firstPart}
 use Rattle.contact.specs.Patch.{Change, remove, set, Entry, entry, mine, under, insert, fresh, added, keep, applied, kept, without, changeOf}
-use Rattle.patch.specs.Pointers.{pointerOrder, strip}
+use Rattle.pointers.specs.Pointers.{pointerOrder, strip}
 use Rattle.patch.specs.Runs.{BeforeAll, leads-more, InOrder, asc-more}
 use Rattle.patch.specs.Patched.{based, basedAll, isOut, keptBy, stays, freshly, adds, pointerIn, link, piece, since, Passed}
 use Rattle.patch.specs.Written.{full, Wrote}

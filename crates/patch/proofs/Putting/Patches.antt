@@ -21,14 +21,14 @@ use Rattle.json.specs.Rows.{belowIn}
 use Rattle.contact.specs.Pointer.{Pointer, last, down, pointerOf, firstPart}
 use Rattle.contact.specs.Patch.{Change, Entry, changeOf, mine, under, kept, applied}
 use Rattle.contact.proofs.Patching.Untouched.{applied-nil}
-use Rattle.patch.specs.Pointers.{strip}
+use Rattle.pointers.specs.Pointers.{strip}
 use Rattle.patch.specs.Entries.{Listed, stripped}
 use Rattle.patch.specs.Runs.{InOrder}
 use Rattle.patch.specs.Written.{Wrote}
 use Rattle.patch.specs.Patched.{Said, basedAll, isOut, OutAt, LeavesOut, BaseAt, keptBy, stays, pointerIn, isLast, isEnd, endsFirst, piece, since, Passed}
-use Rattle.patch.specs.Parts.{Goes}
-use Rattle.patch.specs.declared.parts.Onward.{Onward}
-use Rattle.patch.specs.declared.parts.Onward.the-variants.{Last, Part}
+use Rattle.pointers.specs.Parts.{Goes}
+use Rattle.pointers.specs.declared.parts.Onward.{Onward}
+use Rattle.pointers.specs.declared.parts.Onward.the-variants.{Last, Part}
 use Rattle.patch.specs.declared.writing.Spot.{Spot}
 use Rattle.patch.proofs.Putting.Bytes.{BytesLeft, left-on, left-as, left-last}
 use Rattle.patch.proofs.Putting.Walks.{value-row, Walk, walk-start, walk-here, walk-on, walk-end}

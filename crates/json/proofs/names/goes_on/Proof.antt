@@ -45,12 +45,11 @@ returns : tie.Need-returns Inv-loop μ-loop
 returns c =
     let l = now (c .before .before .before .before .before .before .before .args .lit) in
     let i = c .before .before .before .before .loop .i in
-    let e : c .before .before .before .peek .result ≡ getD l i 256 = cc in
     rw (
       ← c .before .before .before .before .loop .inv .0,
       ← c .before .before .next-byte .ensures .0,
       c .enum-told .given .1,
-      e,
+      c .before .before .before .peek .ensures .0,
     )
     (over l i (omega (arith, c .before .before .before .before .before .shared-slice-known2 .given i)))
 

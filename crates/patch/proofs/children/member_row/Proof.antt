@@ -8,7 +8,7 @@ use Rattle.laws.specs.Order.{same}
 use Rattle.laws.proofs.Orders.{same-sym}
 use Rattle.text.specs.Utf8.{conts}
 use Rattle.json.specs.Cursors.{rest}
-use Rattle.patch.specs.Parts.{partLeft}
+use Rattle.pointers.specs.Parts.{partLeft}
 use Rattle.patch.specs.Children.{keyAt}
 use Rattle.json.proofs.Seeking.{row-after, Seeking, seeks, seek-hit, seek-next, seek-none}
 use Rattle.patch.proofs.children.member_row.Statement.{statement}

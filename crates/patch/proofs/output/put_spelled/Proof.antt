@@ -7,8 +7,8 @@ use lib.ListN.{length}
 use borrow.Author.Needs.{needs}
 use Rattle.text.specs.Writing.{spelledByte, spelledBytes}
 use Rattle.json.specs.Cursors.{rest}
-use Rattle.patch.specs.Parts.{partLeft}
-use Rattle.patch.proofs.Pointing.Parts.{taken, over}
+use Rattle.pointers.specs.Parts.{partLeft}
+use Rattle.pointers.proofs.Laws.Parts.{taken, over}
 use Rattle.patch.proofs.Putting.Bytes.{BytesLeft, left-all, left-on, left-as, left-last, left-length, wrote-then}
 use Rattle.patch.proofs.output.put_spelled.Statement.{statement}
 use Rattle.patch.proofs.output.put_spelled.Tie as tie
@@ -32,7 +32,7 @@ handed c =
     let loop = c .before .before .before .before .before .before .before .before .loop in
     let part-byte = c .before .before .before .before .before .before .before .part-byte in
     let b = c .before .before .before .before .before .b in
-    taken (now (a .key)) (loop .c) (part-byte .ensures) (b .given .1)
+    taken (now (a .key)) (loop .c) (part-byte .ensures .0) (b .given .1)
 
 same-length : tie.Need-same-length Inv-loop μ-loop
 same-length c =
@@ -49,7 +49,7 @@ returns c =
     let part-byte = c .before .before .before .before .before .before .part-byte in
     let enum-told = c .before .before .before .before .enum-told in
     let n = partLeft (rest key (a .from)) in
-    let l = left-as (ap (λ m. spelledBytes m ++ (34 ∷ [])) (over key (loop .c) (part-byte .ensures) (enum-told .given .1))) (loop .inv) in
+    let l = left-as (ap (λ m. spelledBytes m ++ (34 ∷ [])) (over key (loop .c) (part-byte .ensures .0) (enum-told .given .1))) (loop .inv) in
     wrote-then (34 ∷ []) (spelledBytes n ++ (34 ∷ [])) (put-byte .ensures) (left-last (34 ∷ []) l (c .before .before .put-byte2 .ensures))
 
 loop-less : tie.Need-loop-less Inv-loop μ-loop

@@ -11,9 +11,9 @@ use Rattle.text.specs.Firsts.{HasFirst, insideAt}
 use Rattle.text.specs.Standing.{Stands, StandsTo}
 use Rattle.text.proofs.Promise.{first-row}
 use Rattle.json.proofs.Seeking.{row-after, row-inside, members-stand, standing}
-use Rattle.patch.proofs.Pointing.Pointers.{fewer}
+use Rattle.pointers.proofs.Laws.Pointers.{fewer}
 use Rattle.json.proofs.Seeking.{inside-kinds}
-use Rattle.patch.proofs.Pointing.Paths.{walk-array, walk-scalar, walk-last, walk-lacks, walk-on}
+use Rattle.patch.proofs.Listing.Paths.{walk-array, walk-scalar, walk-last, walk-lacks, walk-on}
 use Prim.Native.Nat.{ℕ, _<_, _+_}
 use borrow.Fn.Kinds.{In}
 use borrow.Fn.PlainCycle.{Measures, is, falls, and}
@@ -21,7 +21,7 @@ use Rattle.patch.proofs.paths.follow.Reads as follow
 use Rattle.patch.proofs.paths.follow.Kinds as follow-kinds
 use Rattle.patch.proofs.paths.+follow.Lts-follow as follow-lts
 use Rattle.patch.proofs.children.member_row.Reads as member-row-reads
-use Rattle.patch.proofs.parts.next_part.Reads as next-part-reads
+use Rattle.pointers.proofs.parts.next_part.Reads as next-part-reads
 use Rattle.json.proofs.lookup.next_row.Reads as next-row-reads
 use Rattle.json.proofs.rows.kind.Reads as kind-reads
 use Rattle.patch.proofs.paths.+follow.{statement}
@@ -82,7 +82,7 @@ follow-returns-3 t c =
     let kind = c .before .before .before .before .before .kind in
     let if2 = c .before .before .before .if2 in
     walk-last (now (a .text)) f s k (sym (first-row f s h .kind) ∙ sym (kind .ensures) ∙ if2 .left)
-    (rw (c .enum-told .given .1) at (c .before .before .next-part .ensures))
+    (rw (c .enum-told .given .1) at (c .before .before .next-part .ensures .0))
 
 follow-add-first : (t : ℕ) → follow-lts.Need-add-first (given t) (follow-at t) follow.Post
 follow-add-first t c =
@@ -113,7 +113,7 @@ follow-returns-4 t c =
     let if2 = c .before .before .before .before .before .before .before .before .if2 in
     let next-part = c .before .before .before .before .before .before .before .next-part in
     let on = c .before .before .before .before .before .on in
-    walk-lacks (now (a .text)) f s k (sym (first-row f s h .kind) ∙ sym (kind .ensures) ∙ if2 .left) (rw (on .given .1) at (next-part .ensures))
+    walk-lacks (now (a .text)) f s k (sym (first-row f s h .kind) ∙ sym (kind .ensures) ∙ if2 .left) (rw (on .given .1) at (next-part .ensures .0))
     (rw (c .enum-told2 .given .1) at (c .before .before .member-row .ensures (insideAt f) (inside-there t (c .before .before .before) f s h)))
 
 follow-follow-requires : (t : ℕ) → follow-lts.Need-follow-requires (given t) (follow-at t) follow.Post
@@ -122,7 +122,7 @@ follow-follow-requires t c κs =
     let a = c .before .before .before .before .before .before .before .before .before .before .before .before .before .before .before .args in
     let next-part = c .before .before .before .before .before .before .before .before .next-part in
     let on = c .before .before .before .before .before .before .on in
-    (omega (arith, p .0, fewer (pointerOf (rest (now (a .key)) (a .c))) (rw (on .given .1) at (next-part .ensures))), tt)
+    (omega (arith, p .0, fewer (pointerOf (rest (now (a .key)) (a .c))) (rw (on .given .1) at (next-part .ensures .0))), tt)
 
 follow-returns-5 : (t : ℕ) → follow-lts.Need-returns-5 (given t) (follow-at t) follow.Post
 follow-returns-5 t c =
@@ -140,7 +140,7 @@ follow-returns-5 t c =
     let found = standing
     (rw (c .before .before .m .given .1) at (member-row .ensures (insideAt f) (inside-there t (c .before .before .before .before .before) f s h))) in
     c .follow .ensures (found .found) (record { some = found .some-found; kinds = found .kinds (inside-kinds f k); stands = found .stands .stands }) ∙ walk-on (now (a .text)) f s k
-    (sym (first-row f s h .kind) ∙ sym (kind .ensures) ∙ if2 .left) (found .found) (rw (on .given .1) at (next-part .ensures)) (found .is)
+    (sym (first-row f s h .kind) ∙ sym (kind .ensures) ∙ if2 .left) (found .found) (rw (on .given .1) at (next-part .ensures .0)) (found .is)
 
 pub +follow-spec : {M : Type 1} → statement M
 +follow-spec = close μ-follow λ t. follow-lts.spec (given t)

@@ -7,7 +7,7 @@ use Rattle.laws.specs.declared.Order.{Order}
 use Rattle.text.specs.Strings.{pieceBy, decodeFrom, decode}
 use Rattle.text.specs.Utf8.{conts}
 use Rattle.contact.specs.Pointer.{pointerOf, firstPart}
-use Rattle.patch.specs.Pointers.{strip}
+use Rattle.pointers.specs.Pointers.{strip}
 use Rattle.patch.specs.Children.{keyAt}
 use borrow.Author.Needs.{needs}
 use Rattle.patch.proofs.runs.stands_before.Statement.{statement}
@@ -21,7 +21,7 @@ asked : (c : tie.After-part-order) {r : Order}
 unfolding conts decodeFrom scan pieceBy
 asked c e =
     let key-at = c .before .before .before .key-at in
-    rw (← key-at .ensures, ← c .before .before .part-at .ensures) (sym (rw (c .before .start .ensures) at (c .part-order .ensures)) ∙ e)
+    rw (← key-at .ensures, ← c .before .before .part-at .ensures .0) (sym (rw (c .before .start .ensures) at (c .part-order .ensures)) ∙ e)
 
 returns : tie.Need-returns
 returns c = rw (asked (c .before .before) (c .enum-told .given .1))

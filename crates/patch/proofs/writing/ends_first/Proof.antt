@@ -28,8 +28,8 @@ returns-2 c =
           let f = first-said s (c .before .before .before .before .before .if1 .left) in
           ends-by (now (a .ptext)) f
           (goes-last (now (key-at .result)) (c .before .next-part .result)
-          (at-part (now (a .ptext)) (a .parts) (now (key-at .result)) (part-at .result) (f .value) (key-at .ensures) (part-at .ensures))
-          (c .before .next-part .ensures) ∙ sym (c .is-end .ensures));
+          (at-part (now (a .ptext)) (a .parts) (now (key-at .result)) (part-at .result) (f .value) (key-at .ensures) (part-at .ensures .0))
+          (c .before .next-part .ensures .0) ∙ sym (c .is-end .ensures));
     }
 
 pub ends-first-spec : {M : Type 1} → statement M

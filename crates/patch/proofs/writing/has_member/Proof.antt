@@ -5,7 +5,7 @@ use denote.Ref.{now}
 use Rattle.text.specs.Firsts.{insideAt}
 use Rattle.text.specs.Doc.{membersOf}
 use Rattle.json.specs.Cursors.{rest}
-use Rattle.patch.specs.Parts.{partLeft}
+use Rattle.pointers.specs.Parts.{partLeft}
 use Rattle.patch.proofs.Putting.Walks.{rows-room}
 use Rattle.json.proofs.Seeking.{row-after, members-stand, standing}
 use Rattle.patch.proofs.Putting.Kept.{there-found, there-none}

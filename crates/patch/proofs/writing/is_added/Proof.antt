@@ -25,7 +25,7 @@ returns-2 c =
     λ root t g h b w.
     let a = c .before .before .before .before .before .before .before .before .before .args in
     adds-down (membersIn root (now (a .text)) g) (pointerOf (rest (now (a .key)) (a .c))) (changeOf (docOf t h))
-    (rw (c .enum-told2 .given .1) at (c .before .before .next-part .ensures))
+    (rw (c .enum-told2 .given .1) at (c .before .before .next-part .ensures .0))
 
 returns-3 : tie.Need-returns-3
 returns-3 c =
@@ -35,7 +35,7 @@ returns-3 c =
     let if1 = c .before .before .before .before .if1 in
     let next-part = c .before .before .before .next-part in
     adds-last (membersIn root (now (a .text)) g) (pointerOf (rest (now (a .key)) (a .c))) (docOf t h)
-    (rw (c .before .enum-told .given .1) at (next-part .ensures))
+    (rw (c .before .enum-told .given .1) at (next-part .ensures .0))
     (λ e. if1 .left (kind .ensures ∙ value-row w .kind ∙ sym (doc-kind t h (w .some)) ∙ e)) (c .has-member .ensures root g b)
 
 pub is-added-spec : {M : Type 1} → statement M

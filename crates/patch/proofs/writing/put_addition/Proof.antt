@@ -25,7 +25,7 @@ pointer : (c : tie.After-is-added) {h : Forest}
 pointer c w =
     let a = c .before .before .before .before .before .before .before .before .args in
     at-part (now (a .ptext)) (a .parts) (now (c .before .before .key-at .result)) (c .before .part-at .result) w
-    (c .before .before .key-at .ensures) (c .before .part-at .ensures)
+    (c .before .before .key-at .ensures) (c .before .part-at .ensures .0)
 
 returns : tie.Need-returns
 returns c =

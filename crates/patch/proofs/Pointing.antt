@@ -1,6 +1,0 @@
--- Keys as pointers, read byte by byte: parts, whole pointers and their order, and where they lead. Assumes nothing.
-pub mod Parts
-pub mod Glyphs
-pub mod Pointers
-pub mod Orders
-pub mod Paths

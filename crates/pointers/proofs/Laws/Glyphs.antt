@@ -1,0 +1,201 @@
+-- Laws of keys that are read as written, up to a backslash:
+--     order-fresh                                         a cursor where a character begins is a place
+--     coded-glyph, name-glyph, part-glyph, slash-glyph    what a byte shows
+--     tilde-one, tilde-zero, tilde-alone                  what a `~` and the byte after it show
+--     shown-order, shown-ends, shown-on                   two glyphs that are compared
+--     later-self, later-fresh, later-on                   a run of bytes that stays in its part
+-- Assumes nothing.
+use Prim.Native.Nat.{ℕ, _+_, _≤_, _<_}
+use mathlib.Core.Path.{_≡_, refl, ap, sym, _∙_}
+use mathlib.Core.Bool.{Bool, true, false}
+use mathlib.Core.List.{List, [], _∷_, _++_}
+use mathlib.Core.Option.{Option}
+use native.Mathlib.Decide.{ℕ-discrete}
+use native.Mathlib.Omega.{arith}
+use lib.ListN.{length}
+use borrow.Author.Tests.{ne-eqb}
+use Rattle.laws.specs.Order.{orderOf}
+use Rattle.laws.specs.declared.Order.the-variants.{Same}
+use Rattle.laws.proofs.Orders.{order-on}
+use Rattle.laws.proofs.Places.{inside}
+use Rattle.text.specs.Text.{byteAt}
+use Rattle.text.specs.Doc.{Name}
+use Rattle.text.specs.Strings.{decodeFrom}
+use Rattle.text.specs.Utf8.{conts}
+use Rattle.contact.specs.Pointer.{Pointer, pointerOf}
+use Rattle.json.specs.Cursors.{rest, cursor, freshOf, nextOf}
+use Rattle.json.specs.Names.{orderAt}
+use Rattle.json.specs.declared.decode.Cursor.{Cursor}
+use Rattle.json.specs.declared.decode.Next.the-variants.{Byte, Over}
+use Rattle.json.proofs.Alike.{decode-over, decode-byte, order-heads}
+use Rattle.pointers.specs.Parts.{partLeft, nameLeft, leftAt, tildeLeft, Shows, tailOf, Crosses, at-end, at-slash, past, Later}
+use Rattle.pointers.specs.declared.parts.Onward.{Onward}
+use Rattle.pointers.specs.declared.parts.Glyph.{Glyph}
+use Rattle.pointers.proofs.Laws.Parts.{part-plain, part-tilde, tail-on}
+
+-- ---- places ----
+
+no-conts : (left code : ℕ) → left ≡ 0 → conts left code ≡ []
+unfolding conts
+no-conts left code e = rw e
+
+fresh : (t : List ℕ) (c : Cursor) → c .left ≡ 0 → rest t c ≡ rest t (cursor (c .at) 0 0)
+unfolding conts
+fresh t c e = ap (λ (l : List ℕ). l ++ decodeFrom t (c .at)) (no-conts (c .left) (c .code) e)
+
+left-fresh : (part : Bool) (t : List ℕ) (c : Cursor) → c .left ≡ 0 → nameLeft part t c ≡ leftAt part t (c .at)
+left-fresh true t c e = ap partLeft (fresh t c e)
+left-fresh false t c e = fresh t c e
+
+pub order-fresh : (key name : List ℕ) (part : Bool) (x y : Cursor) → x .left ≡ 0 → y .left ≡ 0
+    → orderOf (leftAt true key (x .at)) (leftAt part name (y .at)) ≡ orderOf (partLeft (rest key x)) (nameLeft part name y)
+order-fresh key name part x y e f =
+    rw (left-fresh part name y f) (sym (ap (λ (n : Name). orderOf n (leftAt part name (y .at))) (left-fresh true key x e)))
+
+module _ (t : List ℕ) (at : ℕ) where
+  rest-over : byteAt t at ≡ 256 → rest t (cursor at 0 0) ≡ []
+  unfolding conts
+  rest-over e = decode-over t at e
+
+  rest-byte : (byteAt t at ≡ 92 → ⊥) → (byteAt t at ≡ 256 → ⊥) → rest t (cursor at 0 0) ≡ byteAt t at ∷ rest t (cursor (at + 1) 0 0)
+  unfolding conts
+  rest-byte s e = decode-byte t at s e
+
+-- ---- what a byte shows ----
+
+abbrev pub glyph : (value len : ℕ) → Glyph
+glyph value len = record { value = value; len = len }
+
+pub coded-glyph : (part : Bool) (t : List ℕ) (at : ℕ) → Shows part t at (glyph 257 1)
+coded-glyph part t at = record { most = omega arith; over = λ e. absurd (omega arith); byte = λ h. absurd (omega arith); within = λ h. absurd (omega arith) }
+
+-- a glyph that is a byte
+shows : (part : Bool) (t : List ℕ) (at value len : ℕ) → value < 256 → at + len ≤ length t → leftAt part t at ≡ value ∷ leftAt part t (at + len)
+    → Shows part t at (glyph value len)
+shows part t at value len small within e =
+    record { most = omega arith; over = λ z. absurd (omega arith); byte = λ h. e; within = λ h. within }
+
+module _ (t : List ℕ) (at : ℕ) (most : byteAt t at ≤ 256) (s : byteAt t at ≡ 92 → ⊥) where
+  on : byteAt t at < 256 → rest t (cursor at 0 0) ≡ byteAt t at ∷ rest t (cursor (at + 1) 0 0)
+  on h = rest-byte t at s (λ z. omega arith)
+
+  within-by : byteAt t at < 256 → at + 1 ≤ length t
+  within-by h = let k = inside t at h in omega arith
+
+  pub name-glyph : Shows false t at (glyph (byteAt t at) 1)
+  name-glyph = record { most = omega arith; over = rest-over t at; byte = on; within = within-by }
+
+  pub part-glyph : (byteAt t at ≡ 47 → ⊥) → (byteAt t at ≡ 126 → ⊥) → Shows true t at (glyph (byteAt t at) 1)
+  part-glyph slash tilde =
+      record {
+        most = omega arith;
+        over = λ e. ap partLeft (rest-over t at e);
+        byte = λ h. ap partLeft (on h) ∙ part-plain (byteAt t at) (rest t (cursor (at + 1) 0 0)) slash tilde;
+        within = within-by;
+      }
+
+pub slash-glyph : (t : List ℕ) (at : ℕ) → byteAt t at ≡ 47 → Shows true t at (glyph 256 1)
+slash-glyph t at e =
+    record {
+      most = omega arith;
+      over = λ z. ap partLeft (rest-byte t at (λ z. omega arith) (λ z. omega arith)) ∙ rw e;
+      byte = λ h. absurd (omega arith);
+      within = λ h. absurd (omega arith);
+    }
+
+-- ---- what a `~` shows ----
+
+module _ (t : List ℕ) (at : ℕ) (tilde : byteAt t at ≡ 126) where
+  after : leftAt true t at ≡ tildeLeft (rest t (cursor (at + 1) 0 0))
+  after = rw (rest-byte t at (λ z. omega arith) (λ z. omega arith), tilde) (part-tilde (rest t (cursor (at + 1) 0 0)))
+
+  pub tilde-inside : at < length t
+  tilde-inside = inside t at (omega arith)
+
+  -- the byte after it, if that begins no escape of JSON's
+  next : (b : ℕ) → b < 92 → byteAt t (at + 1) ≡ b → rest t (cursor (at + 1) 0 0) ≡ b ∷ rest t (cursor (at + 2) 0 0)
+  next b h e =
+      let two : at + 1 + 1 ≡ at + 2 = omega arith in
+      rest-byte t (at + 1) (λ z. omega arith) (λ z. omega arith) ∙ rw (e, two)
+
+  pub tilde-one : byteAt t (at + 1) ≡ 49 → Shows true t at (glyph 47 2)
+  unfolding tildeLeft
+  tilde-one e =
+      let k = inside t (at + 1) (omega arith) in
+      shows true t at 47 2 (omega arith) (omega arith) (after ∙ rw (next 49 (omega arith) e))
+
+  pub tilde-zero : byteAt t (at + 1) ≡ 48 → Shows true t at (glyph 126 2)
+  unfolding tildeLeft
+  tilde-zero e =
+      let k = inside t (at + 1) (omega arith) in
+      shows true t at 126 2 (omega arith) (omega arith) (after ∙ rw (next 48 (omega arith) e))
+
+  pub tilde-alone : byteAt t (at + 1) ≤ 256 → (byteAt t (at + 1) ≡ 49 → ⊥) → (byteAt t (at + 1) ≡ 48 → ⊥) → (byteAt t (at + 1) ≡ 92 → ⊥)
+      → Shows true t at (glyph 126 1)
+  unfolding tildeLeft
+  tilde-alone most one zero s =
+      let k = tilde-inside in
+      shows true t at 126 1 (omega arith) (omega arith) (after ∙ elim (ℕ-discrete (byteAt t (at + 1)) 256) [
+        | yes e ↦ rw (rest-over t (at + 1) e)
+        | no e ↦ rw (rest-byte t (at + 1) s e, ne-eqb (byteAt t (at + 1)) 49 one, ne-eqb (byteAt t (at + 1)) 48 zero)
+      ])
+
+-- ---- two glyphs ----
+
+module _ (key name : List ℕ) (part : Bool) (i j : ℕ) (p q : Glyph) (P : Shows true key i p) (Q : Shows part name j q) where
+  pub shown-order : (p .value ≡ 257 → ⊥) → (q .value ≡ 257 → ⊥) → (p .value ≡ q .value → ⊥)
+      → orderAt (p .value) (q .value) ≡ orderOf (leftAt true key i) (leftAt part name j)
+  shown-order x y ne =
+      order-heads (p .value) (q .value) (leftAt true key i) (leftAt part name j) (P .over) (λ o. P .byte (omega (arith, P .most))) (Q .over)
+      (λ o. Q .byte (omega (arith, Q .most))) (λ e. absurd (ne e))
+
+  pub shown-ends : p .value ≡ q .value → p .value ≡ 256 → Same ≡ orderOf (leftAt true key i) (leftAt part name j)
+  unfolding orderOf
+  shown-ends e o = rw (P .over o, Q .over (sym e ∙ o))
+
+  pub shown-on : p .value ≡ q .value → p .value < 256
+      → orderOf (leftAt true key (i + p .len)) (leftAt part name (j + q .len)) ≡ orderOf (leftAt true key i) (leftAt part name j)
+  shown-on e h =
+      rw (P .byte h, Q .byte (omega arith))
+      (sym (order-on (p .value) (q .value) (leftAt true key (i + p .len)) (leftAt part name (j + q .len)) (omega arith) (omega arith)))
+
+-- ---- a run ----
+
+-- where a character begins, what is read is told by the place alone
+next-fresh : (t : List ℕ) (c : Cursor) → c .left ≡ 0 → nextOf t c ≡ nextOf t (cursor (c .at) 0 0)
+unfolding nextOf
+next-fresh t c e = rw e
+
+next-byte : (t : List ℕ) (at : ℕ) → (byteAt t at ≡ 92 → ⊥) → (byteAt t at ≡ 256 → ⊥) → nextOf t (cursor at 0 0) ≡ Byte (byteAt t at) (cursor (at + 1) 0 0)
+unfolding nextOf freshOf
+next-byte t at s e = rw (ne-eqb (byteAt t at) 256 e, ne-eqb (byteAt t at) 92 s)
+
+-- two cursors that read alike
+crosses-as : (t : List ℕ) {c d : Cursor} {r : Onward} → nextOf t c ≡ nextOf t d → Crosses t d r → Crosses t c r
+crosses-as t e (at-end o) = at-end (e ∙ o)
+crosses-as t e (at-slash o) = at-slash (e ∙ o)
+crosses-as t e (past o n x) = past (e ∙ o) n x
+
+abbrev tailIn : List ℕ → Option Pointer
+tailIn bs = tailOf (pointerOf bs)
+
+pub later-self : (t : List ℕ) (c : Cursor) → Later t c c
+later-self t c = record { follows = refl; fewer = omega arith; leads = λ r x. x }
+
+pub later-fresh : (t : List ℕ) (c d : Cursor) → c .left ≡ 0 → Later t (cursor (c .at) 0 0) d → Later t c d
+later-fresh t c d e l =
+    record {
+      follows = l .follows ∙ sym (ap tailIn (fresh t c e));
+      fewer = omega (arith, ap length (fresh t c e), l .fewer);
+      leads = λ r x. crosses-as t (next-fresh t c e) (l .leads r x);
+    }
+
+pub later-on : (t : List ℕ) (c : Cursor) (at : ℕ) → byteAt t at < 256 → (byteAt t at ≡ 92 → ⊥) → (byteAt t at ≡ 47 → ⊥) → Later t c (cursor at 0 0)
+    → Later t c (cursor (at + 1) 0 0)
+later-on t c at h s slash l =
+    let e = rest-byte t at s (λ z. omega arith) in
+    record {
+      follows = sym (ap tailIn e ∙ tail-on (byteAt t at) (rest t (cursor (at + 1) 0 0)) slash) ∙ l .follows;
+      fewer = omega (arith, ap length e, l .fewer);
+      leads = λ r x. l .leads r (past (next-byte t at s (λ z. omega arith)) slash x);
+    }

@@ -1,0 +1,286 @@
+// One part of a pointer, read off a key while the key is decoded: nothing is copied. In a part `~1` is `/` and `~0` is `~` (docs/RULES.md, 6.2).
+// Up to a backslash keys are compared, and passed, as they are written.
+use json::bytes::BACKSLASH;
+use json::bytes::OVER;
+use json::bytes::SLASH;
+use json::bytes::ZERO;
+use json::bytes::peek;
+use json::decode::Cursor;
+use json::decode::Next;
+use json::decode::next_byte;
+use json::names::order_at;
+use laws::Order;
+ghost use mathlib.Core.Path.{_≡_};
+ghost use mathlib.Core.Bool.{true};
+ghost use Rattle.laws.specs.Order.{orderOf, same};
+ghost use Rattle.text.specs.Text.{byteAt};
+ghost use Rattle.json.specs.Cursors.{rest, cursor, nextOf};
+ghost use Rattle.contact.specs.Pointer.{pointerOf};
+ghost use Rattle.pointers.specs.Parts.{partLeft, partUnread, nameLeft, Goes, nameUnread, tildeLeft, leftAt, Shows, Later, tildeNext, partNext, Crosses};
+
+// Bytes that are told apart as written, as wide as what `peek` gives.
+const TILDE: u16 = b'~' as u16;
+
+const ONE: u16 = b'1' as u16;
+
+// A glyph's value where a backslash has to be decoded; at the end it is OVER.
+const CODED: u16 = 257;
+
+// What follows a part: another, where the cursor stands, or none.
+pub enum Onward {
+    Last,
+    Part(Cursor),
+}
+
+// What a `~` stands for, the cursor being behind it: `~1` is `/`, `~0` is `~`, and both bytes are passed; before any other byte it is `~` itself.
+fn tilde_byte(key: &[u8], on: Cursor) -> Next
+    ensures { λ r. ⌜ partUnread (now (key .entry)) r ≡ tildeLeft (rest (now (key .entry)) on) ⌝ }
+    ensures is { λ r. ⌜ r ≡ tildeNext on (nextOf (now (key .entry)) on) ⌝ }
+{
+    let Next::Byte(b, after) = next_byte(key, on) else {
+        return Next::Byte(b'~', on);
+    };
+    if b == b'1' {
+        return Next::Byte(b'/', after);
+    }
+    if b == b'0' {
+        return Next::Byte(b'~', after);
+    }
+    Next::Byte(b'~', on)
+}
+
+// The next byte of the part at the cursor; over at its end.
+pub fn part_byte(key: &[u8], c: Cursor) -> Next
+    ensures { λ r. ⌜ partUnread (now (key .entry)) r ≡ partLeft (rest (now (key .entry)) c) ⌝ }
+    ensures is { λ r. ⌜ r ≡ partNext (now (key .entry)) c ⌝ }
+{
+    let Next::Byte(b, on) = next_byte(key, c) else {
+        return Next::Over;
+    };
+    if b == b'/' {
+        return Next::Over;
+    }
+    if b == b'~' {
+        return tilde_byte(key, on);
+    }
+    Next::Byte(b, on)
+}
+
+// The next byte of the part at the cursor, or, where the bytes are no pointer but a name, of the name.
+fn name_byte(part: bool, key: &[u8], c: Cursor) -> Next
+    ensures { λ r. ⌜ nameUnread part (now (key .entry)) r ≡ nameLeft part (now (key .entry)) c ⌝ }
+{
+    if part {
+        return part_byte(key, c);
+    }
+    next_byte(key, c)
+}
+
+// What is written at a place of a part, or of a name: a byte and how many written bytes spell it, or no byte.
+struct Glyph {
+    pub value: u16,
+    pub len: usize,
+}
+
+// A cursor at a place where a character begins.
+fn cursor_at(at: usize) -> Cursor
+    ensures { λ r. ⌜ r ≡ cursor at 0 0 ⌝ }
+{
+    Cursor {
+        at,
+        code: 0,
+        left: 0,
+    }
+}
+
+// What a `~` of a part and the byte after it spell.
+fn tilde_at(key: &[u8], at: usize) -> Glyph
+    requires { ⌜ byteAt (now key) at ≡ 126 ⌝ }
+    ensures { λ r. ⌜ Shows true (now (key .entry)) at r ⌝ }
+{
+    let b = peek(key, at + 1);
+    if b == ONE {
+        return Glyph {
+            value: SLASH,
+            len: 2,
+        };
+    }
+    if b == ZERO {
+        return Glyph {
+            value: TILDE,
+            len: 2,
+        };
+    }
+    if b == BACKSLASH {
+        return Glyph {
+            value: CODED,
+            len: 1,
+        };
+    }
+    Glyph {
+        value: TILDE,
+        len: 1,
+    }
+}
+
+// The glyph at a place of a part, or of a name.
+fn glyph_at(part: bool, key: &[u8], at: usize) -> Glyph
+    ensures { λ r. ⌜ Shows part (now (key .entry)) at r ⌝ }
+{
+    let b = peek(key, at);
+    if b == BACKSLASH {
+        return Glyph {
+            value: CODED,
+            len: 1,
+        };
+    }
+    if !part {
+        return Glyph { value: b, len: 1 };
+    }
+    if b == SLASH {
+        return Glyph {
+            value: OVER,
+            len: 1,
+        };
+    }
+    if b == TILDE {
+        return tilde_at(key, at);
+    }
+    Glyph { value: b, len: 1 }
+}
+
+// The order of a part and another part, or a name, decoded from their cursors on; `is_part` says which.
+fn order_from(key: &[u8], from: Cursor, is_part: bool, name: &[u8], name_from: Cursor) -> Order
+    ensures { λ r. ⌜ r ≡ orderOf (partLeft (rest (now (key .entry)) from)) (nameLeft «is_part» (now (name .entry)) «name_from») ⌝ }
+{
+    let mut x = from;
+    let mut y = name_from;
+    loop {
+        match part_byte(key, x) {
+            Next::Over => {
+                return match name_byte(is_part, name, y) {
+                    Next::Over => Order::Same,
+                    Next::Byte(_, _) => Order::Less,
+                };
+            }
+            Next::Byte(p, x2) => match name_byte(is_part, name, y) {
+                Next::Over => {
+                    return Order::More;
+                }
+                Next::Byte(q, y2) => {
+                    if p < q {
+                        return Order::Less;
+                    }
+                    if q < p {
+                        return Order::More;
+                    }
+                    x = x2;
+                    y = y2;
+                }
+            },
+        }
+    }
+}
+
+// The same from places where a character begins: they are compared as written, up to a backslash.
+fn written_order(key: &[u8], from: usize, is_part: bool, name: &[u8], name_from: usize) -> Order
+    ensures { λ r. ⌜ r ≡ orderOf (leftAt true (now (key .entry)) from) (leftAt «is_part» (now (name .entry)) «name_from») ⌝ }
+{
+    let mut i = from;
+    let mut j = name_from;
+    loop {
+        let p = glyph_at(true, key, i);
+        let q = glyph_at(is_part, name, j);
+        let x = p.value;
+        let y = q.value;
+        if x == CODED {
+            return order_from(key, cursor_at(i), is_part, name, cursor_at(j));
+        }
+        if y == CODED {
+            return order_from(key, cursor_at(i), is_part, name, cursor_at(j));
+        }
+        if x != y {
+            return order_at(x, y);
+        }
+        if x == OVER {
+            return Order::Same;
+        }
+        i = i + p.len;
+        j = j + q.len;
+    }
+}
+
+// The order of the part at a cursor and another part, or a name, from its cursor on; `is_part` says which.
+pub fn part_order(key: &[u8], from: Cursor, is_part: bool, name: &[u8], name_from: Cursor) -> Order
+    ensures { λ r. ⌜ r ≡ orderOf (partLeft (rest (now (key .entry)) from)) (nameLeft «is_part» (now (name .entry)) «name_from») ⌝ }
+{
+    if from.left != 0 {
+        return order_from(key, from, is_part, name, name_from);
+    }
+    if name_from.left != 0 {
+        return order_from(key, from, is_part, name, name_from);
+    }
+    written_order(key, from.at, is_part, name, name_from.at)
+}
+
+// Are they the same?
+pub fn part_same(key: &[u8], from: Cursor, is_part: bool, name: &[u8], name_from: Cursor) -> bool
+    ensures { λ r. ⌜ r ≡ same (partLeft (rest (now (key .entry)) from)) (nameLeft «is_part» (now (name .entry)) «name_from») ⌝ }
+{
+    match part_order(key, from, is_part, name, name_from) {
+        Order::Same => true,
+        Order::Less => false,
+        Order::More => false,
+    }
+}
+
+// Past the bytes from a place on that are neither a slash nor a backslash.
+fn written_end(key: &[u8], from: usize) -> usize
+    ensures { λ r. ⌜ Later (now (key .entry)) (cursor from 0 0) (cursor r 0 0) ⌝ }
+{
+    let mut at = from;
+    loop {
+        let b = peek(key, at);
+        if b == SLASH {
+            return at;
+        }
+        if b == BACKSLASH {
+            return at;
+        }
+        if b == OVER {
+            return at;
+        }
+        at += 1;
+    }
+}
+
+// Past such bytes, if a character begins at the cursor.
+fn past_written(key: &[u8], c: Cursor) -> Cursor
+    ensures { λ r. ⌜ Later (now (key .entry)) c r ⌝ }
+{
+    if c.left != 0 {
+        return c;
+    }
+    cursor_at(written_end(key, c.at))
+}
+
+// What follows the part at the cursor.
+pub fn next_part(key: &[u8], from: Cursor) -> Onward
+    ensures { λ r. ⌜ Goes (now (key .entry)) (pointerOf (rest (now (key .entry)) from)) r ⌝ }
+    ensures is { λ r. ⌜ Crosses (now (key .entry)) from r ⌝ }
+{
+    let mut c = from;
+    loop {
+        match next_byte(key, past_written(key, c)) {
+            Next::Over => {
+                return Onward::Last;
+            }
+            Next::Byte(b, on) => {
+                if b == b'/' {
+                    return Onward::Part(on);
+                }
+                c = on;
+            }
+        }
+    }
+}
