@@ -30,18 +30,18 @@ DUDS = [
     ("patch/order_decides contact/half_patched", localize(patch(b'"n":{},"n/x":1'), (24, 0)), b'{..,"n":{"x":1}}'),
     ("patch/order_decides contact/half_patched", localize(patch(b'"no/a":1,"y/b":1', b',"y":{}'), (26, 0)), b'{..,"y":{"b":1}}'),
     ("patch/order_decides", localize(patch(b'"y/b":1,"no/a":1', b',"y":{}'), (26, 0)), OK),
-    ("patch/tilde_zero_is_slash contact/tilde_undone_twice", localize(patch(b'"~01":1'), b'{..,"~1":1}'), b'{..,"/":1}'),
-    ("patch/tilde_zero_is_slash", localize(patch(b'"~0a":2', b',"~a":1'), b'{..,"~a":2}'), (28, 4)),
+    ("pointers/tilde_zero_is_slash contact/tilde_undone_twice", localize(patch(b'"~01":1'), b'{..,"~1":1}'), b'{..,"/":1}'),
+    ("pointers/tilde_zero_is_slash", localize(patch(b'"~0a":2', b',"~a":1'), b'{..,"~a":2}'), (28, 4)),
     ("card/never_judged contact/never_judged", localize(
         patch(b'"name/full":null,"name/components":null', b"," + GIVEN), (28, 14)), b'{..,"name":{}}'),
-    ("patch/prefix_by_bytes contact/prefix_by_bytes", localize(
+    ("pointers/prefix_by_bytes contact/prefix_by_bytes", localize(
         patch(b'"emails/e1":null,"emails/e10":null', b',"emails":{"e1":{"address":"a"},"e10":{"address":"b"}}'), b'{..,"emails":{}}'), (24, 0)),
     ("card/output_left_dirty laws/first_word_left", localize(patch(b'"uid":null'), (28, 12), room=100), OTHER),
     # reading
     ("text/refuses_all", read(b"1", OK), (2, 1)),
-    ("json/lone_surrogate text/lone_low_taken", read(rb'"\uDC00"', (3, 1)), OK),
-    ("json/noncharacter_range text/noncharacter_taken", read(b'"\xef\xb7\xaf"', (3, 1)), OK),
-    ("json/overlong_form", read(b'"\xe0\x9f\xbf"', (3, 1)), OK),
+    ("unicode/lone_surrogate text/lone_low_taken", read(rb'"\uDC00"', (3, 1)), OK),
+    ("unicode/noncharacter_range text/noncharacter_taken", read(b'"\xef\xb7\xaf"', (3, 1)), OK),
+    ("unicode/overlong_form", read(b'"\xe0\x9f\xbf"', (3, 1)), OK),
     ("text/overlong_taken", read(b'"\xc1\x80"', (3, 1)), OK),
     ("text/place_of_token", read(b"[truu]", (2, 4)), (2, 1)),
     ("text/later_fault", read(rb'"\uD800\u00G0"', (3, 1)), (2, 11)),
@@ -58,7 +58,7 @@ DUDS = [
     # judging
     ("contact/judge_not_nested", judge(b'{..,"name":{"full":"A","isOrdered":1}}', (11, 74)), OK),
     ("contact/judge_wrong_row", judge(b'{..,"x":[1,[2]],"kind":5}', (11, 62)), (11, 48)),
-    ("contact/leap_every_four", judge(b'{..,"created":"1900-02-29T00:00:00Z"}', (13, 53)), OK),
+    ("formats/leap_every_four contact/leap_every_four", judge(b'{..,"created":"1900-02-29T00:00:00Z"}', (13, 53)), OK),
     ("contact/pref_to_101", judge(b'{..,"phones":{"p":{"number":"5","pref":101}}}', (13, 78)), OK),
     ("contact/type_exchanged", judge(b'{..,"prodId":"p"}', OK), (11, 52)),
     ("contact/name_misspelt", judge(b'{..,"addresses":{"a":{"coordinates":5}}}', (11, 75)), OK),
@@ -68,7 +68,7 @@ DUDS = [
     ("card/name_with_neither contact/name_with_neither", judge(b'{..,"name":{}}', (14, 50)), OK),
     ("contact/wrong_kind_counts", judge(b'{..,"name":{"full":5}}', (14, 50)), (11, 58)),
     ("contact/id_as_written", judge(rb'{..,"addresses":{"\u0061":{}}}', OK), (13, 65)),
-    ("contact/fraction_of_noughts", judge(b'{..,"updated":"2010-10-10T10:10:10.0Z"}', (13, 53)), OK),
+    ("formats/fraction_of_noughts contact/fraction_of_noughts", judge(b'{..,"updated":"2010-10-10T10:10:10.0Z"}', (13, 53)), OK),
     # localizing
     ("contact/prefix_missed", localize(patch(b'"name":null,"name/full":"B"', b',"name":{"full":"A"}'), (24, 0)), b"{..}"),
     ("contact/array_entered", localize(patch(b'"x/0":1', b',"x":[]'), (25, 0)), OK),

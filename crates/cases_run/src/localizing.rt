@@ -63,17 +63,22 @@ fn report(text: &[u8], language: &[u8], out: &mut [u8], table: &mut [u32]) {
     io::write_all(1, b"\n");
 }
 
-// The language and the text of a line, on a table of so many words and an output of so many bytes.
-fn lent(words: usize, room: usize, line: &[u8], base: &[u8]) {
-    let mut language = [0u8; 1000];
-    let mut text = [0u8; ROOM];
-    let mut out = [SET_BYTE; ROOM];
-    let mut table = [SET_WORD; WORDS];
+// The language and the text of a line, in buffers of their own, on so many words of a table and so many bytes of an output.
+fn lent(
+    words: usize,
+    room: usize,
+    line: &[u8],
+    base: &[u8],
+    language: &mut [u8],
+    text: &mut [u8],
+    out: &mut [u8],
+    table: &mut [u32],
+) {
     let head = before(line, b' ');
-    let named = unpack(&line[..head], base, &mut language);
-    let size = unpack(after(line, b' '), base, &mut text);
-    let bytes = bytes_of(room, &out);
-    let rows = words_of(words, &table);
+    let named = unpack(&line[..head], base, language);
+    let size = unpack(after(line, b' '), base, text);
+    let bytes = bytes_of(room, out);
+    let rows = words_of(words, table);
     report(
         &text[..size],
         &language[..named],
@@ -83,6 +88,19 @@ fn lent(words: usize, room: usize, line: &[u8], base: &[u8]) {
 }
 
 pub fn case_of(line: &[u8], base: &[u8]) {
+    let mut language = [0u8; 1000];
+    let mut text = [0u8; ROOM];
+    let mut out = [SET_BYTE; ROOM];
+    let mut table = [SET_WORD; WORDS];
     let rest = after(line, b' ');
-    lent(number(line), number(rest), after(rest, b' '), base);
+    lent(
+        number(line),
+        number(rest),
+        after(rest, b' '),
+        base,
+        &mut language,
+        &mut text,
+        &mut out,
+        &mut table,
+    );
 }

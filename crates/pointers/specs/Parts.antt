@@ -51,10 +51,10 @@ pub record Shows (part : Bool) (key : List ℕ) (at : ℕ) (g : Glyph) : Type 0 
   pub byte : g .value < 256 → leftAt part key at ≡ g .value ∷ leftAt part key (at + g .len)
   pub within : g .value < 256 → at + g .len ≤ length key
 
--- what follows the first part, if anything does
-abbrev pub tailOf : Pointer → Option Pointer
-tailOf (last n) = none
-tailOf (down n p) = some p
+-- what is beyond the first part, if anything is
+abbrev pub beyond : Pointer → Option Pointer
+beyond (last n) = none
+beyond (down n p) = some p
 
 -- a pointer that ends with its first part, or goes on where the cursor stands
 abbrev pub Goes : List ℕ → Pointer → Onward → Type 0
@@ -94,6 +94,6 @@ pub data Passes (key : List ℕ) : (parts : ℕ) → Cursor → Cursor → Type 
 
 -- a cursor that stands in the same part as another, no earlier
 pub record Later (key : List ℕ) (c d : Cursor) : Type 0 where
-  pub follows : tailOf (pointerOf (rest key d)) ≡ tailOf (pointerOf (rest key c))
+  pub follows : beyond (pointerOf (rest key d)) ≡ beyond (pointerOf (rest key c))
   pub fewer : length (rest key d) ≤ length (rest key c)
   pub leads : (r : Onward) → Crosses key d r → Crosses key c r

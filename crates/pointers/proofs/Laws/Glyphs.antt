@@ -28,7 +28,7 @@ use Rattle.json.specs.Names.{orderAt}
 use Rattle.json.specs.declared.decode.Cursor.{Cursor}
 use Rattle.json.specs.declared.decode.Next.the-variants.{Byte, Over}
 use Rattle.json.proofs.Alike.{decode-over, decode-byte, order-heads}
-use Rattle.pointers.specs.Parts.{partLeft, nameLeft, leftAt, tildeLeft, Shows, tailOf, Crosses, at-end, at-slash, past, Later}
+use Rattle.pointers.specs.Parts.{partLeft, nameLeft, leftAt, tildeLeft, Shows, beyond, Crosses, at-end, at-slash, past, Later}
 use Rattle.pointers.specs.declared.parts.Onward.{Onward}
 use Rattle.pointers.specs.declared.parts.Glyph.{Glyph}
 use Rattle.pointers.proofs.Laws.Parts.{part-plain, part-tilde, tail-on}
@@ -176,8 +176,8 @@ crosses-as t e (at-end o) = at-end (e ∙ o)
 crosses-as t e (at-slash o) = at-slash (e ∙ o)
 crosses-as t e (past o n x) = past (e ∙ o) n x
 
-abbrev tailIn : List ℕ → Option Pointer
-tailIn bs = tailOf (pointerOf bs)
+abbrev beyondIn : List ℕ → Option Pointer
+beyondIn bs = beyond (pointerOf bs)
 
 pub later-self : (t : List ℕ) (c : Cursor) → Later t c c
 later-self t c = record { follows = refl; fewer = omega arith; leads = λ r x. x }
@@ -185,7 +185,7 @@ later-self t c = record { follows = refl; fewer = omega arith; leads = λ r x. x
 pub later-fresh : (t : List ℕ) (c d : Cursor) → c .left ≡ 0 → Later t (cursor (c .at) 0 0) d → Later t c d
 later-fresh t c d e l =
     record {
-      follows = l .follows ∙ sym (ap tailIn (fresh t c e));
+      follows = l .follows ∙ sym (ap beyondIn (fresh t c e));
       fewer = omega (arith, ap length (fresh t c e), l .fewer);
       leads = λ r x. crosses-as t (next-fresh t c e) (l .leads r x);
     }
@@ -195,7 +195,7 @@ pub later-on : (t : List ℕ) (c : Cursor) (at : ℕ) → byteAt t at < 256 → 
 later-on t c at h s slash l =
     let e = rest-byte t at s (λ z. omega arith) in
     record {
-      follows = sym (ap tailIn e ∙ tail-on (byteAt t at) (rest t (cursor (at + 1) 0 0)) slash) ∙ l .follows;
+      follows = sym (ap beyondIn e ∙ tail-on (byteAt t at) (rest t (cursor (at + 1) 0 0)) slash) ∙ l .follows;
       fewer = omega (arith, ap length e, l .fewer);
       leads = λ r x. l .leads r (past (next-byte t at s (λ z. omega arith)) slash x);
     }

@@ -15,7 +15,7 @@ use native.Mathlib.Decide.{ℕ-discrete}
 use borrow.Author.Tests.{ne-eqb}
 use Rattle.text.specs.Doc.{Name}
 use Rattle.contact.specs.Pointer.{Pointer, last, down, push, split, plain, plainParts, pointerOf, firstPart}
-use Rattle.pointers.specs.Parts.{partLeft, partUnread, tildeLeft, nameUnread, tailOf}
+use Rattle.pointers.specs.Parts.{partLeft, partUnread, tildeLeft, nameUnread, beyond}
 use Rattle.json.specs.Cursors.{rest, unread}
 use Rattle.json.specs.declared.decode.Cursor.{Cursor}
 use Rattle.json.specs.declared.decode.Next.{Next}
@@ -75,18 +75,18 @@ part-tilde (c ∷ cs) =
 
 -- ---- what follows the first part ----
 
-tail-push : (b : ℕ) (p : Pointer) → tailOf (plainParts (push b p)) ≡ tailOf (plainParts p)
+tail-push : (b : ℕ) (p : Pointer) → beyond (plainParts (push b p)) ≡ beyond (plainParts p)
 tail-push b (last n) = refl
 tail-push b (down n p) = refl
 
-pub tail-on : (b : ℕ) (bs : List ℕ) → (b ≡ 47 → ⊥) → tailOf (pointerOf (b ∷ bs)) ≡ tailOf (pointerOf bs)
-tail-on b bs slash = ap (λ p. tailOf (plainParts p)) (split-on b bs slash) ∙ tail-push b (split bs)
+pub tail-on : (b : ℕ) (bs : List ℕ) → (b ≡ 47 → ⊥) → beyond (pointerOf (b ∷ bs)) ≡ beyond (pointerOf bs)
+tail-on b bs slash = ap (λ p. beyond (plainParts p)) (split-on b bs slash) ∙ tail-push b (split bs)
 
-pub ends : (p : Pointer) → tailOf p ≡ none → p ≡ last (firstPart p)
+pub ends : (p : Pointer) → beyond p ≡ none → p ≡ last (firstPart p)
 ends (last n) e = refl
 ends (down n p) e = let z : _≡_ {A = ℕ} 0 1 = cc in absurd (omega arith)
 
-pub goes : (p q : Pointer) → tailOf p ≡ some q → p ≡ down (firstPart p) q
+pub goes : (p q : Pointer) → beyond p ≡ some q → p ≡ down (firstPart p) q
 goes (last n) q e = let z : _≡_ {A = ℕ} 0 1 = cc in absurd (omega arith)
 goes (down n p) q e = cc
 

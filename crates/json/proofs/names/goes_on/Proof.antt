@@ -82,6 +82,7 @@ loop-again : tie.Need-loop-again Inv-loop μ-loop
 loop-again c =
     let l = now (c .before .before .before .before .before .before .before .before .before .args .lit) in
     let i = c .before .before .before .before .before .before .loop .i in
+    let e : c .before .before .p .given .0 .0 ≡ getD l i 256 = omega arith in
     let h : i < length l = inside l i (omega arith) in (
       rw (
         ← c .before .before .before .before .before .before .loop .inv .0,
@@ -89,7 +90,7 @@ loop-again c =
         c .before .before .p .given .1,
         drop-byte l i h,
       )
-          (sym (agree _ _ _ _ (cc))),
+          (sym (agree _ _ _ _ e)),
       omega arith,
     )
 

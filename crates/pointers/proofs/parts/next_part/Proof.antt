@@ -8,14 +8,14 @@ use Rattle.json.proofs.Unread.{byte-left}
 use Rattle.json.specs.Cursors.{rest}
 use Rattle.contact.specs.Pointer.{pointerOf}
 use Rattle.json.specs.declared.decode.Next.the-variants.{Byte}
-use Rattle.pointers.specs.Parts.{tailOf, Crosses, at-end, at-slash, past}
+use Rattle.pointers.specs.Parts.{beyond, Crosses, at-end, at-slash, past}
 use Rattle.pointers.specs.declared.parts.Onward.{Onward}
 use Rattle.pointers.proofs.Laws.Parts.{tail-on, ends, goes}
 use Rattle.pointers.proofs.parts.next_part.Statement.{statement}
 use Rattle.pointers.proofs.parts.next_part.Tie as tie
 
 abbrev Inv-loop : tie.InvT-loop
-Inv-loop key c₀ c = (tailOf (pointerOf (rest key c)) ≡ tailOf (pointerOf (rest key c₀))) × ((r : Onward) → Crosses key c r → Crosses key c₀ r)
+Inv-loop key c₀ c = (beyond (pointerOf (rest key c)) ≡ beyond (pointerOf (rest key c₀))) × ((r : Onward) → Crosses key c r → Crosses key c₀ r)
 
 abbrev μ-loop : tie.MeasureT-loop
 μ-loop key c₀ c = length (rest key c)
