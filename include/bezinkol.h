@@ -80,7 +80,8 @@ enum {
 };
 
 /* The refusal sheet: what answer[0] says, and what answer[1] then is. There are no other numbers. Reading gives 1 to 7, judging 11 to 14 too,
- * localizing all. Which one comes first where several things are wrong: docs/REFUSALS.md. */
+ * localizing all. Which one comes first where several things are wrong: docs/REFUSALS.md. A name says its refusal's case in the sources (`Value`,
+ * `Inner`), with a word more where that alone would say too little. */
 enum {
     BEZINKOL_OK = 0,                 /* accepted; the row count */
     BEZINKOL_TOO_LONG = 1,           /* text over 65,536 bytes; 0 */
@@ -92,7 +93,7 @@ enum {
     BEZINKOL_SMALL_TABLE = 7,        /* fewer whole rows than the text has values; the rows needed, each of six words */
     BEZINKOL_WRONG_KIND = 11,        /* JSON kind wrong for the type; the value's first byte */
     BEZINKOL_MISSING = 12,           /* mandatory member missing; the object's first byte */
-    BEZINKOL_NOT_ALLOWED = 13,       /* value not allowed, or map key not an Id; the value's first byte */
+    BEZINKOL_WRONG_VALUE = 13,       /* value not allowed, or map key not an Id; the value's first byte */
     BEZINKOL_RULE_BROKEN = 14,       /* a rule between members broken; the object's first byte */
     BEZINKOL_NO_LANGUAGE = 21,       /* no such language in the card; 0 */
     BEZINKOL_BAD_KEY = 22,           /* a key with ~ not followed by 0 or 1; 0 */
@@ -101,7 +102,7 @@ enum {
     BEZINKOL_IN_ARRAY = 25,          /* a pointer goes inside an array; 0 */
     BEZINKOL_NO_OBJECT = 26,         /* a part before the last doesn't lead to an object that exists; 0 */
     BEZINKOL_SHORT_OUTPUT = 27,      /* output shorter than needed; the bytes needed */
-    BEZINKOL_WOULD_FAIL = 28         /* the localized card would itself be refused; that refusal's number, 5 or 11 to 14, without its place */
+    BEZINKOL_INNER_REFUSAL = 28      /* the localized card would itself be refused; that refusal's number, 5 or 11 to 14, without its place */
 };
 
 /* Reads a text into rows: any JSON text of RFC 8259 that keeps RFC 7493's rules for strings and names, within the limits. */

@@ -9,9 +9,9 @@ from store import ROOT
 
 import intake
 from duds import edits
+from reading import MOST_WORDS
 from rulings import whole
 
-WORDS = 12288
 SHEET = re.compile(r"^\| (\d+) \|.*\| ([^|]*) \|$")
 
 
@@ -31,13 +31,13 @@ def text_of(card):
 def asked(number, card):
     """The answer to a line of the sheet: localizing from 21 on, reading or judging else."""
     if card.startswith("65,537 spaces"):
-        return intake.read(b" " * 65537, WORDS)[:2]
+        return intake.read(b" " * 65537, MOST_WORDS)[:2]
     text = text_of(card.split(" asked ")[0].split(" with ")[0])
     if number > 20:
         room = re.search(r"with (\d+) bytes", card)
-        return intake.localize(text, b"de", WORDS, int(room[1]) if room else len(text))[:2]
+        return intake.localize(text, b"de", MOST_WORDS, int(room[1]) if room else len(text))[:2]
     rows = re.search(r"with (\d+) rows", card)
-    return (intake.read if number == 6 else intake.judge)(text, 6 * int(rows[1]) if rows else WORDS)[:2]
+    return (intake.read if number == 6 else intake.judge)(text, 6 * int(rows[1]) if rows else MOST_WORDS)[:2]
 
 
 def sheet():
@@ -58,7 +58,7 @@ def training():
     if len(cards) != len(wanted):
         yield "the page's cards", len(wanted), len(cards)
     for card, answer in zip(cards, wanted):
-        number, second, written, _, output = intake.localize(card, b"de", WORDS, len(card))
+        number, second, written, _, output = intake.localize(card, b"de", MOST_WORDS, len(card))
         yield card, answer, (number, second) if number else bytes(output[:written])
 
 
@@ -102,7 +102,7 @@ OTHERS = {"isspace", "requires", "specs", "proofs"}
 
 
 def named(page):
-    """The names in backquotes: words, and paths of words (`json::names::{part, part_is}`, `Patched.keeps`)."""
+    """The names in backquotes: words, and paths of words (`json::names::{slice, slice_is}`, `Patched.keeps`)."""
     for quoted in re.findall(r"`([^`]*)`", page):
         if re.fullmatch(r"\.?[A-Za-z][\w'-]*(?:(?:::|\.)(?:[\w'-]+|\*|\{[\w, ]+\}))*", quoted) and not quoted.endswith((".antt", ".rt", ".md")):
             yield from (word for word in re.findall(r"[\w'-]+", quoted))

@@ -3,11 +3,11 @@ import glob
 import itertools
 import os
 
-from store import MOST, ROOT, Case
+from store import ROOT, Case
 
 import intake
 from duds import ASKED
-from reading import tree
+from reading import MOST_WORDS, tree
 from rulings import MUST
 
 GIVEN = b'{"kind":"given","value":"A"}'
@@ -248,7 +248,7 @@ def damaged():
     for at in range(len(RICH)):
         for other in (b"x", b"5", b""):
             yield RICH[:at] + other + RICH[at + 1:]
-    for value in tree(RICH, MOST).all():
+    for value in tree(RICH, MOST_WORDS).all():
         for other in (b"null", b"{}", b"5", b'"x"', b"[]", b"true", b"false"):
             yield RICH[:value.start] + other + RICH[value.end:]
 
@@ -301,7 +301,7 @@ def buffers():
 
 
 def sized(text):
-    number, rows, _ = intake.read(text, MOST)
+    number, rows, _ = intake.read(text, MOST_WORDS)
     return (6 * rows + 13 if number == 0 else 100), text
 
 
@@ -309,13 +309,13 @@ def figures():
     for path in sorted(glob.glob(os.path.join(ROOT, "tests", "cards", "figure-*.json"))):
         with open(path, "rb") as figure:
             text = figure.read()
-        assert intake.judge(text, MOST)[0] == 0, path
+        assert intake.judge(text, MOST_WORDS)[0] == 0, path
         yield text
 
 
 def groups():
     """The cases, by the base text that they share."""
-    asked = ((min(case["words"], MOST), case["text"]) for case in ASKED if case["service"] == "judge")
+    asked = ((min(case["words"], MOST_WORDS), case["text"]) for case in ASKED if case["service"] == "judge")
     texts = itertools.chain(
         properties(), types(), mandatory(), between(), keys(), times(), numbers(), sets(), pairs(), figures(), chance(500))
     damage = itertools.chain([RICH], damaged())

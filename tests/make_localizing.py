@@ -4,10 +4,11 @@ import os
 
 import make_strings
 from make_judging import Dice, card
-from store import MOST, ROOT, Case, told_of
+from store import ROOT, Case, told_of
 
 import intake
 from duds import ASKED
+from reading import MOST_WORDS
 
 GIVEN = b'{"kind":"given","value":"Ann"}'
 OWN = (
@@ -23,7 +24,7 @@ BASE = patched(b"")
 
 def lent(text, language=b"de", words=None, room=None):
     """A case; the table has some words more than the text needs, the output is as long as the text."""
-    number, rows, _ = intake.read(text, MOST)
+    number, rows, _ = intake.read(text, MOST_WORDS)
     enough = 6 * rows + 13 if number == 0 else 100
     return Case("localizing", enough if words is None else words, text, len(text) if room is None else room, language)
 
@@ -31,7 +32,7 @@ def lent(text, language=b"de", words=None, room=None):
 def rulings():
     for case in ASKED:
         if case["service"] == "localize":
-            yield Case("localizing", min(case["words"], MOST), case["text"], case["room"], case["language"])
+            yield Case("localizing", min(case["words"], MOST_WORDS), case["text"], case["room"], case["language"])
 
 
 CONDITIONS = {
@@ -71,8 +72,8 @@ def buffers():
     """Outputs and tables that are just enough, one short, empty and long."""
     for patch in (b"", b'"z":null', b'"uid":null', b'"a~1b":"c","name/full":"B"', b'"x":[1, 2, 3]', b'"~":1'):
         text = patched(patch)
-        rows = intake.read(text, MOST)[1]
-        _, _, written, _, _ = intake.localize(text, b"de", MOST, len(text))
+        rows = intake.read(text, MOST_WORDS)[1]
+        _, _, written, _, _ = intake.localize(text, b"de", MOST_WORDS, len(text))
         for room in (0, 1, written - 1, written, written + 1, len(text), len(text) + 100):
             if room >= 0:
                 yield lent(text, room=room)

@@ -2,10 +2,11 @@
 import itertools
 
 import make_strings
-from store import MOST, Case
+from store import Case
 
 import intake
 from duds import ASKED
+from reading import MOST_WORDS
 
 RICH = (
     b' {"a" : [1, -2.5e+3,\t0.25E-1,-0, 1e9 ],\n"b":{"\\u0061":null,"\xc3\xa9\\n":true , "":false},\r\n"c\\"\\/":"x\\ud83d\\uDE00\xe2\x82\xac\\u00e9 \x7f",'
@@ -14,39 +15,39 @@ RICH = (
 
 def sized(text, spare=13):
     """A text with a table that has some words more than it needs; at most two hundred where it is refused."""
-    number, rows, _ = intake.read(text, MOST)
+    number, rows, _ = intake.read(text, MOST_WORDS)
     return (6 * rows + spare if number == 0 else 200), text
 
 
 def rulings():
     for case in ASKED:
         if case["service"] == "read":
-            yield min(case["words"], MOST), case["text"]
+            yield min(case["words"], MOST_WORDS), case["text"]
 
 
 def depths():
     for opens in (30, 31, 32, 33, 34):
-        yield MOST, b"[" * opens + b"]" * opens
-        yield MOST, b'{"a":' * (opens - 1) + b"{}" + b"}" * (opens - 1)
-        yield MOST, b'[{"a":' * (opens // 2) + b"0" + b"}]" * (opens // 2)
-        yield MOST, b"[" * (opens - 1) + b"0,[],{},[]" + b"]" * (opens - 1)
-        yield MOST, b"[" * opens
-        yield MOST, b"[" * (opens - 1) + b"{x"
-    yield MOST, b"[" * 31 + b"[]" + b"]" * 30 + b",[" * 31 + b"[]"
-    yield MOST, b"[[]," + b"[" * 31 + b"]" * 31 + b"," + b"[" * 32
-    yield MOST, b'{"a":1,"b":' + b"[" * 31 + b"]" * 31 + b',"a":' + b"[" * 32
-    yield MOST, b"[" * 32 + b"0," * 2015 + b"0" + b"]" * 32
-    yield MOST, b"[" * 32 + b"0," * 2015 + b"0,[" + b"]" * 33
-    yield MOST, b"[" * 31 + b"0," * 2017 + b"[" + b"]" * 32
+        yield MOST_WORDS, b"[" * opens + b"]" * opens
+        yield MOST_WORDS, b'{"a":' * (opens - 1) + b"{}" + b"}" * (opens - 1)
+        yield MOST_WORDS, b'[{"a":' * (opens // 2) + b"0" + b"}]" * (opens // 2)
+        yield MOST_WORDS, b"[" * (opens - 1) + b"0,[],{},[]" + b"]" * (opens - 1)
+        yield MOST_WORDS, b"[" * opens
+        yield MOST_WORDS, b"[" * (opens - 1) + b"{x"
+    yield MOST_WORDS, b"[" * 31 + b"[]" + b"]" * 30 + b",[" * 31 + b"[]"
+    yield MOST_WORDS, b"[[]," + b"[" * 31 + b"]" * 31 + b"," + b"[" * 32
+    yield MOST_WORDS, b'{"a":1,"b":' + b"[" * 31 + b"]" * 31 + b',"a":' + b"[" * 32
+    yield MOST_WORDS, b"[" * 32 + b"0," * 2015 + b"0" + b"]" * 32
+    yield MOST_WORDS, b"[" * 32 + b"0," * 2015 + b"0,[" + b"]" * 33
+    yield MOST_WORDS, b"[" * 31 + b"0," * 2017 + b"[" + b"]" * 32
 
 
 def counts():
     for values in (2046, 2047, 2048, 2049):
-        yield MOST, b"[" + b"0," * (values - 2) + b"0]"
-        yield MOST, b"[" + b"[]," * (values - 2) + b"{}]"
-        yield MOST, b"[" + b'{"a":0},' * ((values - 1) // 2) + b'"x"' * (values % 2 == 0) + b"]"
+        yield MOST_WORDS, b"[" + b"0," * (values - 2) + b"0]"
+        yield MOST_WORDS, b"[" + b"[]," * (values - 2) + b"{}]"
+        yield MOST_WORDS, b"[" + b'{"a":0},' * ((values - 1) // 2) + b'"x"' * (values % 2 == 0) + b"]"
     for first in (b"1", b'"', b"t", b"[", b"{", b"-", b"]", b",", b":", b"", b"x", b"+"):
-        yield MOST, b"[" + b"0," * 2047 + first
+        yield MOST_WORDS, b"[" + b"0," * 2047 + first
 
 
 MANY = b"{" + b",".join(b'"n%d":0' % i for i in range(2046))
@@ -56,7 +57,7 @@ def members():
     """Objects of very many members: their number, and a repeated name among them."""
     for more in (b"}", b',"m":0}', b',"m":0,"l":0}', b',"m":0,"m":0}', b',"m":0,"n0":0}', b',"m":0,"n2045":0}', b',"m":0,"l" 0}',
         b',"n1000":0}', b',"\\u006e1":0}', b',"m":0'):
-        yield MOST, MANY + more
+        yield MOST_WORDS, MANY + more
     yield 6 * 100, MANY + b',"n1000":0}'
     yield 6 * 2047 - 1, MANY + b"}"
 
@@ -78,7 +79,7 @@ def lengths():
 def tables():
     texts = [b"0", b'{"a":[1]}', b' {"a" : [ 1 , 2 ] , "b" : { } } ', b"[[[[[[]]]]]]", b"[0,1,2,3,4,5,6,7,8,9]", b'{"a":{"b":{"c":{"d":0}}}}']
     for text in texts:
-        rows = intake.read(text, MOST)[1]
+        rows = intake.read(text, MOST_WORDS)[1]
         for words in sorted({0, 1, 5, 6, 7, 11, 12, 6 * rows - 7, 6 * rows - 6, 6 * rows - 1, 6 * rows, 6 * rows + 1, 6 * rows + 5,
             6 * rows + 6, 600}):
             if words >= 0:

@@ -7,6 +7,7 @@ import sys
 from store import ROOT
 
 import intake
+from reading import MOST_WORDS
 from rulings import MUST
 
 ROW = re.compile(r"^\| (read|judge|localize) \| (.*) \| (.*) \|$", re.M)
@@ -24,7 +25,7 @@ def bytes_of(piece):
 
 def case_of(said):
     """The text of an input, and what is lent with it."""
-    words, room, language = 12288, None, b"de"
+    words, room, language = MOST_WORDS, None, b"de"
     lent = LENT.search(said)
     if lent:
         said = said[:lent.start()]

@@ -15,7 +15,6 @@ from reading import read
 
 FAR = 24  # a run, or a part of the base text, at least so long is written shorter
 SHOWN = 400  # a shorter localized card is in the answer itself
-MOST = 12288  # words of 2,048 rows
 SERVICES = ("reading", "judging", "localizing")
 
 # A call: the service, the words of the lent table and the text; localizing has the bytes of the lent output and the language too.

@@ -11,9 +11,9 @@ from store import ROOT
 
 import intake
 from duds import ASKED
+from reading import MOST_BYTES, MOST_WORDS
 from rulings import whole
 
-ROWS = 12288  # words of the program's table
 
 
 def inputs():
@@ -21,12 +21,12 @@ def inputs():
         with open(path, "rb") as figure:
             yield figure.read()
     for case in ASKED:
-        if case["service"] == "judge" and case["words"] == ROWS:
+        if case["service"] == "judge" and case["words"] == MOST_WORDS:
             yield case["text"]
     good = whole(b"{..}")
-    yield good + b" " * (65536 - len(good))
-    yield good + b" " * (65537 - len(good))
-    yield b" " * 65537
+    yield good + b" " * (MOST_BYTES - len(good))
+    yield good + b" " * (MOST_BYTES + 1 - len(good))
+    yield b" " * (MOST_BYTES + 1)
     yield b"x" * 200000
     yield b"[" + b"0," * 2048 + b"0]"
     yield b"\x00"
@@ -35,7 +35,7 @@ def inputs():
 def main():
     faults = count = 0
     for text in inputs():
-        number, second, _ = intake.judge(text, ROWS)
+        number, second, _ = intake.judge(text, MOST_WORDS)
         run = subprocess.run([os.path.join(ROOT, "intake")], input=text, capture_output=True, check=False)
         count += 1
         if run.stdout != b"%d %d\n" % (number, second) or run.returncode != 0:

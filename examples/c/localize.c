@@ -18,7 +18,7 @@ static const struct line {
     [BEZINKOL_SMALL_TABLE] = {"the table has too few rows", "rows needed:"},
     [BEZINKOL_WRONG_KIND] = {"a value is of the wrong kind", "at byte"},
     [BEZINKOL_MISSING] = {"a mandatory member is missing", "in the object at byte"},
-    [BEZINKOL_NOT_ALLOWED] = {"a value isn't allowed, or a key isn't an Id", "at byte"},
+    [BEZINKOL_WRONG_VALUE] = {"a value isn't allowed, or a key isn't an Id", "at byte"},
     [BEZINKOL_RULE_BROKEN] = {"members don't go together", "in the object at byte"},
     [BEZINKOL_NO_LANGUAGE] = {"the card has no such language", NULL},
     [BEZINKOL_BAD_KEY] = {"a key of the patch has a ~ without 0 or 1 after it", NULL},
@@ -27,7 +27,7 @@ static const struct line {
     [BEZINKOL_IN_ARRAY] = {"a key of the patch goes inside an array", NULL},
     [BEZINKOL_NO_OBJECT] = {"a key of the patch goes through what is no object", NULL},
     [BEZINKOL_SHORT_OUTPUT] = {"the output is too short", "bytes needed:"},
-    [BEZINKOL_WOULD_FAIL] = {"the localized card would be refused", "with number"},
+    [BEZINKOL_INNER_REFUSAL] = {"the localized card would be refused", "with number"},
 };
 
 /* Prints a refusal. The number inside 28 is one of the sheet too. */
@@ -35,7 +35,7 @@ static int refused(const uint64_t *answer) {
     const struct line *why = &sheet[answer[0]];
     printf("refused %d: %s", (int)answer[0], why->words);
     if (why->second) printf(", %s %d", why->second, (int)answer[1]);
-    if (answer[0] == BEZINKOL_WOULD_FAIL) printf(": %s", sheet[answer[1]].words);
+    if (answer[0] == BEZINKOL_INNER_REFUSAL) printf(": %s", sheet[answer[1]].words);
     putchar('\n');
     return 1;
 }

@@ -2,6 +2,7 @@
 import re
 
 MOST_BYTES, MOST_DEPTH, MOST_VALUES, ROW_WORDS = 65536, 32, 2048, 6
+MOST_WORDS = MOST_VALUES * ROW_WORDS  # of a table that is never too small
 NULL, FALSE, TRUE, NUMBER, STRING, ARRAY, OBJECT = 1, 2, 3, 4, 5, 6, 7
 
 

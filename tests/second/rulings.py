@@ -3,6 +3,8 @@
 `{..` at the start of a text stands for `{` and the three mandatory members. Wanted is OK, (number, second) or the bytes of the localized card.
 The table has 2,048 rows, the output is as long as the text, the language is `de`, unless stated.
 """
+from reading import MOST_WORDS
+
 MUST = b'"@type":"Card","version":"1.0","uid":"u1"'
 OK = "accepted"
 
@@ -11,7 +13,7 @@ def whole(text):
     return b"{" + MUST + text[3:] if text.startswith(b"{..") else text
 
 
-def case(service, text, wanted, words=12288, room=None, language=b"de"):
+def case(service, text, wanted, words=MOST_WORDS, room=None, language=b"de"):
     text = whole(text)
     return {
         "service": service, "text": text, "wanted": whole(wanted) if isinstance(wanted, bytes) else wanted,

@@ -14,7 +14,7 @@ use Rattle.bezinkol.specs.Answer.{answerWords, Serves}
 abbrev pub KeepsContracts : (Call → Left) → Type 0
 KeepsContracts serve = (c : Call) → Serves c (answerWords (serve c .answer)) (serve c .table) (serve c .output)
 
--- any services that keep the contracts meet the three demands, with the limits of 01
+-- any services that keep the contracts meet the three demands, with the limits of docs/RULES.md, 3.1
 abbrev pub Called : Type 0
 Called = (serve : Call → Left) → KeepsContracts serve → Demands base serve
 

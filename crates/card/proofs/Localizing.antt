@@ -32,7 +32,7 @@ use Rattle.contact.specs.declared.Localized.the-variants.{Written, Denied}
 use Rattle.contact.proofs.Patching.Public.{given-iff, passed-so}
 use Rattle.contact.proofs.Patching.Contract.{paper-follows}
 use Rattle.contact.proofs.Patching.Steps.{judged-answer, short-so, room-so}
-use Rattle.card.specs.Localizing.{judgedOutcome, Composed, Made, Yields, Begins, Answers, usedBy}
+use Rattle.card.specs.Localizing.{judgedOutcome, Composed, Made, Yields, BeginsWith, Answers, usedBy}
 use Rattle.card.specs.Judged.{JudgesRows}
 use Rattle.card.proofs.Judging.Verdict.{passed-rows, failed-rows}
 use Rattle.patch.specs.declared.compose.Attempt.the-variants.{Bytes, Refused}
@@ -114,7 +114,7 @@ judged-so {words} {room} {n} {o} {r} {table} {out} c j = rw (c .is) (record { yi
     long : length (take n out) ≡ n
     long = length-take-le n out (c .fits)
 
-    go : (v : Judged) → Begins (byJudge base words room (take n out) v) out
+    go : (v : Judged) → BeginsWith (byJudge base words room (take n out) v) out
     go (passed f) = (omega (arith, c .fits, long), rw long)
     go (failed q) = tt
 
@@ -156,7 +156,7 @@ record Ready (o : Outcome) (r : Localized) (out : List ℕ) : Type 0 where
   fits : usedBy r ≤ length out
   bytes : take (usedBy r) out ++ replicate (length out - usedBy r) 0 ≡ outputOfOutcome (length out) o
 
-ready : (o : Outcome) {r : Localized} {out : List ℕ} → r ≡ answerOfOutcome o → Begins o out → Ready o r out
+ready : (o : Outcome) {r : Localized} {out : List ℕ} → r ≡ answerOfOutcome o → BeginsWith o out → Ready o r out
 unfolding answerOfOutcome outputOfOutcome
 ready (done text f) e b = rw e (record { fits = b .0; bytes = rw (b .1) })
 ready (denied q) e b = rw e (record { fits = omega arith; bytes = refl })

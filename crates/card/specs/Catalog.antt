@@ -33,9 +33,9 @@ padded (s ∷ ss) = s ++ replicate (nameWidth - length s) 32 ++ padded ss
 -- ---- what the types have, in one list
 
 -- what some types have, one after the other
-unfoldable pub joined : {A : Type 0} → (TypeRecord → List A) → List TypeRecord → List A
-joined part [] = []
-joined part (r ∷ rs) = part r ++ joined part rs
+unfoldable pub gathered : {A : Type 0} → (TypeRecord → List A) → List TypeRecord → List A
+gathered part [] = []
+gathered part (r ∷ rs) = part r ++ gathered part rs
 
 -- how much those before a type have together, which is where its own begins
 unfoldable pub startOf : {A : Type 0} → (TypeRecord → List A) → List TypeRecord → ObjectType → ℕ
@@ -44,7 +44,7 @@ startOf part (r ∷ rs) zero = 0
 startOf part (r ∷ rs) (suc o) = length (part r) + startOf part rs o
 
 -- in a list of all, what one type has stands from a place up to another
-pub record Stretch {A : Type 0} (all own : List A) (d : A) (first last : ℕ) : Type 0 where
+pub record OwnPart {A : Type 0} (all own : List A) (d : A) (first last : ℕ) : Type 0 where
   pub size : last ≡ first + length own
   pub within : last ≤ length all
   pub is : (j : ℕ) → j < length own → getD all (first + j) d ≡ getD own j d
@@ -66,7 +66,7 @@ spanIn numbers starts o =
 
 -- all of them, in the order of the types' numbers
 unfoldable pub lines : List Known
-lines = joined (λ r. r .known) types
+lines = gathered (λ r. r .known) types
 
 -- what stands behind the last one
 abbrev pub noLine : Known
@@ -90,7 +90,7 @@ pub record CodeOf (code : ℕ) (k : Known) : Type 0 where
 
 -- all of them, in the order of the types' numbers
 unfoldable pub allRules : List Rule
-allRules = joined (λ r. r .rules) types
+allRules = gathered (λ r. r .rules) types
 
 -- what stands behind the last one
 abbrev pub noRule : Rule
@@ -152,9 +152,13 @@ ruleStarts = lineStarts + typeCount + 2
 abbrev pub rulesFrom : ℕ
 rulesFrom = ruleStarts + typeCount + 2
 
--- for each its shape and six words
+-- the most words of a rule
+abbrev pub each : ℕ
+each = 3
+
+-- for each rule its shape and its words
 abbrev pub ruleWidth : ℕ
-ruleWidth = 7
+ruleWidth = 1 + each
 
 -- the number that says how long a word is and where it stands
 pub record WordBy (n : ℕ) (w : Name) : Type 0 where
@@ -168,7 +172,7 @@ pub record Numbers (numbers : List ℕ) : Type 0 where
   pub line-start : (o : ObjectType) → o < typeCount + 2 → getD numbers (lineStarts + o) 0 ≡ startOf (λ r. r .known) types o
   pub rule-start : (o : ObjectType) → o < typeCount + 2 → getD numbers (ruleStarts + o) 0 ≡ startOf (λ r. r .rules) types o
   pub shape : (i : ℕ) → i < ruleCount → getD numbers (rulesFrom + i * ruleWidth) 0 ≡ shapeOf (ruleAt i)
-  pub word : (i : ℕ) → i < ruleCount → (j : ℕ) → j < 6 → WordBy (getD numbers (rulesFrom + i * ruleWidth + 1 + j) 0) (getD (ruleWords (ruleAt i)) j [])
+  pub word : (i : ℕ) → i < ruleCount → (j : ℕ) → j < each → WordBy (getD numbers (rulesFrom + i * ruleWidth + 1 + j) 0) (getD (ruleWords (ruleAt i)) j [])
 
 -- what is lent is the catalog
 pub record Lent (words numbers : List ℕ) : Type 0 where

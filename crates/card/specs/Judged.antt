@@ -24,13 +24,13 @@ pub record ReadInto (t table : List ℕ) (n : ℕ) (f : Forest) : Type 0 where
   pub whole : wholeOf base (length table) t ≡ good f end
 
 -- by what the search of the document finds: the table as it was, or the fault at the start of the row's value and a table of zeros
-abbrev pub Found : (old : List ℕ) (n : ℕ) (f : Forest) → Breach → Verdict → (new : List ℕ) → Type 0
-Found old n f nothing r new = (r ≡ Passed n) × (new ≡ old)
-Found old n f (found row number) r new = (r ≡ Failed (Card (faultOf number (getD (startsOf f) row 0)))) × (new ≡ replicate (length old) 0)
+abbrev pub ByBreach : (old : List ℕ) (n : ℕ) (f : Forest) → Breach → Verdict → (new : List ℕ) → Type 0
+ByBreach old n f nothing r new = (r ≡ Passed n) × (new ≡ old)
+ByBreach old n f (found row number) r new = (r ≡ Failed (Card (faultOf number (getD (startsOf f) row 0)))) × (new ≡ replicate (length old) 0)
 
 -- the answer and the table are those of the first breach of the document
 abbrev pub JudgedRows : (t old : List ℕ) (n : ℕ) (f : Forest) → Verdict → (new : List ℕ) → Type 0
-JudgedRows t old n f r new = Found old n f (cardBreach (docOf t f)) r new
+JudgedRows t old n f r new = ByBreach old n f (cardBreach (docOf t f)) r new
 
 -- what judging leaves before anything is cleared behind the rows: these over the table's first words; after a refusal zeros alone
 abbrev pub keptOfJudged : (old : List ℕ) → Judged → List ℕ

@@ -31,14 +31,14 @@ pub record Yields (words : ℕ) (o : Outcome) (r : Localized) (table : List ℕ)
   pub rows : table ≡ tableOfOutcome words o
 
 -- the output begins with the text, where there is a card
-abbrev pub Begins : Outcome → (out : List ℕ) → Type 0
-Begins (done text f) out = (length text ≤ length out) × (take (length text) out ≡ text)
-Begins (denied r) out = Prim.Unit {0}
+abbrev pub BeginsWith : Outcome → (out : List ℕ) → Type 0
+BeginsWith (done text f) out = (length text ≤ length out) × (take (length text) out ≡ text)
+BeginsWith (denied r) out = Prim.Unit {0}
 
 -- the answer and the table are the outcome's, and the output begins so
 pub record Answers (words : ℕ) (o : Outcome) (r : Localized) (table out : List ℕ) : Type 0 where
   pub yields : Yields words o r table
-  pub begins : Begins o out
+  pub begins : BeginsWith o out
 
 -- how many bytes of the output an answer says are used
 abbrev pub usedBy : Localized → ℕ

@@ -35,6 +35,6 @@ namesOnto empty names = names
 namesOnto (member n label d ms) names = namesOnto ms (n ∷ names)
 
 -- the key of the entry at a row, which stands behind some entries of its map
-abbrev pub keyAt : (text table : List ℕ) → Forest → (at : ℕ) → Key
-keyAt text table f at =
+abbrev pub rowKey : (text table : List ℕ) → Forest → (at : ℕ) → Key
+rowKey text table f at =
     record { name = nameOf text (nameStartIn table at) (nameEndIn table at); before = namesOnto (membersOf text f) [] }

@@ -15,7 +15,7 @@ ghost use lib.ListN.{length, getD, take, drop};
 ghost use lib.Dec.{eqb};
 ghost use Rattle.text.specs.Text.{bytes, byteAt};
 ghost use Rattle.contact.specs.Schema.{properties, rulesOf, ownName};
-ghost use Rattle.card.specs.Catalog.{namePlace, nameWidth, typeCount, lines, noLine, allRules, noRule, ruleCount, ruleAt, ruleWords, Stretch, tableWords, Numbers, Lent, spanIn};
+ghost use Rattle.card.specs.Catalog.{namePlace, nameWidth, typeCount, lines, noLine, allRules, noRule, ruleCount, ruleAt, ruleWords, each, OwnPart, tableWords, Numbers, Lent, spanIn};
 
 // ---- numbers
 
@@ -125,8 +125,8 @@ const WIDTH: usize = 20;
 
 const TYPE_WORDS: usize = COUNT + FURTHER;
 
-// The numbers for each rule: its shape and its words, up to six.
-pub(crate) const EACH: usize = 6;
+// The numbers for each rule: its shape and its words, up to three.
+pub(crate) const EACH: usize = 3;
 
 pub(crate) const RULE_WIDTH: usize = 1 + EACH;
 
@@ -288,66 +288,39 @@ pub(crate) const NUMBERS: [u32; COUNT + 2 * (TYPES + 2) + RULE_COUNT * RULE_WIDT
     MEMBERS,
     KIND,
     GROUP,
-    NO_WORD,
-    NO_WORD,
-    NO_WORD,
     // of Name
     ONE_OF,
     FULL,
     COMPONENTS,
     NO_WORD,
-    NO_WORD,
-    NO_WORD,
-    NO_WORD,
     NOT_ONLY,
     COMPONENTS,
-    NO_WORD,
-    NO_WORD,
-    NO_WORD,
     NO_WORD,
     NO_WORD,
     SEPARATORS,
     COMPONENTS,
     IS_ORDERED,
     NO_WORD,
-    NO_WORD,
-    NO_WORD,
-    NO_WORD,
     NEEDS_TRUE,
     DEFAULT_SEPARATOR,
     IS_ORDERED,
     NO_WORD,
-    NO_WORD,
-    NO_WORD,
-    NO_WORD,
     NEEDS,
     DEFAULT_SEPARATOR,
     COMPONENTS,
-    NO_WORD,
-    NO_WORD,
-    NO_WORD,
     NO_WORD,
     // of Address
     SEPARATORS,
     COMPONENTS,
     IS_ORDERED,
     NO_WORD,
-    NO_WORD,
-    NO_WORD,
-    NO_WORD,
     NEEDS_TRUE,
     DEFAULT_SEPARATOR,
     IS_ORDERED,
     NO_WORD,
-    NO_WORD,
-    NO_WORD,
-    NO_WORD,
     NEEDS,
     DEFAULT_SEPARATOR,
     COMPONENTS,
-    NO_WORD,
-    NO_WORD,
-    NO_WORD,
     NO_WORD,
 ];
 
@@ -379,7 +352,7 @@ pub(crate) fn sized_word(words: &[u8], i: usize, size: usize) -> &[u8]
 pub(crate) fn rule_word<'a>(words: &'a [u8], numbers: &[u32], i: usize, j: usize) -> &'a [u8]
     requires { ⌜ Lent (now words) (now numbers) ⌝ }
     requires { ⌜ i < ruleCount ⌝ }
-    requires { ⌜ j < 6 ⌝ }
+    requires { ⌜ j < each ⌝ }
     ensures { λ r. ⌜ now r ≡ getD (ruleWords (ruleAt i)) j [] ⌝ }
 {
     let at = RULES + i * RULE_WIDTH + 1 + j;
@@ -443,7 +416,7 @@ fn span_at(numbers: &[u32], starts: usize, o: u32) -> Span
 // The properties of an object type.
 pub(crate) fn lines_of(numbers: &[u32], o: u32) -> Span
     requires { ⌜ Numbers (now numbers) ⌝ }
-    ensures { λ r. ⌜ Stretch lines (properties o) noLine (r .first) (r .last) ⌝ }
+    ensures { λ r. ⌜ OwnPart lines (properties o) noLine (r .first) (r .last) ⌝ }
 {
     span_at(numbers, LINE_STARTS, o)
 }
@@ -451,7 +424,7 @@ pub(crate) fn lines_of(numbers: &[u32], o: u32) -> Span
 // The rules of an object type.
 pub(crate) fn rules_of(numbers: &[u32], o: u32) -> Span
     requires { ⌜ Numbers (now numbers) ⌝ }
-    ensures { λ r. ⌜ Stretch allRules (rulesOf o) noRule (r .first) (r .last) ⌝ }
+    ensures { λ r. ⌜ OwnPart allRules (rulesOf o) noRule (r .first) (r .last) ⌝ }
 {
     span_at(numbers, RULE_STARTS, o)
 }

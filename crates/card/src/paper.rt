@@ -4,23 +4,13 @@ use contact::CardRefusal;
 use contact::LocalRefusal;
 use contact::Localized;
 use contact::Verdict;
+use json::sheet::line;
 use json::sheet::refusal_on_paper;
 use text::Paper;
 ghost use mathlib.Core.Path.{_≡_};
 ghost use Rattle.text.specs.Sheet.{numbers};
 ghost use Rattle.contact.specs.Verdict.{refusedFault, refusedCard, paperOfVerdict};
 ghost use Rattle.contact.specs.Localize.{refusedLocal, paperOfLocalized};
-
-// A line of the sheet: its number, what goes with it, and the bytes written.
-fn line(number: u64, second: usize, written: usize) -> Paper
-    ensures { λ r. ⌜ r ≡ numbers number second written ⌝ }
-{
-    Paper {
-        number,
-        second: second as u64,
-        written: written as u64,
-    }
-}
 
 // 11 to 14, and the place of the value.
 fn fault_on_paper(f: CardFault) -> Paper

@@ -34,7 +34,7 @@ ghost use Rattle.text.specs.Doc.{docOf, membersOf};
 ghost use Rattle.contact.specs.Rules.{present as presentOf, isTrue, isThisString, isSeparator, marksOf, marks, badlySeparated, breaksOne, breaks as breaksOf};
 ghost use Rattle.card.specs.Rows.{ValueAt, ValueOf};
 ghost use Rattle.card.specs.Catalog.{MembersAt, ruleCount, ruleAt, ruleWords, Lent};
-ghost use Rattle.card.specs.Marks.{fresh, markOn, tally};
+ghost use Rattle.card.specs.Marks.{noMarks, markOn, tally};
 ghost use Rattle.card.specs.RuleTable.{isCounted, anyCounted, thenBroken, separatorsBroken, byShape};
 
 // ---- members that count
@@ -178,7 +178,7 @@ pub(crate) struct Marks {
 
 // What is told of no entries.
 fn no_marks() -> Marks
-    ensures { λ r. ⌜ r ≡ fresh ⌝ }
+    ensures { λ r. ⌜ r ≡ noMarks ⌝ }
 {
     Marks {
         any: false,
@@ -223,7 +223,7 @@ fn marked(m: Marks, separator: bool) -> Marks
 // The entries of a list, of the rows from .. end.
 fn tally_of(text: &[u8], table: &[u32], from: usize, end: usize) -> Marks
     requires { ⌜ ((f : Forest) × StandsTo (now table) from end f) ⌝ }
-    ensures { λ r. ⌜ ((f : Forest) → StandsTo (now (table .entry)) from end f → r ≡ tally fresh (marksOf (membersOf (now (text .entry)) f))) ⌝ }
+    ensures { λ r. ⌜ ((f : Forest) → StandsTo (now (table .entry)) from end f → r ≡ tally noMarks (marksOf (membersOf (now (text .entry)) f))) ⌝ }
 {
     let mut m = no_marks();
     let mut at = from;
@@ -245,7 +245,7 @@ fn tally_in(
 ) -> Marks
     requires { ⌜ Lent (now words) (now numbers) ⌝ }
     requires { ⌜ ((f : Forest) × MembersAt (now table) object f) ⌝ }
-    ensures { λ r. ⌜ ((f : Forest) → MembersAt (now (table .entry)) object f → r ≡ tally fresh (marks (presentOf (object .of) (now (name .entry)) (membersOf (now (text .entry)) f)))) ⌝ }
+    ensures { λ r. ⌜ ((f : Forest) → MembersAt (now (table .entry)) object f → r ≡ tally noMarks (marks (presentOf (object .of) (now (name .entry)) (membersOf (now (text .entry)) f)))) ⌝ }
 {
     let Found::Row(k) = present(words, numbers, text, table, object, name) else {
         return no_marks();
@@ -256,7 +256,7 @@ fn tally_in(
 
 // Do the marks of a list have two separators in a row, or one where the list isn't ordered?
 fn badly_separated(m: Marks, ordered: bool) -> bool
-    ensures { λ r. ⌜ ((ss : List Bool) → m ≡ tally fresh ss → r ≡ badlySeparated ss ordered) ⌝ }
+    ensures { λ r. ⌜ ((ss : List Bool) → m ≡ tally noMarks ss → r ≡ badlySeparated ss ordered) ⌝ }
 {
     if m.twice {
         return true;

@@ -33,7 +33,7 @@ ghost use Rattle.text.specs.Doc.{docOf};
 ghost use Rattle.contact.specs.Judge.{isOf, chosen, typeBelow, memberType, keyFits, allowedSimple};
 ghost use Rattle.card.specs.Types.{simpleOf, itemType, typeAt, allowedAs};
 ghost use Rattle.card.specs.Catalog.{tableWords, Lent};
-ghost use Rattle.card.specs.Rows.{ValueAt, keyAt};
+ghost use Rattle.card.specs.Rows.{ValueAt, rowKey};
 
 // ---- what stands below
 
@@ -102,7 +102,7 @@ pub(crate) fn member_type(
 // Is the key of the entry at a row allowed? The entries of its map stand from the first row on, so that a test may look at the keys before it too.
 pub(crate) fn key_fits(text: &[u8], table: &[u32], code: u32, first: usize, at: usize) -> bool
     requires { ⌜ ((f : Forest) × StandsTo (now table) first at f) ⌝ }
-    ensures { λ r. ⌜ ((f : Forest) → StandsTo (now (table .entry)) first at f → r ≡ keyFits (typeAt code) (keyAt (now (text .entry)) (now (table .entry)) f at)) ⌝ }
+    ensures { λ r. ⌜ ((f : Forest) → StandsTo (now (table .entry)) first at f → r ≡ keyFits (typeAt code) (rowKey (now (text .entry)) (now (table .entry)) f at)) ⌝ }
 {
     match type_of(code) {
         Ty::One(_) => true,

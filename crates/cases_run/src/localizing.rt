@@ -39,10 +39,16 @@ fn place_of(answer: Localized) -> u64 {
     }
 }
 
+// A shorter card is written itself.
+const SHOWN: u64 = 400;
+
+// The bytes that a language may have.
+const LANGUAGE: usize = 1000;
+
 // Writes a card that is not empty and short.
 fn shown(written: u64, out: &[u8]) {
     if 0 < written {
-        if written < 400 {
+        if written < SHOWN {
             let size = bytes_of(written as usize, out);
             io::write_all(1, b" ");
             io::write_all(1, &out[..size]);
@@ -88,7 +94,7 @@ fn lent(
 }
 
 pub fn case_of(line: &[u8], base: &[u8]) {
-    let mut language = [0u8; 1000];
+    let mut language = [0u8; LANGUAGE];
     let mut text = [0u8; ROOM];
     let mut out = [SET_BYTE; ROOM];
     let mut table = [SET_WORD; WORDS];

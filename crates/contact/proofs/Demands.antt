@@ -1,4 +1,4 @@
--- The three demands hold (specs/Demands.antt): `demands`, and with the limits of 01 `base-demands`.
+-- The three demands hold (specs/Demands.antt): `demands`, and with the limits of docs/RULES.md, 3.1, `base-demands`.
 --     Sheet         the refusals and the lines of the sheet
 --     Reading       demand 2
 --     Localizing    demand 3
@@ -165,6 +165,6 @@ module _ (L : Limits) (unique : L .unique ≡ true) where
     };
   }
 
--- with the limits of 01
+-- with the limits of docs/RULES.md, 3.1
 pub base-demands : Demands base (served base)
 base-demands = demands base refl

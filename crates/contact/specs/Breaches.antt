@@ -108,7 +108,7 @@ pub record RowBreaks (whole : Doc) (row number : ℕ) : Type 0 where
 abbrev pub Keeps : Doc → Type 0
 Keeps whole = (row number : ℕ) → ¬ RowBreaks whole row number
 
--- 01: of 11 to 14, the earliest row wins, then the smaller number
+-- docs/RULES.md, 2.2: of 11 to 14, the earliest row wins, then the smaller number
 pub record FirstBreach (whole : Doc) (row number : ℕ) : Type 0 where
   pub broken : RowBreaks whole row number
   pub earliest : (r n : ℕ) → RowBreaks whole r n → row ≤ r

@@ -10,7 +10,7 @@ use Rattle.text.specs.Tokens.{isDigit}
 
 -- ---- days
 
--- 01: the twelve month lengths stand in a table
+-- docs/RULES.md, 5.3: the twelve month lengths stand in a table
 unfoldable pub monthLengths : List ℕ
 monthLengths = 31 ∷ 28 ∷ 31 ∷ 30 ∷ 31 ∷ 30 ∷ 31 ∷ 31 ∷ 30 ∷ 31 ∷ 30 ∷ 31 ∷ []
 

@@ -1,5 +1,5 @@
 -- The three demands, sentence by sentence, of what services answer and leave: `Demands`. `serve` says what each call leaves. proofs/Demands.antt proves
--- them of `served` (specs/Services.antt) for all limits that refuse repeated names, and for those of 01.
+-- them of `served` (specs/Services.antt) for all limits that refuse repeated names, and for those of docs/RULES.md, 3.1.
 --
 -- A service is called with whatever bytes, words and lengths there are, and that its code ends is part of its proof. No public function has a
 -- `requires`, so nothing is tested beforehand: the contracts give the answer, the table and the output of `served` for every call, and so the

@@ -1,4 +1,4 @@
--- What a card must keep: the table of types, and each rule in words. In comments 01 is the rules paper, which docs/RULES.md restates.
+-- What a card must keep: the table of types, and each rule in words. docs/RULES.md, 5 and 6.
 pub mod Schema
 pub mod AskedKinds
 pub mod SimpleValues

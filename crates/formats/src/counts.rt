@@ -16,7 +16,8 @@ pub(crate) fn is_digit(b: u8) -> bool
     }
 }
 
-// Is a number's token an unsigned integer from low to high? It stops as soon as the digits passed are too large a number.
+// Is a number's token, which has a byte or more, an unsigned integer from low to high? It stops as soon as the digits passed are too large a number. (No
+// bytes count as 0.)
 pub fn is_count(token: &[u8], low: u64, high: u64) -> bool
     ensures { λ r. ⌜ r ≡ isCount low high (now (token .entry)) ⌝ }
 {

@@ -1,5 +1,6 @@
 // UTCDateTime (docs/RULES.md, 5.3): real days of the Gregorian calendar, and the time of day.
 use crate::counts::is_digit;
+use json::bytes::ZERO;
 use json::bytes::peek;
 use json::decode::Cursor;
 use json::decode::Next;
@@ -18,11 +19,11 @@ ghost use Rattle.json.specs.Cursors.{rest};
 // The twelve month lengths; February has one day more in leap years.
 const MONTHS: [u32; 12] = [31, 28, 31, 30, 31, 30, 31, 31, 30, 31, 30, 31];
 
-// The digit 0, among the numbers that peeking gives.
-const ZERO: u16 = b'0' as u16;
+// The bytes up to the seconds.
+const HEAD: usize = 19;
 
 // How a time begins, where d is any digit.
-const SHAPE: [u8; 19] = *b"dddd-dd-ddTdd:dd:dd";
+const SHAPE: [u8; HEAD] = *b"dddd-dd-ddTdd:dd:dd";
 
 // Is it a leap year of the Gregorian calendar?
 fn is_leap(year: u32) -> bool
@@ -37,6 +38,16 @@ fn is_leap(year: u32) -> bool
     year % 400 == 0
 }
 
+// Is it a February of 29 days?
+fn is_long_february(year: u32, month: u32) -> bool
+    ensures { λ r. ⌜ r ≡ cond (eqb month 2) (isLeap year) false ⌝ }
+{
+    if month != 2 {
+        return false;
+    }
+    is_leap(year)
+}
+
 // The days of a month, 0 where there is no such month.
 fn days_of(year: u32, month: u32) -> u32
     ensures { λ r. ⌜ r ≡ daysOf year month ⌝ }
@@ -47,11 +58,8 @@ fn days_of(year: u32, month: u32) -> u32
     if 12 < month {
         return 0;
     }
-    if month == 2 {
-        if is_leap(year) {
-            return 29;
-        }
-        return 28;
+    if is_long_february(year, month) {
+        return 29;
     }
     let at = (month - 1) as usize;
     MONTHS[at]
@@ -177,10 +185,10 @@ fn time_ends(content: &[u8], from: Cursor) -> bool
 pub fn is_time(content: &[u8]) -> bool
     ensures { λ r. ⌜ r ≡ isTime (decode (now (content .entry))) ⌝ }
 {
-    let mut head: [u8; 19] = [0; 19];
+    let mut head: [u8; HEAD] = [0; HEAD];
     let mut at = start();
     let mut i: usize = 0;
-    while i < 19 {
+    while i < HEAD {
         let Next::Byte(b, after) = next_byte(content, at) else {
             return false;
         };

@@ -9,6 +9,9 @@ ghost use lib.Dec.{ltb};
 ghost use Rattle.text.specs.Strings.{decode};
 ghost use Rattle.contact.specs.Values.{idByte, isId};
 
+// The most bytes of an Id.
+const LONGEST: usize = 255;
+
 // A letter, A-Z a-z.
 fn is_letter(b: u8) -> bool
     ensures { λ r. ⌜ r ≡ cond (ltb b 65) false (cond (ltb b 91) true (cond (ltb b 97) false (ltb b 123))) ⌝ }
@@ -48,7 +51,7 @@ pub fn is_id(name: &[u8]) -> bool
                 return 0 < passed;
             }
             Next::Byte(b, after) => {
-                if passed == 255 {
+                if passed == LONGEST {
                     return false;
                 }
                 if !id_byte(b) {

@@ -139,7 +139,7 @@ module _ (words : ℕ) (t old new : List ℕ) where
           room = s .room;
         }
 
-    -- refused by a reading that takes as many values as 01 allows
+    -- refused by a reading that takes as many values as the limits allow
     pub whole-all : limit ≡ base .values → (r : Refusal) → readOf (upTo limit) t ≡ bad r → wholeOf base words t ≡ bad r
     whole-all e r b = whole-bad base words t r (rw e at b)
 

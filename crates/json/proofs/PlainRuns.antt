@@ -12,7 +12,7 @@ use Rattle.text.specs.Chars.{stepBy}
 use Rattle.text.specs.Strings.{stringEnd}
 use Rattle.text.specs.declared.Step.the-variants.{Char}
 use Rattle.text.proofs.Walks.{end-at}
-use Rattle.json.specs.Plain.{numberAt, Plain, Plains}
+use Rattle.json.specs.Plain.{packedAt, Plain, Plains}
 
 plain-step : (t : List ℕ) (i : ℕ) → Plain (byteAt t i) → stringEnd t i ≡ stringEnd t (i + 1)
 unfolding stepBy
@@ -21,13 +21,13 @@ plain-step t i p =
     (rw (ne-eqb (byteAt t i) 34 (p .no-quote), ne-eqb (byteAt t i) 92 (p .no-slash), le-ltb (byteAt t i) 32 (p .printable), lt-ltb (byteAt t i) 128 (p .ascii)))
 
 module _ (t : List ℕ) (bytes : (i : ℕ) → getD t i 0 < 256) where
-  pub plains-end : (n k at : ℕ) → k ≤ n → at + n ≤ length t → Plains k (numberAt t n at) → stringEnd t (at + k) ≡ stringEnd t at
-  unfolding numberAt
+  pub plains-end : (n k at : ℕ) → k ≤ n → at + n ≤ length t → Plains k (packedAt t n at) → stringEnd t (at + k) ≡ stringEnd t at
+  unfolding packedAt
   plains-end n zero at h l p = rw (add-zero at)
   plains-end zero (suc k) at h l p = absurd (omega arith)
   plains-end (suc n) (suc k) at h l p =
       let b = getD t at 0 in
-      let v = numberAt t n (at + 1) in
+      let v = packedAt t n (at + 1) in
       let small = bytes at in
       let low : (b + 256 * v) % 256 ≡ byteAt t at = omega (arith, any-default 0 256 t at (omega arith)) in
       let high : (b + 256 * v) / 256 ≡ v = omega arith in

@@ -25,7 +25,7 @@ pub record ReadsRows (L : Limits) (t old : List ℕ) (answer : Reading) (new : L
   pub answered : paper answer ≡ sheetOf (wholeOf L (length old) t)
   pub left : new ≡ keptOf old (wholeOf L (length old) t)
 
--- as many values as a table of so many words has rows, but no more than 01 allows
+-- as many values as a table of so many words has rows, but no more than the limits allow (docs/RULES.md, 3.1)
 pub record Room (words r : ℕ) : Type 0 where
   pub few : r ≤ base .values
   pub fits : rowWords * r ≤ words

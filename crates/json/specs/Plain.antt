@@ -4,13 +4,13 @@ use mathlib.Core.Path.{_≡_}
 use mathlib.Core.List.{List}
 use lib.ListN.{length, getD}
 use Rattle.text.specs.Strings.{stringEnd}
-use Rattle.json.specs.declared.strings.Stretch.{Stretch}
-use Rattle.json.specs.declared.strings.Stretch.the-variants.{On, Done}
+use Rattle.json.specs.declared.strings.Stepped.{Stepped}
+use Rattle.json.specs.declared.strings.Stepped.the-variants.{On, Done}
 
 -- the number whose bytes, the lowest first, are the n bytes from a place on, and zeros past the end
-unfoldable pub numberAt : List ℕ → (n at : ℕ) → ℕ
-numberAt t zero at = 0
-numberAt t (suc n) at = getD t at 0 + 256 * numberAt t n (at + 1)
+unfoldable pub packedAt : List ℕ → (n at : ℕ) → ℕ
+packedAt t zero at = 0
+packedAt t (suc n) at = getD t at 0 + 256 * packedAt t n (at + 1)
 
 -- a byte that stands for itself: no control, no quote, no backslash, no part of a longer character
 pub record Plain (b : ℕ) : Type 0 where
@@ -30,6 +30,6 @@ pub record PlainTo (t : List ℕ) (from to : ℕ) : Type 0 where
   pub ends : stringEnd t to ≡ stringEnd t from
 
 -- what a stretch of a string says of it: a later place from which on it ends the same, or its end
-abbrev pub Stretched : List ℕ → (from : ℕ) → Stretch → Type 0
+abbrev pub Stretched : List ℕ → (from : ℕ) → Stepped → Type 0
 Stretched t from (On to) = (from < length t) × ((from < to) × (stringEnd t to ≡ stringEnd t from))
 Stretched t from (Done token) = token ≡ stringEnd t from

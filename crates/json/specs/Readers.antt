@@ -13,16 +13,16 @@ use Rattle.text.specs.Grammar.{closing}
 use Rattle.text.specs.Standing.{StandsTo}
 use Rattle.text.specs.Reader.{Read, good, bad, Reader, ItemReader, colonAt, memberOf, insideOf, valueAt, arrayAt, objectAt}
 use Rattle.json.specs.Rows.{Word}
-use Rattle.json.specs.declared.members.Key.{Key}
-use Rattle.json.specs.declared.members.Key.the-variants.{Value, Broken}
+use Rattle.json.specs.declared.members.MemberName.{MemberName}
+use Rattle.json.specs.declared.members.MemberName.the-variants.{Value, Broken}
 use Rattle.json.specs.declared.containers.Container.{Container}
 use Rattle.json.specs.declared.containers.Container.the-variants.{Array, Object}
-use Rattle.json.specs.declared.containers.Item.{Item}
-use Rattle.json.specs.declared.containers.Item.the-variants.{At, Wrong}
-use Rattle.json.specs.declared.values.Outcome.{Outcome}
-use Rattle.json.specs.declared.values.Outcome.the-variants.{Next, Stop}
+use Rattle.json.specs.declared.containers.ItemStart.{ItemStart}
+use Rattle.json.specs.declared.containers.ItemStart.the-variants.{At, Wrong}
+use Rattle.json.specs.declared.values.Progress.{Progress}
+use Rattle.json.specs.declared.values.Progress.the-variants.{Next, Stop}
 
--- 01's limits, with so many values: a table that has fewer rows is filled by a reading that stops earlier
+-- the limits (docs/RULES.md, 3.1), with so many values: a table that has fewer rows is filled by a reading that stops earlier
 abbrev pub upTo : ℕ → Limits
 upTo limit = withValues base limit
 
@@ -53,17 +53,17 @@ pub record Gone (R : Read) (t : List ℕ) (limit at n : ℕ) (old new : List ℕ
   pub few : after ≤ limit
 
 -- a reader's answer says what R is; on a refusal the table may hold anything
-abbrev pub Took : Read → (t : List ℕ) (limit at n : ℕ) (old new : List ℕ) → Outcome → Type 0
+abbrev pub Took : Read → (t : List ℕ) (limit at n : ℕ) (old new : List ℕ) → Progress → Type 0
 Took R t limit at n old new (Next to after) = Gone R t limit at n old new to after
 Took R t limit at n old new (Stop r) = R ≡ bad r
 
 -- what closing a container asks of what was read inside it, as rows after row n
-abbrev pub Closable : (n : ℕ) → Outcome → Type 0
+abbrev pub Closable : (n : ℕ) → Progress → Type 0
 Closable n (Next to after) = (n < after) × (Word after × Word to)
 Closable n (Stop r) = Prim.Unit {0}
 
 -- and what it does: it stores the container's row
-abbrev pub Closes : (kind ns ne at n : ℕ) → Outcome → (old new : List ℕ) → Outcome → Type 0
+abbrev pub Closes : (kind ns ne at n : ℕ) → Progress → (old new : List ℕ) → Progress → Type 0
 Closes kind ns ne at n (Next to after) old new r =
     (r ≡ Next to after) × (new ≡ sets old (n * rowWords) (rowOf kind ns ne at to (after - n - 1)))
 Closes kind ns ne at n (Stop x) old new r = r ≡ Stop x
@@ -102,7 +102,7 @@ itemsAt of L t depth = insideOf t (itemOf of L t depth) (closing (bracketOf of))
 -- ---- members ----
 
 -- a member's name: it ends before the place ne, and the value is at `from`, inside the text or at its end; or the refusal
-abbrev pub KeyIn : List ℕ → ℕ → Key → Type 0
+abbrev pub KeyIn : List ℕ → ℕ → MemberName → Type 0
 KeyIn t at (Value ne from) = (at < ne) × ((ne < from) × (from ≤ length t))
 KeyIn t at (Broken r) = Prim.Unit {0}
 
@@ -114,33 +114,33 @@ pub record Past (t : List ℕ) (end ne from : ℕ) : Type 0 where
   pub is : (value : Reader) (at n : ℕ) → colonAt t value at end n ≡ value (at + 1) ne from n
 
 -- what is told behind a name: the place of the value, or the refusal
-abbrev pub Colon : List ℕ → (end : ℕ) → Key → Type 0
+abbrev pub Colon : List ℕ → (end : ℕ) → MemberName → Type 0
 Colon t end (Value ne from) = Past t end ne from
 Colon t end (Broken r) = (value : Reader) (at n : ℕ) → colonAt t value at end n ≡ bad r
 
 -- what a member's name says of the member, whatever its value is
-abbrev pub Member : List ℕ → (done : Forest) (at : ℕ) → Key → Type 0
+abbrev pub Member : List ℕ → (done : Forest) (at : ℕ) → MemberName → Type 0
 Member t done at (Value ne from) = (limit : ℕ) (value : Reader) (n : ℕ) → memberOf (upTo limit) t value done at n ≡ value (at + 1) ne from n
 Member t done at (Broken r) = (limit : ℕ) (value : Reader) (n : ℕ) → memberOf (upTo limit) t value done at n ≡ bad r
 
 -- The answer on a member's name at a place, where the object's earlier members are the rows from `first` up to `end`.
-pub record KeyRead (t table : List ℕ) (first end at : ℕ) (r : Key) : Type 0 where
+pub record KeyRead (t table : List ℕ) (first end at : ℕ) (r : MemberName) : Type 0 where
   pub inside : KeyIn t at r
   pub is : (done : Forest) → StandsTo table first end done → Member t done at r
 
 -- ---- items ----
 
 -- an item's value is at `from`, inside the text or at its end, and so is its name; or the refusal
-abbrev pub ItemIn : List ℕ → ℕ → Item → Type 0
+abbrev pub ItemIn : List ℕ → ℕ → ItemStart → Type 0
 ItemIn t at (At ns ne from) = NamePlaces t ns ne × ((at ≤ from) × (from ≤ length t))
 ItemIn t at (Wrong r) = Prim.Unit {0}
 
 -- what an item's beginning says of the item
-abbrev pub Begun : Container → List ℕ → (done : Forest) (at : ℕ) → Item → Type 0
+abbrev pub Begun : Container → List ℕ → (done : Forest) (at : ℕ) → ItemStart → Type 0
 Begun of t done at (At ns ne from) = (limit depth n : ℕ) → itemOf of (upTo limit) t depth done at n ≡ valueAt (upTo limit) t depth ns ne from n
 Begun of t done at (Wrong r) = (limit depth n : ℕ) → itemOf of (upTo limit) t depth done at n ≡ bad r
 
 -- The answer on an item at a place, where the container's earlier items are the rows from `first` up to `end`.
-pub record ItemRead (of : Container) (t table : List ℕ) (first end at : ℕ) (r : Item) : Type 0 where
+pub record ItemRead (of : Container) (t table : List ℕ) (first end at : ℕ) (r : ItemStart) : Type 0 where
   pub inside : ItemIn t at r
   pub is : (done : Forest) → StandsTo table first end done → Begun of t done at r

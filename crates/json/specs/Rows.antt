@@ -8,7 +8,7 @@ use Rattle.text.specs.Limits.{rowWords}
 abbrev pub wordOf : List ℕ → ℕ → ℕ → ℕ
 wordOf table k i = getD table (k * rowWords + i) 0
 
--- ---- 01's order of the words
+-- ---- the order of a row's words (docs/RULES.md, 4)
 
 -- the kind
 abbrev pub kindIn : List ℕ → ℕ → ℕ

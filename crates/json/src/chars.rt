@@ -31,6 +31,23 @@ ghost use Prim.Native.Nat.{_+_, _<_, _≤_};
 ghost use lib.ListN.{length};
 ghost use Rattle.text.specs.Chars.{digitOf, digitAt, hex4At, letterOf, tailAt, rawAt, pairAt, unitAt, escapeAt, stepAt};
 
+// The code points that short escapes stand for.
+const QUOTE_CODE: u32 = b'"' as u32;
+
+const SLASH_CODE: u32 = b'/' as u32;
+
+const BACKSLASH_CODE: u32 = b'\\' as u32;
+
+const BACKSPACE_CODE: u32 = 8;
+
+const FORM_FEED_CODE: u32 = 12;
+
+const LINE_FEED_CODE: u32 = b'\n' as u32;
+
+const RETURN_CODE: u32 = b'\r' as u32;
+
+const TAB_CODE: u32 = b'\t' as u32;
+
 // The value of a hexadecimal digit, or 16.
 fn digit(b: u16) -> u32
     ensures { λ r. ⌜ r ≡ digitOf b ⌝ }
@@ -80,33 +97,33 @@ fn letter(b: u16) -> u32
 {
     if b < SMALL_B {
         if b == QUOTE {
-            return 34;
+            return QUOTE_CODE;
         }
         if b == SLASH {
-            return 47;
+            return SLASH_CODE;
         }
         if b == BACKSLASH {
-            return 92;
+            return BACKSLASH_CODE;
         }
         return 0;
     }
     if b < SMALL_O {
         if b == SMALL_B {
-            return 8;
+            return BACKSPACE_CODE;
         }
         if b == SMALL_F {
-            return 12;
+            return FORM_FEED_CODE;
         }
         if b == SMALL_N {
-            return 10;
+            return LINE_FEED_CODE;
         }
         return 0;
     }
     if b == SMALL_R {
-        return 13;
+        return RETURN_CODE;
     }
     if b == SMALL_T {
-        return 9;
+        return TAB_CODE;
     }
     0
 }

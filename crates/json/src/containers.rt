@@ -1,7 +1,7 @@
 // The two containers, and how an item of each begins (docs/RULES.md, 3.2).
 use crate::bytes::CLOSE_ARRAY;
 use crate::bytes::CLOSE_OBJECT;
-use crate::members::Key;
+use crate::members::MemberName;
 use crate::members::read_key;
 use crate::rows::ARRAY;
 use crate::rows::OBJECT;
@@ -21,7 +21,7 @@ pub enum Container {
 }
 
 // How an item begins: the places of its name, 0 and 0 where it has none, and the place of its value; or the refusal.
-pub enum Item {
+pub enum ItemStart {
     At(usize, usize, usize),
     Wrong(Refusal),
 }
@@ -64,16 +64,16 @@ pub(crate) fn item_at(
     first: usize,
     end: usize,
     at: usize,
-) -> Item
+) -> ItemStart
     requires { ⌜ Word end ⌝ }
     requires { ⌜ at ≤ length (now text) ⌝ }
     ensures { λ r. ⌜ ItemRead of (now (text .entry)) (now (table .entry)) first end at r ⌝ }
 {
     match of {
-        Container::Array => Item::At(0, 0, at),
+        Container::Array => ItemStart::At(0, 0, at),
         Container::Object => match read_key(text, table, first, end, at) {
-            Key::Value(ne, from) => Item::At(at + 1, ne, from),
-            Key::Broken(r) => Item::Wrong(r),
+            MemberName::Value(ne, from) => ItemStart::At(at + 1, ne, from),
+            MemberName::Broken(r) => ItemStart::Wrong(r),
         },
     }
 }

@@ -18,15 +18,22 @@ pub struct Cursor {
     pub left: u8,
 }
 
+// A cursor at a place where a character begins.
+pub fn cursor_at(at: usize) -> Cursor
+    ensures { λ r. ⌜ r ≡ cursor at 0 0 ⌝ }
+{
+    Cursor {
+        at,
+        code: 0,
+        left: 0,
+    }
+}
+
 // A cursor at the start of a string's inner bytes.
 pub fn start() -> Cursor
     ensures { λ r. ⌜ r ≡ cursor 0 0 0 ⌝ }
 {
-    Cursor {
-        at: 0,
-        code: 0,
-        left: 0,
-    }
+    cursor_at(0)
 }
 
 // What a cursor hands out: a byte and the cursor after it, or nothing, at the end.

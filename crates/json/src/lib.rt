@@ -26,6 +26,6 @@ mod plain;
 pub mod read;
 pub mod rows;
 pub mod sheet;
-pub mod strings;
+mod strings;
 mod tokens;
 mod values;

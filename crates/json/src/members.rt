@@ -21,7 +21,7 @@ ghost use Rattle.json.specs.Rows.{Word};
 ghost use Rattle.json.specs.Readers.{Colon, KeyRead};
 
 // A member's name: where it ends and where the value is; or the refusal.
-pub enum Key {
+pub enum MemberName {
     Value(usize, usize),
     Broken(Refusal),
 }
@@ -44,34 +44,40 @@ fn named(text: &[u8], table: &[u32], first: usize, end: usize, ns: usize, ne: us
 }
 
 // The colon after a name whose token ends at `end`, and the place of the value.
-fn colon(text: &[u8], end: usize) -> Key
+fn colon(text: &[u8], end: usize) -> MemberName
     requires { ⌜ (0 < end) × (end ≤ length (now text)) ⌝ }
     ensures { λ r. ⌜ Colon (now (text .entry)) end r ⌝ }
 {
     let at = skip(text, end);
     if peek(text, at) != COLON {
-        return Key::Broken(Refusal::Grammar(at));
+        return MemberName::Broken(Refusal::Grammar(at));
     }
     let from = skip(text, at + 1);
     let ne = end - 1;
-    Key::Value(ne, from)
+    MemberName::Value(ne, from)
 }
 
 // The name at a place, of a member of the object whose members so far stand from row `first` up to row `end`.
-pub(crate) fn read_key(text: &[u8], table: &[u32], first: usize, end: usize, at: usize) -> Key
+pub(crate) fn read_key(
+    text: &[u8],
+    table: &[u32],
+    first: usize,
+    end: usize,
+    at: usize,
+) -> MemberName
     requires { ⌜ Word end ⌝ }
     requires { ⌜ at ≤ length (now text) ⌝ }
     ensures { λ r. ⌜ KeyRead (now (text .entry)) (now (table .entry)) first end at r ⌝ }
 {
     if peek(text, at) != QUOTE {
-        return Key::Broken(Refusal::Grammar(at));
+        return MemberName::Broken(Refusal::Grammar(at));
     }
     match string_end(text, at + 1) {
-        Token::No2(p) => Key::Broken(Refusal::Grammar(p)),
-        Token::No3(p) => Key::Broken(Refusal::Character(p)),
+        Token::No2(p) => MemberName::Broken(Refusal::Grammar(p)),
+        Token::No3(p) => MemberName::Broken(Refusal::Character(p)),
         Token::End(to) => {
             if named(text, table, first, end, at + 1, to - 1) {
-                return Key::Broken(Refusal::Repeated(at));
+                return MemberName::Broken(Refusal::Repeated(at));
             }
             colon(text, to)
         }

@@ -3,8 +3,8 @@
 use crate::bytes::BACKSLASH;
 use crate::bytes::OVER;
 use crate::bytes::peek;
-use crate::decode::Cursor;
 use crate::decode::Next;
+use crate::decode::cursor_at;
 use crate::decode::next_byte;
 use laws::Order;
 ghost use mathlib.Core.Path.{_≡_};
@@ -40,11 +40,7 @@ fn alike(a: &[u8], b: &[u8]) -> usize
 fn order_from(a: &[u8], b: &[u8], from: usize) -> Order
     ensures { λ r. ⌜ r ≡ orderOf (decodeFrom (now (a .entry)) from) (decodeFrom (now (b .entry)) from) ⌝ }
 {
-    let mut x = Cursor {
-        at: from,
-        code: 0,
-        left: 0,
-    };
+    let mut x = cursor_at(from);
     let mut y = x;
     loop {
         match next_byte(a, x) {
@@ -106,7 +102,7 @@ fn order_of(a: &[u8], b: &[u8]) -> Order
 }
 
 // Is the order that of two that are the same?
-fn is_same(o: Order) -> bool
+pub fn is_same(o: Order) -> bool
     ensures { λ r. ⌜ r ≡ isSame o ⌝ }
 {
     match o {
@@ -137,11 +133,7 @@ fn goes_on(a: &[u8], lit: &[u8], from: usize) -> bool
     requires { ⌜ from ≤ length (now lit) ⌝ }
     ensures { λ r. ⌜ r ≡ same (decodeFrom (now (a .entry)) from) (drop from (now (lit .entry))) ⌝ }
 {
-    let mut x = Cursor {
-        at: from,
-        code: 0,
-        left: 0,
-    };
+    let mut x = cursor_at(from);
     let mut i = from;
     loop {
         let want = peek(lit, i);
@@ -192,7 +184,7 @@ pub fn name_order(text: &[u8], s1: usize, e1: usize, s2: usize, e2: usize) -> Or
 }
 
 // Are two names of a text the same, decoded?
-pub fn same_name(text: &[u8], s1: usize, e1: usize, s2: usize, e2: usize) -> bool
+pub(crate) fn same_name(text: &[u8], s1: usize, e1: usize, s2: usize, e2: usize) -> bool
     ensures { λ r. ⌜ r ≡ same (nameOf (now (text .entry)) s1 e1) (nameOf (now (text .entry)) s2 e2) ⌝ }
 {
     same_slices(slice(text, s1, e1), slice(text, s2, e2))

@@ -3,7 +3,7 @@ use crate::bytes::peek;
 ghost use mathlib.Core.Path.{_≡_};
 ghost use Prim.Native.Nat.{_+_, _*_, _<_, _≤_};
 ghost use lib.ListN.{length};
-ghost use Rattle.json.specs.Plain.{numberAt, Plains, PlainTo};
+ghost use Rattle.json.specs.Plain.{packedAt, Plains, PlainTo};
 
 // A number with a byte put below it.
 fn above(low: u8, high: u64) -> u64
@@ -16,7 +16,7 @@ fn above(low: u8, high: u64) -> u64
 // The eight bytes from a place on as a number, the first one lowest.
 fn eight(text: &[u8], at: usize) -> u64
     requires { ⌜ at + 8 ≤ length (now text) ⌝ }
-    ensures { λ r. ⌜ r ≡ numberAt (now (text .entry)) 8 at ⌝ }
+    ensures { λ r. ⌜ r ≡ packedAt (now (text .entry)) 8 at ⌝ }
 {
     let h = above(text[at + 7], 0);
     let g = above(text[at + 6], h);

@@ -4,7 +4,7 @@ use crate::limits::DEPTH;
 use crate::limits::ROW_WORDS;
 use crate::limits::VALUES;
 use crate::tokens::skip;
-use crate::values::Outcome;
+use crate::values::Progress;
 use crate::values::read_value;
 use laws::clear::clear_words;
 use text::Reading;
@@ -120,8 +120,8 @@ fn read_whole(text: &[u8], table: &mut [u32], limit: usize) -> Reading
     let from = skip(text, 0);
     let v = read_value(text, table, limit, DEPTH, 0, 0, from, 0);
     match v {
-        Outcome::Stop(r) => Reading::Refused(r),
-        Outcome::Next(to, count) => {
+        Progress::Stop(r) => Reading::Refused(r),
+        Progress::Next(to, count) => {
             let end = skip(text, to);
             if end < text.len() {
                 return Reading::Refused(Refusal::Grammar(end));

@@ -5,14 +5,14 @@ use text::Refusal;
 ghost use mathlib.Core.Path.{_≡_};
 ghost use Rattle.text.specs.Sheet.{numbers, paper, refused};
 
-// A line of the sheet: a number and the number that goes with it, and no bytes written.
-fn line(number: u64, second: usize) -> Paper
-    ensures { λ r. ⌜ r ≡ numbers number second 0 ⌝ }
+// A line of the sheet: its number, what goes with it, and the bytes written.
+pub fn line(number: u64, second: usize, written: usize) -> Paper
+    ensures { λ r. ⌜ r ≡ numbers number second written ⌝ }
 {
     Paper {
         number,
         second: second as u64,
-        written: 0,
+        written: written as u64,
     }
 }
 
@@ -21,13 +21,13 @@ pub fn refusal_on_paper(r: Refusal) -> Paper
     ensures { λ p. ⌜ p ≡ refused r ⌝ }
 {
     match r {
-        Refusal::TooLong => line(1, 0),
-        Refusal::Grammar(p) => line(2, p),
-        Refusal::Character(p) => line(3, p),
-        Refusal::Repeated(p) => line(4, p),
-        Refusal::Deep(p) => line(5, p),
-        Refusal::Many(p) => line(6, p),
-        Refusal::Small(rows) => line(7, rows),
+        Refusal::TooLong => line(1, 0, 0),
+        Refusal::Grammar(p) => line(2, p, 0),
+        Refusal::Character(p) => line(3, p, 0),
+        Refusal::Repeated(p) => line(4, p, 0),
+        Refusal::Deep(p) => line(5, p, 0),
+        Refusal::Many(p) => line(6, p, 0),
+        Refusal::Small(rows) => line(7, rows, 0),
     }
 }
 
@@ -36,7 +36,7 @@ pub fn on_paper(r: Reading) -> Paper
     ensures { λ p. ⌜ p ≡ paper r ⌝ }
 {
     match r {
-        Reading::Rows(n) => line(0, n),
+        Reading::Rows(n) => line(0, n, 0),
         Reading::Refused(why) => refusal_on_paper(why),
     }
 }

@@ -3,7 +3,7 @@
 use crate::bytes::COMMA;
 use crate::bytes::peek;
 use crate::containers::Container;
-use crate::containers::Item;
+use crate::containers::ItemStart;
 use crate::containers::closing;
 use crate::containers::container_of;
 use crate::containers::item_at;
@@ -27,7 +27,7 @@ ghost use Rattle.json.specs.Rows.{Row};
 ghost use Rattle.json.specs.Readers.{upTo, ItemAsks, NamePlaces, Took, Closable, Closes, containerAt, itemsAt, itemOf};
 
 // What reading some of a text gives: the place after it and the number of values so far, or the refusal.
-pub enum Outcome {
+pub enum Progress {
     Next(usize, usize),
     Stop(Refusal),
 }
@@ -49,46 +49,46 @@ fn read_scalar(
     ne: usize,
     at: usize,
     count: usize,
-) -> Outcome
+) -> Progress
     requires { ⌜ ItemAsks (now text) (now table) limit at count ⌝ }
     requires { ⌜ NamePlaces (now text) ns ne ⌝ }
     requires { ⌜ kind < 8 ⌝ }
     ensures { λ r. ⌜ Took (scalarAt (upTo limit) (now (text .entry)) kind ns ne at count) (now (text .entry)) limit at count (now (table .entry)) (now (table .exit)) r ⌝ }
 {
     if limit <= count {
-        return Outcome::Stop(Refusal::Many(at));
+        return Progress::Stop(Refusal::Many(at));
     }
     match token_end(text, kind, at) {
         Token::End(to) => {
             put_row(table, count, kind, ns, ne, at, to, 0);
             let after = count + 1;
-            Outcome::Next(to, after)
+            Progress::Next(to, after)
         }
-        Token::No2(p) => Outcome::Stop(Refusal::Grammar(p)),
-        Token::No3(p) => Outcome::Stop(Refusal::Character(p)),
+        Token::No2(p) => Progress::Stop(Refusal::Grammar(p)),
+        Token::No3(p) => Progress::Stop(Refusal::Character(p)),
     }
 }
 
 // Closes a container: its row, once what is inside is read.
 fn close(
     table: &mut [u32],
-    inside: Outcome,
+    inside: Progress,
     kind: usize,
     ns: usize,
     ne: usize,
     at: usize,
     count: usize,
-) -> Outcome
+) -> Progress
     requires { ⌜ Closable count inside ⌝ }
     requires { ⌜ Row (length (now table)) count kind ns ne at 0 0 ⌝ }
     ensures { λ r. ⌜ Closes kind ns ne at count inside (now (table .entry)) (now (table .exit)) r ⌝ }
 {
     match inside {
-        Outcome::Next(to, after) => {
+        Progress::Next(to, after) => {
             put_row(table, count, kind, ns, ne, at, to, after - count - 1);
-            Outcome::Next(to, after)
+            Progress::Next(to, after)
         }
-        Outcome::Stop(r) => Outcome::Stop(r),
+        Progress::Stop(r) => Progress::Stop(r),
     }
 }
 
@@ -102,14 +102,14 @@ pub(crate) fn read_value(
     ne: usize,
     at: usize,
     count: usize,
-) -> Outcome
+) -> Progress
     requires { ⌜ ItemAsks (now text) (now table) limit at count ⌝ }
     requires { ⌜ NamePlaces (now text) ns ne ⌝ }
     ensures { λ r. ⌜ Took (valueAt (upTo limit) (now (text .entry)) depth ns ne at count) (now (text .entry)) limit at count (now (table .entry)) (now (table .exit)) r ⌝ }
 {
     let kind = kind_at(text, at);
     if kind == 0 {
-        return Outcome::Stop(Refusal::Grammar(at));
+        return Progress::Stop(Refusal::Grammar(at));
     }
     if ARRAY <= kind {
         let of = container_of(kind);
@@ -129,16 +129,16 @@ fn read_container(
     ne: usize,
     at: usize,
     count: usize,
-) -> Outcome
+) -> Progress
     requires { ⌜ ItemAsks (now text) (now table) limit (at + 1) count ⌝ }
     requires { ⌜ NamePlaces (now text) ns ne ⌝ }
     ensures { λ r. ⌜ Took (containerAt of (upTo limit) (now (text .entry)) depth ns ne at count) (now (text .entry)) limit at count (now (table .entry)) (now (table .exit)) r ⌝ }
 {
     if depth == 0 {
-        return Outcome::Stop(Refusal::Deep(at));
+        return Progress::Stop(Refusal::Deep(at));
     }
     if limit <= count {
-        return Outcome::Stop(Refusal::Many(at));
+        return Progress::Stop(Refusal::Many(at));
     }
     let inside = read_items(text, table, limit, depth - 1, of, at + 1, count + 1);
     close(table, inside, kind_in(of), ns, ne, at, count)
@@ -153,7 +153,7 @@ fn read_items(
     of: Container,
     from: usize,
     first: usize,
-) -> Outcome
+) -> Progress
     requires { ⌜ ItemAsks (now text) (now table) limit from first ⌝ }
     ensures { λ r. ⌜ Took (itemsAt of (upTo limit) (now (text .entry)) depth from first) (now (text .entry)) limit from first (now (table .entry)) (now (table .exit)) r ⌝ }
 {
@@ -162,23 +162,23 @@ fn read_items(
     let b = peek(text, start);
     if b == z {
         let next = start + 1;
-        return Outcome::Next(next, first);
+        return Progress::Next(next, first);
     }
     let mut at = start;
     let mut count = first;
     loop {
         let v = read_item(text, table, limit, depth, of, first, at, count);
-        let Outcome::Next(to, after) = v else {
+        let Progress::Next(to, after) = v else {
             return v;
         };
         let x = skip(text, to);
         let b = peek(text, x);
         if b == z {
             let next = x + 1;
-            return Outcome::Next(next, after);
+            return Progress::Next(next, after);
         }
         if b != COMMA {
-            return Outcome::Stop(Refusal::Grammar(x));
+            return Progress::Stop(Refusal::Grammar(x));
         }
         at = skip(text, x + 1);
         count = after;
@@ -195,12 +195,14 @@ fn read_item(
     first: usize,
     at: usize,
     count: usize,
-) -> Outcome
+) -> Progress
     requires { ⌜ ItemAsks (now text) (now table) limit at count ⌝ }
     ensures { λ r. ⌜ ((done : Forest) → StandsTo (now (table .entry)) first count done → Took (itemOf of (upTo limit) (now (text .entry)) depth done at count) (now (text .entry)) limit at count (now (table .entry)) (now (table .exit)) r) ⌝ }
 {
     match item_at(text, table, of, first, count, at) {
-        Item::At(ns, ne, from) => { read_value(text, table, limit, depth, ns, ne, from, count) }
-        Item::Wrong(r) => Outcome::Stop(r),
+        ItemStart::At(ns, ne, from) => {
+            read_value(text, table, limit, depth, ns, ne, from, count)
+        }
+        ItemStart::Wrong(r) => Progress::Stop(r),
     }
 }

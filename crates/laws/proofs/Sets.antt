@@ -4,7 +4,7 @@ use mathlib.Core.List.{List, [], _∷_, _++_, append-assoc}
 use Prim.Native.Nat.{ℕ, zero, suc, _+_, _-_, _≤_, _<_}
 use native.Mathlib.Omega.{arith}
 use native.Mathlib.Nat.{add-zero, add-suc, suc-add, sub-zero, zero-sub, suc-sub-suc}
-use lib.ListN.{length, set, take, drop, replicate, length-replicate}
+use lib.ListN.{length, set, take, drop, replicate}
 use lib.Seq.{sets, set-out, set-comm, sets-eq, drop-at, length-take-le}
 
 -- a run of stores in two parts

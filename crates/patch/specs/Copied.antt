@@ -14,12 +14,12 @@ use Rattle.json.specs.Lookup.{KnownAt}
 -- ---- what is inside an array (6) or an object (7)
 
 -- its opening bracket, as a byte
-abbrev pub openOf : (kind : ℕ) → ℕ
-openOf kind = cond (eqb kind 7) (opening curly) (opening square)
+abbrev pub openByte : (kind : ℕ) → ℕ
+openByte kind = cond (eqb kind 7) (opening curly) (opening square)
 
 -- its closing one
-abbrev pub closeOf : (kind : ℕ) → ℕ
-closeOf kind = cond (eqb kind 7) (closing curly) (closing square)
+abbrev pub closeByte : (kind : ℕ) → ℕ
+closeByte kind = cond (eqb kind 7) (closing curly) (closing square)
 
 -- what stands before a value inside it: a comma, and in an object the name as written and a colon
 abbrev pub headOf : (kind : ℕ) → (first : Bool) → (label : List ℕ) → List ℕ

@@ -26,7 +26,7 @@ use Rattle.json.specs.Lookup.{KnownAt}
 use Rattle.patch.specs.Copied.{headOf, labelIn}
 use Rattle.pointers.specs.declared.parts.Onward.{Onward}
 use Rattle.pointers.specs.declared.parts.Onward.the-variants.{Last, Part}
-use Rattle.patch.specs.declared.writing.Spot.{Spot}
+use Rattle.patch.specs.declared.writing.Pen.{Pen}
 
 -- ---- a run of entries
 
@@ -155,7 +155,7 @@ since (some d) first = false
 -- ---- contracts
 
 -- one member was written, or none
-pub record Passed (old : List ℕ) (from : Spot) (o : Option Doc) (label new : List ℕ) (r : Spot) : Type 0 where
+pub record Passed (old : List ℕ) (from : Pen) (o : Option Doc) (label new : List ℕ) (r : Pen) : Type 0 where
   pub wrote : Wrote old (from .to) (piece o (from .first) label) new (r .to)
   pub next : r .first ≡ since o (from .first)
 
@@ -166,28 +166,28 @@ IsAdded t table row leave ptable e p r =
     → adds (membersIn root t g) (entry p (changeOf (docOf pt h))) ≡ cond r (some (docOf pt h)) none
 
 -- the member that the entry at row e adds was written, or it adds none
-abbrev pub PutAddition : (t table : List ℕ) → (row leave : ℕ) → (pt ptable : List ℕ) → (e parts : ℕ) → (old : List ℕ) → (from : Spot)
-    → (new : List ℕ) → (r : Spot) → Type 0
+abbrev pub PutAddition : (t table : List ℕ) → (row leave : ℕ) → (pt ptable : List ℕ) → (e parts : ℕ) → (old : List ℕ) → (from : Pen)
+    → (new : List ℕ) → (r : Pen) → Type 0
 PutAddition t table row leave pt ptable e parts old from new r =
     (root : Bool) (g h : Forest) → BaseAt t table leave row root g → KnownAt ptable e h
     → Passed old from (adds (membersIn root t g) (entryOf pt parts h)) (spelled (firstPart (pointerIn pt parts h))) new r
 
 -- the members that the run adds were written, and the closing brace
-abbrev pub PutAdditions : (t table : List ℕ) → (row leave : ℕ) → (pt ptable rows : List ℕ) → (lo hi parts : ℕ) → (old : List ℕ) → (from : Spot)
+abbrev pub PutAdditions : (t table : List ℕ) → (row leave : ℕ) → (pt ptable rows : List ℕ) → (lo hi parts : ℕ) → (old : List ℕ) → (from : Pen)
     → (new : List ℕ) → (r : ℕ) → Type 0
 PutAdditions t table row leave pt ptable rows lo hi parts old from new r =
     (root : Bool) (g : Forest) (ms : Members) → BaseAt t table leave row root g → Said pt ptable rows lo hi parts ms
     → Wrote old (from .to) (writtenMembers (added (membersIn root t g) (stripped parts ms)) (from .first)) new r
 
 -- the member at a row was written with the value of the entry at row e, or left out if that is null
-abbrev pub PutReplaced : (t table : List ℕ) → (row : ℕ) → (pt ptable : List ℕ) → (e : ℕ) → (old : List ℕ) → (from : Spot) → (new : List ℕ) → (r : Spot)
+abbrev pub PutReplaced : (t table : List ℕ) → (row : ℕ) → (pt ptable : List ℕ) → (e : ℕ) → (old : List ℕ) → (from : Pen) → (new : List ℕ) → (r : Pen)
     → Type 0
 PutReplaced t table row pt ptable e old from new r =
     (h : Forest) (d : Doc) → KnownAt ptable e h → Passed old from (keptBy (some (changeOf (docOf pt h))) d) (labelIn t table row) new r
 
 -- the member at hand was written as the entries leave it
-abbrev pub PutMember : (t table : List ℕ) → (row leave : ℕ) → (pt ptable rows : List ℕ) → (lo hi parts : ℕ) → (old : List ℕ) → (from : Spot)
-    → (new : List ℕ) → (r : Spot) → Type 0
+abbrev pub PutMember : (t table : List ℕ) → (row leave : ℕ) → (pt ptable rows : List ℕ) → (lo hi parts : ℕ) → (old : List ℕ) → (from : Pen)
+    → (new : List ℕ) → (r : Pen) → Type 0
 PutMember t table row leave pt ptable rows lo hi parts old from new r =
     (root : Bool) (g : Forest) (ms : Members) → let n = nameOf t (nameStart g) (nameEnd g) in
     KnownAt table row g → OutAt (isOut root n) leave row (belowAt g) → Said pt ptable rows lo hi parts ms

@@ -15,14 +15,14 @@ use Rattle.patch.specs.Entries.{Listed, stripped}
 -- ---- strictly ascending entries
 
 -- the pointer stands before that of each of the entries
-pub data BeforeAll (p : Pointer) : List Entry → Type 0 where
-  leads-none : BeforeAll p []
-  leads-more : {q : Pointer} {c : Change} {es : List Entry} → pointerOrder p q ≡ Less → BeforeAll p es → BeforeAll p (entry q c ∷ es)
+pub data LeadsAll (p : Pointer) : List Entry → Type 0 where
+  leads-none : LeadsAll p []
+  leads-more : {q : Pointer} {c : Change} {es : List Entry} → pointerOrder p q ≡ Less → LeadsAll p es → LeadsAll p (entry q c ∷ es)
 
 -- each stands before all that follow it
 pub data InOrder : List Entry → Type 0 where
   asc-none : InOrder []
-  asc-more : {p : Pointer} {c : Change} {es : List Entry} → BeforeAll p es → InOrder es → InOrder (entry p c ∷ es)
+  asc-more : {p : Pointer} {c : Change} {es : List Entry} → LeadsAll p es → InOrder es → InOrder (entry p c ∷ es)
 
 -- ---- a run parted by a name
 

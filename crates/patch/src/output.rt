@@ -145,7 +145,7 @@ fn put_spelled_byte(b: u8, out: &mut [u8], at: usize) -> usize
         let p = put_byte(out, at, b'\\');
         return put_byte(out, p, short);
     }
-    if b < 32 {
+    if b < b' ' {
         return put_coded(b, out, at);
     }
     put_byte(out, at, b)

@@ -31,11 +31,11 @@ ghost use Rattle.json.specs.Cursors.{rest};
 ghost use Rattle.contact.specs.Pointer.{pointerOf};
 ghost use Rattle.pointers.specs.Parts.{partLeft};
 ghost use Rattle.patch.specs.Written.{Wrote};
-ghost use Rattle.patch.specs.Copied.{openOf, closeOf, headOf, labelIn, Copied};
+ghost use Rattle.patch.specs.Copied.{openByte, closeByte, headOf, labelIn, Copied};
 ghost use Rattle.patch.specs.Patched.{InRows, membersIn, BaseAt, IsAdded, PutAddition, PutAdditions, Ending, PutReplaced, PutMember, PutValue, PutCard, isEnd};
 
 // Where the next byte goes, and whether the next member is the first of its object.
-struct Spot {
+struct Pen {
     pub to: usize,
     pub first: bool,
 }
@@ -51,14 +51,14 @@ struct Run {
 
 // The opening bracket of an array or an object.
 fn open_of(kind: usize) -> u8
-    ensures { λ r. ⌜ r ≡ openOf kind ⌝ }
+    ensures { λ r. ⌜ r ≡ openByte kind ⌝ }
 {
     if kind == OBJECT { b'{' } else { b'[' }
 }
 
 // The closing one.
 fn close_of(kind: usize) -> u8
-    ensures { λ r. ⌜ r ≡ closeOf kind ⌝ }
+    ensures { λ r. ⌜ r ≡ closeByte kind ⌝ }
 {
     if kind == OBJECT { b'}' } else { b']' }
 }
@@ -159,8 +159,8 @@ fn put_addition(
     e: usize,
     parts: usize,
     out: &mut [u8],
-    from: Spot,
-) -> Spot
+    from: Pen,
+) -> Pen
     ensures { λ r. ⌜ PutAddition (now (text .entry)) (now (table .entry)) row leave (now (ptext .entry)) (now (ptable .entry)) e parts (now (out .entry)) from (now (out .exit)) r ⌝ }
 {
     let key = key_at(ptext, ptable, e);
@@ -174,7 +174,7 @@ fn put_addition(
     let b = put_spelled(key, c, out, a);
     let d = put_byte(out, b, b':');
     let to = copy_value(ptext, ptable, e, out, d);
-    Spot { to, first: false }
+    Pen { to, first: false }
 }
 
 // The members that the run of entries adds to the object at a row, and its closing brace.
@@ -188,7 +188,7 @@ fn put_additions(
     rows: &[u32],
     run: Run,
     out: &mut [u8],
-    from: Spot,
+    from: Pen,
 ) -> usize
     requires { ⌜ InRows (now rows) (run .lo) (run .hi) ⌝ }
     ensures { λ r. ⌜ PutAdditions (now (text .entry)) (now (table .entry)) row leave (now (ptext .entry)) (now (ptable .entry)) (now (rows .entry)) (run .lo) (run .hi) (run .parts) (now (out .entry)) from (now (out .exit)) r ⌝ }
@@ -246,8 +246,8 @@ fn put_replaced(
     ptable: &[u32],
     e: usize,
     out: &mut [u8],
-    from: Spot,
-) -> Spot
+    from: Pen,
+) -> Pen
     ensures { λ r. ⌜ PutReplaced (now (text .entry)) (now (table .entry)) row (now (ptext .entry)) (now (ptable .entry)) e (now (out .entry)) from (now (out .exit)) r ⌝ }
 {
     if kind(ptable, e) == NULL {
@@ -257,7 +257,7 @@ fn put_replaced(
     let at = from.to;
     let p = put_head(text, table, row, OBJECT, first, out, at);
     let to = copy_value(ptext, ptable, e, out, p);
-    Spot { to, first: false }
+    Pen { to, first: false }
 }
 
 // The member at a row as the run leaves it: with its value or another, or left out.
@@ -271,8 +271,8 @@ fn put_member(
     rows: &[u32],
     run: Run,
     out: &mut [u8],
-    from: Spot,
-) -> Spot
+    from: Pen,
+) -> Pen
     requires { ⌜ InRows (now rows) (run .lo) (run .hi) ⌝ }
     requires { ⌜ run .parts < row ⌝ }
     ensures { λ r. ⌜ PutMember (now (text .entry)) (now (table .entry)) row leave (now (ptext .entry)) (now (ptable .entry)) (now (rows .entry)) (run .lo) (run .hi) (run .parts) (now (out .entry)) from (now (out .exit)) r ⌝ }
@@ -290,12 +290,12 @@ fn put_member(
     let p = put_head(text, table, row, OBJECT, from.first, out, from.to);
     if lo == end {
         let to = copy_value(text, table, row, out, p);
-        return Spot { to, first: false };
+        return Pen { to, first: false };
     }
     let parts = run.parts + 1;
     let inner = Run { lo, hi: end, parts };
     let to = put_value(text, table, row, leave, ptext, ptable, rows, inner, out, p);
-    Spot { to, first: false }
+    Pen { to, first: false }
 }
 
 // The value at a row as the run leaves it, without the member to leave out.
@@ -320,7 +320,7 @@ fn put_value(
     }
     let end = next_row(table, row);
     let p = put_byte(out, at, b'{');
-    let mut s = Spot { to: p, first: true };
+    let mut s = Pen { to: p, first: true };
     let mut m = row + 1;
     while m < end {
         s = put_member(text, table, m, leave, ptext, ptable, rows, run, out, s);

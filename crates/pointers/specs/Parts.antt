@@ -45,7 +45,7 @@ abbrev pub leftAt : (part : Bool) → List ℕ → (at : ℕ) → Name
 leftAt part key at = nameLeft part key (cursor at 0 0)
 
 -- what a glyph says of its place: below 256 it is the next byte, which `len` bytes of the key spell; at 256 nothing is left; 257 says nothing
-pub record Shows (part : Bool) (key : List ℕ) (at : ℕ) (g : Glyph) : Type 0 where
+pub record GlyphAt (part : Bool) (key : List ℕ) (at : ℕ) (g : Glyph) : Type 0 where
   pub most : g .value ≤ 257
   pub over : g .value ≡ 256 → leftAt part key at ≡ []
   pub byte : g .value < 256 → leftAt part key at ≡ g .value ∷ leftAt part key (at + g .len)
@@ -85,10 +85,10 @@ pub data Crosses (key : List ℕ) : Cursor → Onward → Type 0 where
   past : {c d : Cursor} {b : ℕ} {r : Onward} → nextOf key c ≡ Byte b d → (b ≡ 47 → ⊥) → Crosses key d r → Crosses key c r
 
 -- from a cursor on past so many parts, or to the last part where there are no more
-pub data Passes (key : List ℕ) : (parts : ℕ) → Cursor → Cursor → Type 0 where
-  here : {c : Cursor} → Passes key zero c c
-  stays : {n : ℕ} {c : Cursor} → Crosses key c Last → Passes key (suc n) c c
-  onto : {n : ℕ} {c d e : Cursor} → Crosses key c (Part d) → Passes key n d e → Passes key (suc n) c e
+pub data Skips (key : List ℕ) : (parts : ℕ) → Cursor → Cursor → Type 0 where
+  here : {c : Cursor} → Skips key zero c c
+  stays : {n : ℕ} {c : Cursor} → Crosses key c Last → Skips key (suc n) c c
+  onto : {n : ℕ} {c d e : Cursor} → Crosses key c (Part d) → Skips key n d e → Skips key (suc n) c e
 
 -- ---- on the way
 

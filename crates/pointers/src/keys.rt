@@ -1,4 +1,4 @@
-// Keys of a PatchObject as pointers (docs/RULES.md, 6.2): a bad tilde, a prefix, the order in which they are applied.
+// Keys of a PatchObject as pointers (docs/RULES.md, 6.2 and 6.4): a bad tilde, the first part, prefixes, and the order in which they are sorted.
 use crate::parts::Onward;
 use crate::parts::next_part;
 use crate::parts::part_order;
@@ -14,7 +14,7 @@ ghost use Rattle.text.specs.Strings.{decode};
 ghost use Rattle.text.specs.Text.{bytes};
 ghost use Rattle.json.specs.Cursors.{rest, cursor};
 ghost use Rattle.contact.specs.Pointer.{pointerOf, badTilde, zeroOrOne, firstPart, clash};
-ghost use Rattle.pointers.specs.Parts.{Passes};
+ghost use Rattle.pointers.specs.Parts.{Skips};
 ghost use Rattle.pointers.specs.Pointers.{pointerOrder, strip};
 
 // Is the next byte `0` or `1`?
@@ -115,7 +115,7 @@ pub fn key_order(a: &[u8], b: &[u8]) -> Order
 // The cursor at the part after the first `parts` ones; at the last part where there are no more.
 pub fn part_at(key: &[u8], parts: usize) -> Cursor
     ensures { λ r. ⌜ pointerOf (rest (now (key .entry)) r) ≡ strip parts (pointerOf (decode (now (key .entry)))) ⌝ }
-    ensures is { λ r. ⌜ Passes (now (key .entry)) parts (cursor 0 0 0) r ⌝ }
+    ensures is { λ r. ⌜ Skips (now (key .entry)) parts (cursor 0 0 0) r ⌝ }
 {
     let mut c = start();
     for _ in 0..parts {

@@ -7,7 +7,9 @@ use json::bytes::ZERO;
 use json::bytes::peek;
 use json::decode::Cursor;
 use json::decode::Next;
+use json::decode::cursor_at;
 use json::decode::next_byte;
+use json::names::is_same;
 use json::names::order_at;
 use laws::Order;
 ghost use mathlib.Core.Path.{_≡_};
@@ -16,7 +18,7 @@ ghost use Rattle.laws.specs.Order.{orderOf, same};
 ghost use Rattle.text.specs.Text.{byteAt};
 ghost use Rattle.json.specs.Cursors.{rest, cursor, nextOf};
 ghost use Rattle.contact.specs.Pointer.{pointerOf};
-ghost use Rattle.pointers.specs.Parts.{partLeft, partUnread, nameLeft, Goes, nameUnread, tildeLeft, leftAt, Shows, Later, tildeNext, partNext, Crosses};
+ghost use Rattle.pointers.specs.Parts.{partLeft, partUnread, nameLeft, Goes, nameUnread, tildeLeft, leftAt, GlyphAt, Later, tildeNext, partNext, Crosses};
 
 // Bytes that are told apart as written, as wide as what `peek` gives.
 const TILDE: u16 = b'~' as u16;
@@ -82,21 +84,10 @@ struct Glyph {
     pub len: usize,
 }
 
-// A cursor at a place where a character begins.
-fn cursor_at(at: usize) -> Cursor
-    ensures { λ r. ⌜ r ≡ cursor at 0 0 ⌝ }
-{
-    Cursor {
-        at,
-        code: 0,
-        left: 0,
-    }
-}
-
 // What a `~` of a part and the byte after it spell.
 fn tilde_at(key: &[u8], at: usize) -> Glyph
     requires { ⌜ byteAt (now key) at ≡ 126 ⌝ }
-    ensures { λ r. ⌜ Shows true (now (key .entry)) at r ⌝ }
+    ensures { λ r. ⌜ GlyphAt true (now (key .entry)) at r ⌝ }
 {
     let b = peek(key, at + 1);
     if b == ONE {
@@ -125,7 +116,7 @@ fn tilde_at(key: &[u8], at: usize) -> Glyph
 
 // The glyph at a place of a part, or of a name.
 fn glyph_at(part: bool, key: &[u8], at: usize) -> Glyph
-    ensures { λ r. ⌜ Shows part (now (key .entry)) at r ⌝ }
+    ensures { λ r. ⌜ GlyphAt part (now (key .entry)) at r ⌝ }
 {
     let b = peek(key, at);
     if b == BACKSLASH {
@@ -227,11 +218,7 @@ pub fn part_order(key: &[u8], from: Cursor, is_part: bool, name: &[u8], name_fro
 pub fn part_same(key: &[u8], from: Cursor, is_part: bool, name: &[u8], name_from: Cursor) -> bool
     ensures { λ r. ⌜ r ≡ same (partLeft (rest (now (key .entry)) from)) (nameLeft «is_part» (now (name .entry)) «name_from») ⌝ }
 {
-    match part_order(key, from, is_part, name, name_from) {
-        Order::Same => true,
-        Order::Less => false,
-        Order::More => false,
-    }
+    is_same(part_order(key, from, is_part, name, name_from))
 }
 
 // Past the bytes from a place on that are neither a slash nor a backslash.

@@ -1,4 +1,4 @@
--- 01's specimens, those marked (P) and some more, on whole texts and whole cards, as one statement over a list of cases: for each call of a service
+-- The rules paper's specimens, those marked (P) and some more, on whole texts and whole cards, as one statement over a list of cases: for each call of a service
 -- the three numbers of the answer, the whole table and the whole output. Each line of the refusal sheet stands here at least once.
 -- Assumes nothing.
 use Prim.Native.Nat.{ℕ, _+_, _-_, _*_}
@@ -53,7 +53,7 @@ accepted c count written rows output =
 abbrev refusedUnder : Limits → Call → (number second : ℕ) → Case
 refusedUnder L c number second = record { limits = L; call = c; left = leaves (numbers number second 0) (replicate (wordsOf c) 0) (replicate (roomOf c) 0) }
 
--- refused under the limits of 01
+-- refused under the limits of docs/RULES.md, 3.1
 abbrev refusedAt : Call → (number second : ℕ) → Case
 refusedAt = refusedUnder base
 

@@ -4,7 +4,7 @@
 -- The answer for a table of so many words, from a reading with as many values as it has rows, v ≤ 2,048:
 --     first-good, first-size           what is accepted stands, and has room
 --     first-bad                        what is refused for another reason than one value too many stands
---     many-small, whole-bad            one value too many: 01's number of values decides, by a refusal that stands, or by 7
+--     many-small, whole-bad            one value too many: the limit of values decides, by a refusal that stands, or by 7
 -- Assumes nothing.
 use Prim.Native.Nat.{ℕ, zero, suc, _+_, _-_, _*_, _≤_, _<_}
 use mathlib.Core.Path.{_≡_, sym, subst, _∙_}
@@ -304,7 +304,7 @@ pub whole-bad : (L : Limits) (words : ℕ) (t : List ℕ) (r : Refusal) → read
 unfolding wholeOf fitOf
 whole-bad L words t r e = rw e
 
--- ---- a table of so many words: from a reading with v values to the whole answer, for 01's limits ----
+-- ---- a table of so many words: from a reading with v values to the whole answer, for the limits `base` ----
 
 module _ (words : ℕ) (t : List ℕ) where
   pub good-whole : (f : Forest) (to : ℕ) → rowWords * size f ≤ words → readOf base t ≡ good f to → wholeOf base words t ≡ good f to
@@ -336,7 +336,7 @@ module _ (words : ℕ) (t : List ℕ) where
       | no h ↦ whole-bad base words t r (long-text base t (omega arith) ∙ sym (long-text (withValues base v) t (omega arith)) ∙ e)
     ]
 
-    -- one value too many: the reading with 01's number of values decides; what it refuses stands (whole-bad), what it accepts does not fit
+    -- one value too many: the reading with the limit's number of values decides; what it refuses stands (whole-bad), what it accepts does not fit
     pub many-small : words < rowWords * suc v → (p : ℕ) (f : Forest) (to : ℕ) → readOf (withValues base v) t ≡ bad (Many p) → readOf base t ≡ good f to
         → wholeOf base words t ≡ bad (Small (size f))
     many-small room p f to e g = elim (decLe (length t) (base .bytes)) [

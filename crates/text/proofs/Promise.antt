@@ -12,7 +12,7 @@
 --     first-room            its row and those of the values below it are inside the table
 --     inside                what is inside it stands from the next row on, `below` rows
 --     next, after, within   what follows it stands `below + 1` rows further, and ends before the same row
---     alone                 it stands there by itself, whatever follows
+--     alone                 it (`firstOf`) stands there by itself, whatever follows
 --     some-at, none-at      there is a value before the end of the rows, and none at it
 --     start-at              the start of each value, by its row
 --     stands-unique         a table has one tree only
@@ -55,6 +55,7 @@ pub use Rattle.text.proofs.Fewer.{whole-bad}
 pub use Rattle.text.proofs.Outcomes.{paper-unique, answerOf, answer-is, same-outcome}
 pub use Rattle.text.proofs.Standing.{
   rows-length,
+  firstOf,
   first-row,
   first-room,
   inside,

@@ -42,7 +42,7 @@ hex4At t i = hex4Of i (digitAt t i) (digitAt t (i + 1)) (digitAt t (i + 2)) (dig
 -- ---- code points
 
 -- a code point, unless it is a surrogate, a noncharacter or too large: then 3 at the place where its bytes begin.
--- 01: U+FDD0 to U+FDEF, and every code point whose low 16 bits are FFFE or FFFF, raw or escaped
+-- docs/RULES.md, 3.4: U+FDD0 to U+FDEF, and every code point whose low 16 bits are FFFE or FFFF, raw or escaped
 unfoldable pub checkedAt : ℕ → ℕ → ℕ → Step
 checkedAt i code len =
     cond (ltb code 0xD800) (Char code len)
@@ -52,7 +52,7 @@ checkedAt i code len =
     (cond (ltb 0x10FFFF code) (Bad3 i)
     (cond (ltb (code % 65536) 0xFFFE) (Char code len) (Bad3 i))))))
 
--- ---- raw characters of two to four bytes (RFC 3629; 01: a sequence that isn't whole UTF-8, also one cut by the end, is 3 at its first byte)
+-- ---- raw characters of two to four bytes (RFC 3629; docs/RULES.md, 3.4: a sequence that isn't whole UTF-8, also one cut by the end, is 3 at its first byte)
 
 -- the six bits of a continuation byte, or 64
 unfoldable pub tailOf : ℕ → ℕ
@@ -105,7 +105,7 @@ letterOf b =
     (cond (eqb b 116) 9 0)))))))
 
 -- a high surrogate escape at i with the four digits of the escape after it.
--- 01: it is lone unless a complete low one follows at once, so whatever else follows is 3 at i
+-- docs/RULES.md, 3.4: it is lone unless a complete low one follows at once, so whatever else follows is 3 at i
 unfoldable pub lowAt : ℕ → ℕ → Hex → Step
 lowAt i high (Bad p) = Bad3 i
 lowAt i high (Unit low) =

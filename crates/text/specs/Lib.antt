@@ -1,5 +1,4 @@
--- What a JSON text means, and then how that is computed. No file uses a later one. In comments 01 is the rules paper, which docs/RULES.md restates;
--- sections 3 and 4 are of texts.
+-- What a JSON text means, and then how that is computed (docs/RULES.md, 3 and 4). No file uses a later one.
 --
 -- One text walked through: {"a":[1]}, nine bytes; places count from 0.
 --     spelling    the name's inside, from place 2 up to 3, spells one code point, U+0061

@@ -14,7 +14,7 @@ use Rattle.text.specs.Placed.{Quoted}
 use Rattle.text.specs.Grammar.{JsonText, rootOf, depthOf}
 use Rattle.text.specs.Seats.{Head, Seat, top, Sits, Named}
 
--- 01: names compared decoded: no member has a name that spells what the name of a member before it, in the same object, spells. (A value that is no
+-- docs/RULES.md, 3.5, names compared decoded: no member has a name that spells what the name of a member before it, in the same object, spells. (A value that is no
 -- member has the name start 0.)
 pub record DistinctNames (t : List ℕ) (f : Forest) : Type 0 where
   pub new : (d : Seat) (h : Head) → Sits top f d h → 0 < h .ns → (codes : List ℕ) → Spells (partOf t (h .ns) (h .ne)) codes → Named t codes (d .beside) → ⊥

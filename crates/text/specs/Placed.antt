@@ -24,7 +24,7 @@ pub record Quoted (t : List ℕ) (i e : ℕ) : Type 0 where
   pub codes : List ℕ
   pub spells : Spells (partOf t i e) codes
 
--- 01: the root and the elements of arrays have the name 0, 0
+-- docs/RULES.md, 4: the root and the elements of arrays have the name 0, 0
 pub record Unnamed (ns ne : ℕ) : Type 0 where
   pub start : ns ≡ 0
   pub end : ne ≡ 0

@@ -12,7 +12,7 @@ pub record UnicodeScalar (c : ℕ) : Type 0 where
   pub in-range : c ≤ 0x10FFFF
   pub no-surrogate : (c < 0xD800) ⊎ (0xE000 ≤ c)
 
--- 01: noncharacters are U+FDD0 to U+FDEF and every code point whose low 16 bits are FFFE or FFFF
+-- docs/RULES.md, 3.4: noncharacters are U+FDD0 to U+FDEF and every code point whose low 16 bits are FFFE or FFFF
 pub data Noncharacter : ℕ → Type 0 where
   block : {c : ℕ} → 0xFDD0 ≤ c → c ≤ 0xFDEF → Noncharacter c
   last-two : {c : ℕ} → 0xFFFE ≤ c % 0x10000 → Noncharacter c

@@ -32,7 +32,7 @@ endBody t k i = onStep k i (stepAt t i)
 unfoldable pub stringEnd : List ℕ → ℕ → Token
 stringEnd t i = scan (endBody t) (No2 0) (length t) i
 
--- ---- decoding (01: names and strings are decoded before use)
+-- ---- decoding (docs/RULES.md, 3.4 and 3.5: names and strings are decoded before use)
 
 -- what one step of decoding gives: some bytes, and how many it read; or no more
 pub data Piece : Type 0 where

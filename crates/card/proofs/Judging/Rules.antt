@@ -16,7 +16,7 @@ use Rattle.text.specs.Doc.{Name, Members, membersOf}
 use Rattle.contact.specs.Schema.{ObjectType, Ty, Rule, types, properties, typeIn, fits}
 use Rattle.contact.specs.Rules.{present, anyCounts, breaksOne}
 use Rattle.json.specs.Rows.{kindIn, nameStartIn, nameEndIn}
-use Rattle.card.specs.Catalog.{joined, allRules, noRule, ruleAt, shapeOf, ruleWords}
+use Rattle.card.specs.Catalog.{gathered, allRules, noRule, ruleAt, shapeOf, ruleWords}
 use Rattle.card.specs.Rows.{ValueAt, ValueOf}
 use Rattle.json.specs.Lookup.{Standing}
 use Rattle.card.specs.RuleTable.{isCounted, anyCounted, thenBroken, byShape}
@@ -70,7 +70,7 @@ byWords : ObjectType → Members → Rule → Bool
 byWords o ms r = byShape o ms (shapeOf r) (ruleWords r)
 
 all-rules : (o : ObjectType) (ms : Members) → map (byWords o ms) allRules ≡ map (breaksOne o ms) allRules
-unfolding byWords byShape thenBroken anyCounted isCounted allRules joined types anyCounts
+unfolding byWords byShape thenBroken anyCounted isCounted allRules gathered types anyCounts
 all-rules o ms = refl
 
 pub rule-told : (o : ObjectType) (ms : Members) (i : ℕ) → byShape o ms (shapeOf (ruleAt i)) (ruleWords (ruleAt i)) ≡ breaksOne o ms (ruleAt i)

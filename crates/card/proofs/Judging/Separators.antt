@@ -13,7 +13,7 @@ use Rattle.text.specs.Doc.{docOf, membersOf}
 use Rattle.text.proofs.Promise.{members-first, members-none}
 use Rattle.contact.specs.Rules.{isSeparator, marksOf, badlySeparated}
 use Rattle.card.specs.Rows.{ValueAt}
-use Rattle.card.specs.Marks.{marks as kept, fresh, markOn, tally}
+use Rattle.card.specs.Marks.{tallied as kept, noMarks, markOn, tally}
 use Rattle.card.specs.declared.rules.Marks.{Marks}
 
 -- ---- the marks of a list
@@ -61,15 +61,15 @@ unfolding adjacent
 adjacent-fresh [] = refl
 adjacent-fresh (s ∷ ss) = refl
 
-module _ (m : Marks) (ss : List Bool) (e : m ≡ tally fresh ss) where
+module _ (m : Marks) (ss : List Bool) (e : m ≡ tally noMarks ss) where
   pub told-any : anyMark ss ≡ m .any
-  told-any = sym (ap (λ (x : Marks). x .any) e ∙ tally-any fresh ss)
+  told-any = sym (ap (λ (x : Marks). x .any) e ∙ tally-any noMarks ss)
 
   pub told-all : allMarks ss ≡ m .all
-  told-all = sym (ap (λ (x : Marks). x .all) e ∙ tally-all fresh ss)
+  told-all = sym (ap (λ (x : Marks). x .all) e ∙ tally-all noMarks ss)
 
   pub told-twice : adjacent ss ≡ m .twice
-  told-twice = sym (ap (λ (x : Marks). x .twice) e ∙ tally-twice fresh ss ∙ adjacent-fresh ss)
+  told-twice = sym (ap (λ (x : Marks). x .twice) e ∙ tally-twice noMarks ss ∙ adjacent-fresh ss)
 
 -- the entries one by one
 module _ (text : List ℕ) where
@@ -96,7 +96,7 @@ unmarked (s ∷ k ∷ ss) e =
 
 -- ---- a list by its tally
 
-module _ (m : Marks) (ss : List Bool) (e : m ≡ tally fresh ss) (ordered : Bool) where
+module _ (m : Marks) (ss : List Bool) (e : m ≡ tally noMarks ss) (ordered : Bool) where
   pub no-separator : m .any ≡ false → false ≡ badlySeparated ss ordered
   unfolding badlySeparated
   no-separator q = let z = told-any m ss e ∙ q in rw (unmarked ss z, z)

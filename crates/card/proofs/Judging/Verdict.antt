@@ -35,7 +35,7 @@ use Rattle.contact.specs.declared.Verdict.{Verdict}
 use Rattle.contact.specs.declared.Verdict.the-variants.{Passed, Failed}
 use Rattle.contact.proofs.Judging.{judging}
 use Rattle.card.specs.Rows.{ValueAt}
-use Rattle.card.specs.Judged.{ReadInto, Found, JudgedRows, keptOfJudged, JudgesRows}
+use Rattle.card.specs.Judged.{ReadInto, ByBreach, JudgedRows, keptOfJudged, JudgesRows}
 
 module _ {t table : List ℕ} {n : ℕ} {f : Forest} (h : ReadInto t table n f) where
   pub card-value : ValueAt table 0 f
@@ -82,7 +82,7 @@ rows-judged t lent old new n f r l h is j = go (cardBreach (docOf t f)) refl j
     whole : wholeOf base (length lent) t ≡ good f (h .end)
     whole = rw l at (h .whole)
 
-    go : (b : Breach) → cardBreach (docOf t f) ≡ b → Found old n f b r new → JudgesRows t lent r new
+    go : (b : Breach) → cardBreach (docOf t f) ≡ b → ByBreach old n f b r new → JudgesRows t lent r new
     go nothing e p = passes t lent new n f (h .end) r whole (h .count) e (p .0) (p .1 ∙ is)
     go (found row number) e p = fails t lent new f (h .end) row number r whole e (p .0) (p .1 ∙ ap (λ k. replicate k 0) l)
 

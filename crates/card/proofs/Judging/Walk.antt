@@ -15,14 +15,13 @@ use Rattle.text.specs.Tree.{Forest, none, leaf, node, size, join}
 use Rattle.text.specs.Firsts.{HasFirst, Kinds, kindAt, nameStart, nameEnd, insideAt, belowAt, restAt}
 use Rattle.text.specs.Standing.{RowsAt, Stands, StandsTo}
 use Rattle.text.specs.Doc.{Name, Doc, scalar, array, object, membersOf, docOf, childrenOf, countOf, Members, empty, member}
-use Rattle.text.proofs.Standing.{firstOf}
-use Rattle.text.proofs.Promise.{first-row, first-room, inside, alone, after, some-at, none-at, doc-kind, doc-token, doc-below, members-first, members-none, count-doc}
+use Rattle.text.proofs.Promise.{firstOf, first-row, first-room, inside, alone, after, some-at, none-at, doc-kind, doc-token, doc-below, members-first, members-none, count-doc}
 use Rattle.contact.specs.Schema.{ObjectType, Ty, any, simple, objectOf, listOf, mapOf, byType, fits}
 use Rattle.contact.proofs.Judging.Table.{simple-low}
 use Rattle.contact.specs.Judge.{memberType, keyFits, rowNumber, Breach, nothing, found, onRow, orElse, breachOf, breachAmong}
 use Rattle.json.specs.Rows.{nameStartIn, nameEndIn, belowIn}
 use Rattle.card.specs.Types.{isAny, NotObject}
-use Rattle.card.specs.Rows.{ValueAt, namesOnto, keyAt}
+use Rattle.card.specs.Rows.{ValueAt, namesOnto, rowKey}
 use Rattle.card.specs.Walk.{objectNumber, valueNumber}
 use Rattle.json.proofs.Seeking.{rest-kinds, inside-kinds}
 
@@ -210,7 +209,7 @@ module _ {t table : List ℕ} {ty : Ty} {key : Bool} {row end : ℕ} {f : Forest
 
     -- its breach, of the type and key that the code has asked
     module _ (inner : Ty) (fit : Bool) (b : Breach) (typed : inner ≡ memberType ty (nameOf t (nameStartIn table at) (nameEndIn table at)) (docOf t (a .ahead)))
-        (keyed : fit ≡ keyFits ty (keyAt t table (a .passed) at)) (is : b ≡ breachOf inner fit at (docOf t (a .ahead))) where
+        (keyed : fit ≡ keyFits ty (rowKey t table (a .passed) at)) (is : b ≡ breachOf inner fit at (docOf t (a .ahead))) where
       names : List Name
       names = namesOnto (membersOf t (a .passed)) []
 

@@ -4,17 +4,17 @@ use Prim.Native.Nat.{ℕ, _+_, _-_, _≤_, _<_}
 use mathlib.Core.Path.{_≡_, refl, ap, _∙_}
 use mathlib.Core.Bool.{false}
 use mathlib.Core.List.{List, [], _∷_}
-use native.Mathlib.Decide.{decLe}
+use native.Mathlib.Decide.{decLe, ℕ-discrete}
 use native.Mathlib.Omega.{arith}
 use lib.ListN.{length}
 use Rattle.laws.specs.Lists.{partOf}
 use Rattle.laws.specs.Order.{orderOf, same}
-use Rattle.laws.proofs.Branches.{if-most, if-equal}
+use Rattle.laws.proofs.Branches.{if-most}
 use Rattle.laws.proofs.Orders.{differ}
 use Rattle.laws.proofs.Parts.{part-more, part-out}
 use Rattle.text.specs.Text.{byteAt}
-use Rattle.text.specs.Strings.{Piece, pieceBy, onPiece, decodeFrom, decode, nameOf}
-use Rattle.text.proofs.Walks.{decode-step}
+use Rattle.text.specs.Strings.{decodeFrom, decode, nameOf}
+use Rattle.json.proofs.Alike.{decode-over, decode-byte}
 
 module _ (x : ℕ) (xs : List ℕ) where
   -- what decodes to something else
@@ -22,15 +22,15 @@ module _ (x : ℕ) (xs : List ℕ) where
   Other p = same (decode p) (x ∷ xs) ≡ false
 
   none-other : Other []
-  unfolding pieceBy orderOf
-  none-other = ap (λ (d : List ℕ). same d (x ∷ xs)) (decode-step [] 0)
+  unfolding orderOf
+  none-other = ap (λ (d : List ℕ). same d (x ∷ xs)) (decode-over [] 0 refl)
 
   first-other : (p : List ℕ) → (byteAt p 0 ≡ 92 → ⊥) → (byteAt p 0 ≡ x → ⊥) → Other p
-  unfolding pieceBy orderOf
-  first-other p s ne =
-      let P : Piece → Type 0 = λ q. same (onPiece (decodeFrom p) 0 q) (x ∷ xs) ≡ false in
-      ap (λ (d : List ℕ). same d (x ∷ xs)) (decode-step p 0)
-      ∙ if-equal P (byteAt p 0) 256 (λ e. refl) (λ e. if-equal P (byteAt p 0) 92 (λ z. absurd (s z)) (λ z. differ (byteAt p 0) x (decodeFrom p 1) xs ne))
+  unfolding orderOf
+  first-other p s ne = elim (ℕ-discrete (byteAt p 0) 256) [
+    | yes e ↦ ap (λ (d : List ℕ). same d (x ∷ xs)) (decode-over p 0 e)
+    | no e ↦ ap (λ (d : List ℕ). same d (x ∷ xs)) (decode-byte p 0 s e) ∙ differ (byteAt p 0) x (decodeFrom p 1) xs ne
+  ]
 
   module _ (t : List ℕ) (s e : ℕ) where
     -- no bytes, where the end isn't behind the start or is past the text's

@@ -16,12 +16,12 @@ use Rattle.text.specs.Text.{bytes, byteAt}
 use Rattle.text.specs.Strings.{nameOf}
 use Rattle.text.specs.Doc.{Name}
 use Rattle.contact.specs.Schema.{ObjectType, Known, TypeRecord, types, recordOf, ownName}
-use Rattle.card.specs.Catalog.{nameWidth, joined, typeCount, namePlace, lines, noLine, count, allRules, ruleCount, ruleAt, ruleWords, typeWordsFrom, tableWords, Lent}
+use Rattle.card.specs.Catalog.{nameWidth, gathered, typeCount, namePlace, lines, noLine, count, allRules, ruleCount, ruleAt, ruleWords, each, typeWordsFrom, tableWords, Lent}
 use Rattle.card.proofs.Known.Beginnings.{name-apart}
-use Rattle.card.proofs.Known.Stretches.{place-within, place-record}
+use Rattle.card.proofs.Known.OwnParts.{place-within, place-record}
 
 pub words-length : length tableWords ≡ (typeWordsFrom + typeCount) * nameWidth
-unfolding tableWords lines joined types
+unfolding tableWords lines gathered types
 words-length = refl
 
 -- ---- names of properties
@@ -34,14 +34,14 @@ right : ℕ → Bool
 right i = same (take (length (getD spellings i [])) (drop (i * nameWidth) tableWords)) (getD spellings i [])
 
 all-right : below right count ≡ true
-unfolding right orderOf tableWords lines joined types
+unfolding right orderOf tableWords lines gathered types
 all-right = refl
 
 short : ℕ → Bool
 short i = leb (length (getD spellings i [])) nameWidth
 
 all-short : below short count ≡ true
-unfolding short lines joined types
+unfolding short lines gathered types
 all-short = refl
 
 -- none is empty
@@ -49,7 +49,7 @@ some : ℕ → Bool
 some i = leb 1 (length (getD spellings i []))
 
 all-some : below some count ≡ true
-unfolding some lines joined types
+unfolding some lines gathered types
 all-some = refl
 
 -- ---- names of object types
@@ -62,7 +62,7 @@ called : ℕ → Bool
 called p = same (take (getD nameSizes p 0) (drop ((typeWordsFrom + p) * nameWidth) tableWords)) (bytes (ownName p))
 
 all-called : below called (typeCount + 1) ≡ true
-unfolding called orderOf recordOf tableWords lines joined types
+unfolding called orderOf recordOf tableWords lines gathered types
 all-called = refl
 
 pub type-named : (o : ObjectType) → take (getD nameSizes (namePlace o) 0) (drop ((typeWordsFrom + namePlace o) * nameWidth) tableWords) ≡ bytes (ownName o)
@@ -134,21 +134,21 @@ module _ {words numbers : List ℕ} (l : Lent words numbers) where
 -- ---- how many there are
 
 pub lines-length : length lines ≡ count
-unfolding lines joined types
+unfolding lines gathered types
 lines-length = refl
 
 pub rules-length : length allRules ≡ ruleCount
-unfolding allRules joined types
+unfolding allRules gathered types
 rules-length = refl
 
 -- a rule has no more words than the code keeps for it
 few : ℕ → Bool
-few i = leb (length (ruleWords (ruleAt i))) 6
+few i = leb (length (ruleWords (ruleAt i))) each
 
 all-few : below few ruleCount ≡ true
-unfolding few allRules joined types
+unfolding few allRules gathered types
 all-few = refl
 
-pub rule-few : (i : ℕ) → i < ruleCount → length (ruleWords (ruleAt i)) ≤ 6
+pub rule-few : (i : ℕ) → i < ruleCount → length (ruleWords (ruleAt i)) ≤ each
 unfolding few
-rule-few i h = leb-true (length (ruleWords (ruleAt i))) 6 (below-at few ruleCount all-few i h)
+rule-few i h = leb-true (length (ruleWords (ruleAt i))) each (below-at few ruleCount all-few i h)

@@ -12,7 +12,7 @@ use Rattle.laws.proofs.Orders.{same-eq}
 use Rattle.laws.proofs.Tables.{below, below-at}
 use Rattle.contact.specs.Schema.{Known, types}
 use Rattle.card.specs.Types.{typeAt}
-use Rattle.card.specs.Catalog.{nameWidth, startOf, typeCount, lines, noLine, count, ruleCount, ruleAt, shapeOf, ruleWords, typeWordsFrom, tableWords, lineStarts, ruleStarts, rulesFrom, ruleWidth, Numbers}
+use Rattle.card.specs.Catalog.{nameWidth, startOf, typeCount, lines, noLine, count, ruleCount, ruleAt, shapeOf, ruleWords, each, typeWordsFrom, tableWords, lineStarts, ruleStarts, rulesFrom, ruleWidth, Numbers}
 
 abbrev pub isMust : ℕ → Bool
 isMust n = eqb (n / 32768 % 2) 1
@@ -52,7 +52,7 @@ module _ (ns : List ℕ) where
       → isMust 0 ≡ noLine .mandatory → map isMust (take count ns) ≡ map (λ (k : Known). k .mandatory) lines
       → typeAt 0 ≡ noLine .type → map typeAt (take count ns) ≡ map (λ (k : Known). k .type) lines
       → below lineStart (typeCount + 2) ≡ true → below ruleStart (typeCount + 2) ≡ true → below shaped ruleCount ≡ true
-      → below (λ i. below (fitting i) 6) ruleCount ≡ true → below (λ i. below (worded i) 6) ruleCount ≡ true
+      → below (λ i. below (fitting i) each) ruleCount ≡ true → below (λ i. below (worded i) each) ruleCount ≡ true
       → Numbers ns
   numbers-told long size z must y type line rule shape fit word =
       record {
@@ -62,7 +62,7 @@ module _ (ns : List ℕ) where
         rule-start = λ o h. eqb-true (getD ns (ruleStarts + o) 0) (startOf (λ r. r .rules) types o) (below-at ruleStart (typeCount + 2) rule o h);
         shape = λ i h. eqb-true (getD ns (rulesFrom + i * ruleWidth) 0) (shapeOf (ruleAt i)) (below-at shaped ruleCount shape i h);
         word = λ i h j k. record {
-          fits = leb-true (wordIn i j % 65536 * nameWidth + wordIn i j / 65536) ((typeWordsFrom + typeCount) * nameWidth) (below-at (fitting i) 6 (below-at (λ n. below (fitting n) 6) ruleCount fit i h) j k);
-          is = same-eq (take (wordIn i j / 65536) (drop (wordIn i j % 65536 * nameWidth) tableWords)) (getD (ruleWords (ruleAt i)) j []) (below-at (worded i) 6 (below-at (λ n. below (worded n) 6) ruleCount word i h) j k);
+          fits = leb-true (wordIn i j % 65536 * nameWidth + wordIn i j / 65536) ((typeWordsFrom + typeCount) * nameWidth) (below-at (fitting i) each (below-at (λ n. below (fitting n) each) ruleCount fit i h) j k);
+          is = same-eq (take (wordIn i j / 65536) (drop (wordIn i j % 65536 * nameWidth) tableWords)) (getD (ruleWords (ruleAt i)) j []) (below-at (worded i) each (below-at (λ n. below (worded n) each) ruleCount word i h) j k);
         };
       }

@@ -16,7 +16,7 @@ use Rattle.text.specs.Doc.{Name, Members}
 use Rattle.contact.specs.Schema.{ObjectType, Ty, any, Known, Rule, typeIn}
 use Rattle.contact.specs.Rules.{breaksOne, breaksAny}
 use Rattle.contact.specs.Judge.{lacking}
-use Rattle.card.specs.Catalog.{Stretch, isMissing}
+use Rattle.card.specs.Catalog.{OwnPart, isMissing}
 
 module _ {A B : Type 0} (hit : A → Bool) (out : A → B) (nothing : B) where
   -- the first of a list that is hit
@@ -31,7 +31,7 @@ module _ {A B : Type 0} (hit : A → Bool) (out : A → B) (nothing : B) where
       pub before : i ≤ last
       pub is : firstOf (drop (i - first) own) ≡ firstOf own
 
-    module _ (s : Stretch all own d first last) where
+    module _ (s : OwnPart all own d first last) where
       pub left-starts : Left first
       left-starts =
           let z : first - first ≡ 0 = omega arith in

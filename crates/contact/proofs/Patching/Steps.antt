@@ -1,16 +1,14 @@
 -- Localizing step by step, as it is carried out:
 --     judged-answer                      what judging answers, by its answer on paper
 --     answer-failed, failed-answer           a text is refused as the papers say
---     no-patch, no-patch-object, patched-so       the PatchObject of the language
 --     bad-key-so .. no-object-so, unbroken-so     the conditions 22 to 26, one after the other
 --     short-so, room-so                  27, and then the text that is written is judged
 --     start-walk, start-walks            a pointer that does not begin with `localizations` leads where it leads in the card
 -- Assumes nothing.
 use mathlib.Core.Path.{_≡_, refl, sym, ap, _∙_}
 use mathlib.Core.Bool.{Bool, true, false, true≢false}
-use mathlib.Core.Logic.{_≢_}
 use mathlib.Core.List.{List, [], _∷_}
-use mathlib.Core.Option.{none, some}
+use mathlib.Core.Option.{none}
 use Prim.Native.Nat.{ℕ, _≤_, _<_}
 use lib.ListN.{length}
 use native.Mathlib.Omega.{arith}
@@ -20,18 +18,18 @@ use Rattle.laws.specs.Lists.{filled}
 use Rattle.laws.proofs.Bools.{or-false}
 use Rattle.text.specs.Limits.{Limits}
 use Rattle.text.specs.Text.{bytes}
-use Rattle.text.specs.Doc.{Name, Doc, scalar, array, object, Members, Property, kindOf}
+use Rattle.text.specs.Doc.{Doc, scalar, array, object, Members}
 use Rattle.text.specs.Writing.{written}
 use Rattle.contact.specs.Verdict.{paperOfVerdict, refusedCard, Judged, passed, failed, judgedOf, answerOfJudged, sheetOfJudged, tableOfJudged}
 use Rattle.contact.specs.Judging.{CardAnswer}
-use Rattle.contact.specs.Pointer.{Pointer, last, down, badTilde, firstPart, find}
+use Rattle.contact.specs.Pointer.{Pointer, last, down, badTilde, firstPart}
 use Rattle.contact.specs.Patch.{Entry, entry, entriesOf, Walk, onward, walk, anyBadKey, anyOwn, anyClash, anyWalk, isInArray, isNoObject, applied}
 use Rattle.contact.specs.Faults.{leastKey, ownKey, walksTo, faultIn}
-use Rattle.contact.specs.Localize.{denied, start, patchAt, byJudge, byRoom, byFault, byEntries, inPatch, withPatch, localizedDoc}
+use Rattle.contact.specs.Localize.{denied, start, byJudge, byRoom, byFault, byEntries}
 use Rattle.contact.specs.declared.CardRefusal.{CardRefusal}
 use Rattle.contact.specs.declared.Verdict.{Verdict}
 use Rattle.contact.specs.declared.Verdict.the-variants.{Failed}
-use Rattle.contact.specs.declared.LocalRefusal.the-variants.{NoLanguage, BadKey, OwnLocalizations, Clash, InArray, NoObject, Short}
+use Rattle.contact.specs.declared.LocalRefusal.the-variants.{BadKey, OwnLocalizations, Clash, InArray, NoObject, Short}
 use Rattle.contact.proofs.Judging.{one-answer, judging}
 use Rattle.contact.proofs.Patching.Names.{same-yes}
 use Rattle.contact.proofs.Patching.Seek.{seek-without-other}
@@ -58,31 +56,6 @@ module _ (L : Limits) (words : ℕ) (t : List ℕ) (r : CardRefusal) where
   failed-answer e = judging .answer L words t (refusedCard r) (filled words []) .0 (rw e, rw e)
 
 module _ (L : Limits) (words room : ℕ) where
-  -- ---- 21
-
-  module _ (card : Doc) (lang : Name) where
-    pub no-patch : find (patchAt lang) card ≡ none → localizedDoc L words room card lang ≡ denied NoLanguage
-    unfolding localizedDoc withPatch
-    no-patch e = rw e
-
-    found-so : (s : Property) → find (patchAt lang) card ≡ some s → localizedDoc L words room card lang ≡ inPatch L words room (start card) (s .content)
-    unfolding localizedDoc withPatch
-    found-so s e = rw e
-
-    pub no-patch-object : (s : Property) → find (patchAt lang) card ≡ some s → kindOf (s .content) ≢ 7 → localizedDoc L words room card lang ≡ denied NoLanguage
-    unfolding inPatch
-    no-patch-object s e k = found-so s e ∙ go (s .content) k
-      where
-        go : (d : Doc) → kindOf d ≢ 7 → inPatch L words room (start card) d ≡ denied NoLanguage
-        go (scalar kind token) n = refl
-        go (array ms) n = refl
-        go (object ms) n = absurd (n refl)
-
-    pub patched-so : (s : Property) (ms : Members) → find (patchAt lang) card ≡ some s → s .content ≡ object ms
-        → localizedDoc L words room card lang ≡ byEntries L words room (start card) ms (entriesOf ms)
-    unfolding inPatch
-    patched-so s ms e o = found-so s e ∙ ap (inPatch L words room (start card)) o
-
   -- ---- 22 to 26
 
   module _ (d : Doc) (ms : Members) where

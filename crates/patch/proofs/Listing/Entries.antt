@@ -17,7 +17,7 @@ use Rattle.text.specs.Tree.{Forest}
 use Rattle.text.specs.Firsts.{Kinds, nameStart, nameEnd, restAt}
 use Rattle.text.specs.Standing.{StandsTo}
 use Rattle.text.specs.Doc.{Name, Doc, Members, empty, member, labelAt, docOf, membersOf}
-use Rattle.text.proofs.Promise.{first-row, after, within, some-at, none-at, members-first, members-none}
+use Rattle.text.proofs.Promise.{first-row, after, some-at, none-at, members-first, members-none}
 use Rattle.json.specs.Rows.{belowIn}
 use Rattle.contact.specs.Pointer.{pointerOf, clash}
 use Rattle.contact.specs.Patch.{Walk, arrives, inArray, noObject, entriesOf, walk, isInArray, isNoObject, anyWalk, clashWith, anyClash}
@@ -171,12 +171,6 @@ fill-start table from end rows f h = record { ahead = f; stands = h; kinds = λ 
 
 module _ {table : List ℕ} {from end : ℕ} {rows : List ℕ} {n at : ℕ} (g : Filling table from end rows n at) (f : Forest)
     (h : StandsTo table from end f) where
-  pub fill-room : at < end → at + 1 + belowIn table at ≤ end
-  fill-room lt =
-      let b = g f h in
-      let s = some-at (b .ahead) (b .stands) lt in
-      rw (first-row (b .ahead) s (b .stands .stands) .below) (within (b .ahead) s (b .stands))
-
   pub fill-on : at < end → n < length rows → Begun table from end (set rows n at) (n + 1) (at + 1 + belowIn table at) f
   fill-on lt room =
       let b = g f h in

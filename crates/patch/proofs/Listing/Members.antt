@@ -18,7 +18,7 @@ use Rattle.contact.specs.Pointer.{Pointer, last, down, pointerOf, firstPart}
 use Rattle.contact.specs.Patch.{Change, Entry, entry, changeOf, mine, under}
 use Rattle.pointers.specs.Pointers.{pointerOrder, strip}
 use Rattle.patch.specs.Entries.{stripped}
-use Rattle.patch.specs.Runs.{BeforeAll, leads-none, leads-more, InOrder, asc-none, asc-more, aheadBy, Side, side-none, side-more, joined, Bound}
+use Rattle.patch.specs.Runs.{LeadsAll, leads-none, leads-more, InOrder, asc-none, asc-more, aheadBy, Side, side-none, side-more, joined, Bound}
 use Rattle.patch.specs.Patched.{Said}
 use Rattle.pointers.proofs.Laws.Pointers.{strip-on}
 
@@ -29,7 +29,7 @@ unfolding stripped joined
 stripped-joined j empty ms = refl
 stripped-joined j (member key label d ls) ms = ap (λ (es : List Entry). entry (strip j (pointerOf key)) (changeOf d) ∷ es) (stripped-joined j ls ms)
 
-leads-left : {p : Pointer} (xs ys : List Entry) → BeforeAll p (xs ++ ys) → BeforeAll p xs
+leads-left : {p : Pointer} (xs ys : List Entry) → LeadsAll p (xs ++ ys) → LeadsAll p xs
 leads-left [] ys h = leads-none
 leads-left (x ∷ xs) ys (leads-more e h) = leads-more e (leads-left xs ys h)
 
@@ -174,7 +174,7 @@ goes-too n q (last m) e f =
     let z : _≡_ {A = ℕ} 0 1 = cc in
     absurd (omega arith)
 
-deep-after : (j : ℕ) (n : Name) (q : Pointer) (ms : Members) → BeforeAll (down n q) (stripped j ms) → Named n (stripped j ms) → Deep j n ms
+deep-after : (j : ℕ) (n : Name) (q : Pointer) (ms : Members) → LeadsAll (down n q) (stripped j ms) → Named n (stripped j ms) → Deep j n ms
 unfolding stripped
 deep-after j n q empty l h = deep-none
 deep-after j n q (member key label d ms) (leads-more e l) (named-more f h) = deep-more (goes-too n q (strip j (pointerOf key)) e f .1) (deep-after j n q ms l h)
@@ -197,7 +197,7 @@ module _ (j : ℕ) (n : Name) where
   deep-under deep-none = refl
   deep-under (deep-more {key = key} e h) = rw (e, same-refl n, strip-on j (pointerOf key) e, deep-under h)
 
-  deep-leads : {q : Pointer} {ms : Members} → Deep j n ms → BeforeAll (down n q) (stripped j ms) → BeforeAll q (stripped (j + 1) ms)
+  deep-leads : {q : Pointer} {ms : Members} → Deep j n ms → LeadsAll (down n q) (stripped j ms) → LeadsAll q (stripped (j + 1) ms)
   unfolding stripped pointerOrder
   deep-leads deep-none l = leads-none
   deep-leads (deep-more {key = key} e h) (leads-more o l) = rw (strip-on j (pointerOf key) e) (leads-more (rw (e, order-refl n) at o) (deep-leads h l))

@@ -23,7 +23,7 @@ use Rattle.contact.specs.Pointer.{Pointer, pointerOf, firstPart}
 use Rattle.pointers.specs.Pointers.{pointerOrder, strip}
 use Rattle.patch.specs.Children.{keyAt}
 use Rattle.patch.specs.Entries.{Listed, over, next, stripped}
-use Rattle.patch.specs.Runs.{BeforeAll, leads-more, InOrder, asc-more, aheadBy, Side, side-none, side-more, joined, Bound}
+use Rattle.patch.specs.Runs.{LeadsAll, leads-more, InOrder, asc-more, aheadBy, Side, side-none, side-more, joined, Bound}
 use Rattle.pointers.proofs.Laws.Orders.{first-upto}
 use Rattle.patch.proofs.Listing.Orders.{key-is}
 
@@ -50,7 +50,7 @@ module _ (t table rows : List ℕ) (parts : ℕ) where
   abbrev pub pointAt : ℕ → Pointer
   pointAt k = strip parts (pointerOf (keyAt t table (getD rows k 0)))
 
-  leads-at : {p : Pointer} {i n : ℕ} {ms : Members} → Listed t table rows i n ms → BeforeAll p (stripped parts ms) → (l : ℕ) → i ≤ l → l < n
+  leads-at : {p : Pointer} {i n : ℕ} {ms : Members} → Listed t table rows i n ms → LeadsAll p (stripped parts ms) → (l : ℕ) → i ≤ l → l < n
       → pointerOrder p (pointAt l) ≡ Less
   unfolding stripped
   leads-at over u l a b = absurd (omega arith)

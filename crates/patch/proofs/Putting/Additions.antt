@@ -19,7 +19,7 @@ use Rattle.patch.specs.Runs.{InOrder, asc-more}
 use Rattle.patch.specs.Written.{Wrote}
 use Rattle.json.specs.Lookup.{KnownAt}
 use Rattle.patch.specs.Patched.{adds, pointerIn, entryOf, piece, since, link, Passed, Said}
-use Rattle.patch.specs.declared.writing.Spot.{Spot}
+use Rattle.patch.specs.declared.writing.Pen.{Pen}
 use Rattle.patch.proofs.Putting.Bytes.{BytesLeft, left-on, left-as, left-last}
 use Rattle.patch.proofs.Putting.Kept.{linked, added-linked}
 
@@ -59,14 +59,14 @@ none-said over h = refl
 none-said (next g lt some kinds stands l) h = absurd (omega arith)
 
 -- Of the bytes `total` that go into `old` from `at` on, those of the members that the entries from i on add to an object, and its brace, are left.
-pub record Adding (t table rows : List ℕ) (i hi parts : ℕ) (object : Members) (old : List ℕ) (at : ℕ) (total new : List ℕ) (s : Spot) : Type 0 where
+pub record Adding (t table rows : List ℕ) (i hi parts : ℕ) (object : Members) (old : List ℕ) (at : ℕ) (total new : List ℕ) (s : Pen) : Type 0 where
   pub rest : Members
   pub said : Said t table rows i hi parts rest
   pub left : BytesLeft old at total new (s .to) (writtenMembers (added object (stripped parts rest)) (s .first))
 
-module _ (t : List ℕ) {table rows : List ℕ} {i hi parts : ℕ} {object : Members} {old : List ℕ} {at : ℕ} {total new : List ℕ} {s : Spot}
+module _ (t : List ℕ) {table rows : List ℕ} {i hi parts : ℕ} {object : Members} {old : List ℕ} {at : ℕ} {total new : List ℕ} {s : Pen}
     (w : Adding t table rows i hi parts object old at total new s) where
-  pub adding-on : (f : First t table rows i hi parts (w .rest)) {new′ : List ℕ} {s′ : Spot}
+  pub adding-on : (f : First t table rows i hi parts (w .rest)) {new′ : List ℕ} {s′ : Pen}
       → Passed new s (adds object (entryOf t parts (f .tree))) (spelled (firstPart (pointerIn t parts (f .tree)))) new′ s′
       → Adding t table rows (i + 1) hi parts object old at total new′ s′
   unfolding stripped

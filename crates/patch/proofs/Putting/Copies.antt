@@ -21,7 +21,7 @@ use Rattle.text.proofs.Promise.{doc-scalar, doc-array, doc-object, members-firs
 use Rattle.json.specs.Rows.{belowIn}
 use Rattle.patch.specs.Written.{Wrote}
 use Rattle.json.specs.Lookup.{KnownAt}
-use Rattle.patch.specs.Copied.{openOf, closeOf, headOf, labelIn, Copied}
+use Rattle.patch.specs.Copied.{openByte, closeByte, headOf, labelIn, Copied}
 use Rattle.patch.proofs.Putting.Bytes.{left-on, left-as, left-last}
 use Rattle.patch.proofs.Putting.Walks.{value-row, Walk, walk-here, walk-on, walk-end}
 
@@ -48,7 +48,7 @@ module _ (t : List ℕ) where
 
   -- its kind is 6 or 7
   pub copied-inside : (g : Forest) → HasFirst g → Kinds g → (kind : ℕ) → kind ≡ kindAt g → 6 ≤ kind
-      → written (docOf t g) ≡ openOf kind ∷ insideOf t kind (insideAt g) true
+      → written (docOf t g) ≡ openByte kind ∷ insideOf t kind (insideAt g) true
   unfolding insideOf
   copied-inside g s k kind is h =
       elim (ℕ-discrete kind 7) [
@@ -56,7 +56,7 @@ module _ (t : List ℕ) where
         | no ne ↦ rw (ne-eqb kind 7 ne, doc-array t g s k (only-array g s k (rw is at h) (λ e. ne (is ∙ e))))
       ]
 
-  pub inside-none : (kind : ℕ) (first : Bool) → insideOf t kind none first ≡ closeOf kind ∷ []
+  pub inside-none : (kind : ℕ) (first : Bool) → insideOf t kind none first ≡ closeByte kind ∷ []
   unfolding insideOf
   inside-none kind first = rw (members-none t) (go (eqb kind 7))
     where
@@ -103,6 +103,6 @@ copy-turn t {table} kind {first = first} w h a b next e =
 
 -- all are written
 pub copy-end : (t : List ℕ) {table : List ℕ} (kind : ℕ) {end : ℕ} {old : List ℕ} {at : ℕ} {total new : List ℕ} {to : ℕ} {first : Bool} {m : ℕ}
-    → Walk table end (insideOf t kind) old at total new to first m → end ≤ m → {last : List ℕ} {r : ℕ} → Wrote new to (closeOf kind ∷ []) last r
+    → Walk table end (insideOf t kind) old at total new to first m → end ≤ m → {last : List ℕ} {r : ℕ} → Wrote new to (closeByte kind ∷ []) last r
     → Wrote old at total last r
-copy-end t kind {first = first} w h a = left-last (closeOf kind ∷ []) (left-as (inside-none t kind first) (walk-end w h)) a
+copy-end t kind {first = first} w h a = left-last (closeByte kind ∷ []) (left-as (inside-none t kind first) (walk-end w h)) a

@@ -30,12 +30,12 @@ use Rattle.json.specs.declared.decode.Cursor.{Cursor}
 use Rattle.contact.specs.Pointer.{Pointer, last, down, pointerOf, firstPart}
 use Rattle.contact.specs.Patch.{Change, remove, set, Entry, entry, mine, under, insert, fresh, added, keep, applied, kept, without, changeOf}
 use Rattle.pointers.specs.Pointers.{pointerOrder, strip}
-use Rattle.patch.specs.Runs.{BeforeAll, leads-more, InOrder, asc-more}
+use Rattle.patch.specs.Runs.{LeadsAll, leads-more, InOrder, asc-more}
 use Rattle.patch.specs.Patched.{based, basedAll, isOut, keptBy, stays, freshly, adds, pointerIn, link, piece, since, Passed}
 use Rattle.patch.specs.Written.{full, Wrote}
 use Rattle.json.specs.Lookup.{KnownAt}
 use Rattle.patch.specs.Copied.{headOf}
-use Rattle.patch.specs.declared.writing.Spot.{Spot}
+use Rattle.patch.specs.declared.writing.Pen.{Pen}
 use Rattle.patch.proofs.Putting.Walks.{value-row}
 use Rattle.patch.proofs.Putting.Bytes.{wrote-none, wrote-then}
 
@@ -107,7 +107,7 @@ unfolding pointerOrder
 less-before n m e = rw e
 
 -- it stands before the names of all members that later entries add
-heads-added : (n : Name) (ms : Members) (es : List Entry) → BeforeAll (last n) es → Heads n (added ms es)
+heads-added : (n : Name) (ms : Members) (es : List Entry) → LeadsAll (last n) es → Heads n (added ms es)
 heads-added n ms [] l = tt
 heads-added n ms (entry (last m) remove ∷ es) (leads-more e l) = heads-added n ms es l
 heads-added n ms (entry (last m) (set v) ∷ es) (leads-more e l) = heads-fresh n m v (seek m ms) (added ms es) (less-before n m e) (heads-added n ms es l)
@@ -207,9 +207,9 @@ adds-is ms c e f = rw e at f
 
 -- ---- one member, written or not ----
 
-pub passed-none : {old : List ℕ} (s : Spot) {o : Option Doc} {label : List ℕ} → length old < full → o ≡ none → Passed old s o label old s
+pub passed-none : {old : List ℕ} (s : Pen) {o : Option Doc} {label : List ℕ} → length old < full → o ≡ none → Passed old s o label old s
 passed-none s fits e = rw e (record { wrote = wrote-none (s .to) fits; next = refl })
 
-pub passed-some : {old : List ℕ} {s : Spot} {o : Option Doc} {label : List ℕ} (d : Doc) {one two : List ℕ} {p q : ℕ} → o ≡ some d
+pub passed-some : {old : List ℕ} {s : Pen} {o : Option Doc} {label : List ℕ} (d : Doc) {one two : List ℕ} {p q : ℕ} → o ≡ some d
     → Wrote old (s .to) (headOf 7 (s .first) label) one p → Wrote one p (written d) two q → Passed old s o label two (record { to = q; first = false })
 passed-some {s = s} {label = label} d e a b = rw e (record { wrote = wrote-then (headOf 7 (s .first) label) (written d) a b; next = refl })

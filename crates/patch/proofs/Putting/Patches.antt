@@ -29,7 +29,7 @@ use Rattle.patch.specs.Patched.{Said, basedAll, isOut, OutAt, LeavesOut,
 use Rattle.pointers.specs.Parts.{Goes}
 use Rattle.pointers.specs.declared.parts.Onward.{Onward}
 use Rattle.pointers.specs.declared.parts.Onward.the-variants.{Last, Part}
-use Rattle.patch.specs.declared.writing.Spot.{Spot}
+use Rattle.patch.specs.declared.writing.Pen.{Pen}
 use Rattle.patch.proofs.Putting.Bytes.{BytesLeft, left-on, left-as, left-last}
 use Rattle.patch.proofs.Putting.Walks.{value-row, Walk, walk-start, walk-here, walk-on, walk-end}
 use Rattle.patch.proofs.Listing.Members.{Middle, run-ends, Deep, deep-none, deep, deep-mine, deep-under, deep-ascending, Named}
@@ -135,19 +135,19 @@ module _ (t : List ℕ) (root : Bool) (es : List Entry) (more : Members) where
       go false = refl
 
   -- a walk along them, by the row that is left out
-  pub record PatchWalk (leave : ℕ) (table : List ℕ) (end : ℕ) (old : List ℕ) (at : ℕ) (total new : List ℕ) (s : Spot) (m : ℕ) : Type 0 where
+  pub record PatchWalk (leave : ℕ) (table : List ℕ) (end : ℕ) (old : List ℕ) (at : ℕ) (total new : List ℕ) (s : Pen) (m : ℕ) : Type 0 where
     pub walk : Walk table end (restBy t root es more) old at total new (s .to) (s .first) m
     pub out : LeavesOut t leave root m (walk .values)
 
   module _ {leave : ℕ} {table : List ℕ} {end : ℕ} {old : List ℕ} {at : ℕ} {total : List ℕ} where
-    pub patch-start : {row : ℕ} {g : Forest} {new : List ℕ} {s : Spot} → BaseAt t table leave row root g → end ≡ row + 1 + belowIn table row
+    pub patch-start : {row : ℕ} {g : Forest} {new : List ℕ} {s : Pen} → BaseAt t table leave row root g → end ≡ row + 1 + belowIn table row
         → BytesLeft old at total new (s .to) (restBy t root es more (insideAt g) (s .first)) → PatchWalk leave table end old at total new s (row + 1)
     unfolding walk-start
     patch-start {s = s} b e l = record { walk = walk-start (s .first) (b .value) e l; out = b .out }
 
-    module _ {new : List ℕ} {s : Spot} {m : ℕ} (w : PatchWalk leave table end old at total new s m) where
+    module _ {new : List ℕ} {s : Pen} {m : ℕ} (w : PatchWalk leave table end old at total new s m) where
       -- one member more is written, or left out
-      pub patch-turn : (h : m < end) {new′ : List ℕ} {s′ : Spot} → let g = w .walk .values in
+      pub patch-turn : (h : m < end) {new′ : List ℕ} {s′ : Pen} → let g = w .walk .values in
           Passed new s (stays root (nameOf t (nameStart g) (nameEnd g)) es (docOf t g)) (labelAt t (nameStart g) (nameEnd g)) new′ s′
           → (next : ℕ) → next ≡ m + 1 + belowIn table m → PatchWalk leave table end old at total new′ s′ next
       unfolding walk-on

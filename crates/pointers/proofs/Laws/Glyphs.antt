@@ -26,9 +26,9 @@ use Rattle.contact.specs.Pointer.{Pointer, pointerOf}
 use Rattle.json.specs.Cursors.{rest, cursor, freshOf, nextOf}
 use Rattle.json.specs.Names.{orderAt}
 use Rattle.json.specs.declared.decode.Cursor.{Cursor}
-use Rattle.json.specs.declared.decode.Next.the-variants.{Byte, Over}
+use Rattle.json.specs.declared.decode.Next.the-variants.{Byte}
 use Rattle.json.proofs.Alike.{decode-over, decode-byte, order-heads}
-use Rattle.pointers.specs.Parts.{partLeft, nameLeft, leftAt, tildeLeft, Shows, beyond, Crosses, at-end, at-slash, past, Later}
+use Rattle.pointers.specs.Parts.{partLeft, nameLeft, leftAt, tildeLeft, GlyphAt, beyond, Crosses, at-end, at-slash, past, Later}
 use Rattle.pointers.specs.declared.parts.Onward.{Onward}
 use Rattle.pointers.specs.declared.parts.Glyph.{Glyph}
 use Rattle.pointers.proofs.Laws.Parts.{part-plain, part-tilde, tail-on}
@@ -66,12 +66,12 @@ module _ (t : List ℕ) (at : ℕ) where
 abbrev pub glyph : (value len : ℕ) → Glyph
 glyph value len = record { value = value; len = len }
 
-pub coded-glyph : (part : Bool) (t : List ℕ) (at : ℕ) → Shows part t at (glyph 257 1)
+pub coded-glyph : (part : Bool) (t : List ℕ) (at : ℕ) → GlyphAt part t at (glyph 257 1)
 coded-glyph part t at = record { most = omega arith; over = λ e. absurd (omega arith); byte = λ h. absurd (omega arith); within = λ h. absurd (omega arith) }
 
 -- a glyph that is a byte
 shows : (part : Bool) (t : List ℕ) (at value len : ℕ) → value < 256 → at + len ≤ length t → leftAt part t at ≡ value ∷ leftAt part t (at + len)
-    → Shows part t at (glyph value len)
+    → GlyphAt part t at (glyph value len)
 shows part t at value len small within e =
     record { most = omega arith; over = λ z. absurd (omega arith); byte = λ h. e; within = λ h. within }
 
@@ -82,10 +82,10 @@ module _ (t : List ℕ) (at : ℕ) (most : byteAt t at ≤ 256) (s : byteAt t at
   within-by : byteAt t at < 256 → at + 1 ≤ length t
   within-by h = let k = inside t at h in omega arith
 
-  pub name-glyph : Shows false t at (glyph (byteAt t at) 1)
+  pub name-glyph : GlyphAt false t at (glyph (byteAt t at) 1)
   name-glyph = record { most = omega arith; over = rest-over t at; byte = on; within = within-by }
 
-  pub part-glyph : (byteAt t at ≡ 47 → ⊥) → (byteAt t at ≡ 126 → ⊥) → Shows true t at (glyph (byteAt t at) 1)
+  pub part-glyph : (byteAt t at ≡ 47 → ⊥) → (byteAt t at ≡ 126 → ⊥) → GlyphAt true t at (glyph (byteAt t at) 1)
   part-glyph slash tilde =
       record {
         most = omega arith;
@@ -94,7 +94,7 @@ module _ (t : List ℕ) (at : ℕ) (most : byteAt t at ≤ 256) (s : byteAt t at
         within = within-by;
       }
 
-pub slash-glyph : (t : List ℕ) (at : ℕ) → byteAt t at ≡ 47 → Shows true t at (glyph 256 1)
+pub slash-glyph : (t : List ℕ) (at : ℕ) → byteAt t at ≡ 47 → GlyphAt true t at (glyph 256 1)
 slash-glyph t at e =
     record {
       most = omega arith;
@@ -118,20 +118,20 @@ module _ (t : List ℕ) (at : ℕ) (tilde : byteAt t at ≡ 126) where
       let two : at + 1 + 1 ≡ at + 2 = omega arith in
       rest-byte t (at + 1) (λ z. omega arith) (λ z. omega arith) ∙ rw (e, two)
 
-  pub tilde-one : byteAt t (at + 1) ≡ 49 → Shows true t at (glyph 47 2)
+  pub tilde-one : byteAt t (at + 1) ≡ 49 → GlyphAt true t at (glyph 47 2)
   unfolding tildeLeft
   tilde-one e =
       let k = inside t (at + 1) (omega arith) in
       shows true t at 47 2 (omega arith) (omega arith) (after ∙ rw (next 49 (omega arith) e))
 
-  pub tilde-zero : byteAt t (at + 1) ≡ 48 → Shows true t at (glyph 126 2)
+  pub tilde-zero : byteAt t (at + 1) ≡ 48 → GlyphAt true t at (glyph 126 2)
   unfolding tildeLeft
   tilde-zero e =
       let k = inside t (at + 1) (omega arith) in
       shows true t at 126 2 (omega arith) (omega arith) (after ∙ rw (next 48 (omega arith) e))
 
   pub tilde-alone : byteAt t (at + 1) ≤ 256 → (byteAt t (at + 1) ≡ 49 → ⊥) → (byteAt t (at + 1) ≡ 48 → ⊥) → (byteAt t (at + 1) ≡ 92 → ⊥)
-      → Shows true t at (glyph 126 1)
+      → GlyphAt true t at (glyph 126 1)
   unfolding tildeLeft
   tilde-alone most one zero s =
       let k = tilde-inside in
@@ -142,7 +142,7 @@ module _ (t : List ℕ) (at : ℕ) (tilde : byteAt t at ≡ 126) where
 
 -- ---- two glyphs ----
 
-module _ (key name : List ℕ) (part : Bool) (i j : ℕ) (p q : Glyph) (P : Shows true key i p) (Q : Shows part name j q) where
+module _ (key name : List ℕ) (part : Bool) (i j : ℕ) (p q : Glyph) (P : GlyphAt true key i p) (Q : GlyphAt part name j q) where
   pub shown-order : (p .value ≡ 257 → ⊥) → (q .value ≡ 257 → ⊥) → (p .value ≡ q .value → ⊥)
       → orderAt (p .value) (q .value) ≡ orderOf (leftAt true key i) (leftAt part name j)
   shown-order x y ne =

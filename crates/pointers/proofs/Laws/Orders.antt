@@ -7,7 +7,6 @@
 use mathlib.Core.Path.{_≡_, refl, ap, sym, _∙_}
 use mathlib.Core.Logic.{_⊎_, inl, inr, _≢_}
 use mathlib.Core.Bool.{true, false}
-use mathlib.Core.List.{List}
 use Prim.Native.Nat.{ℕ}
 use native.Mathlib.Omega.{arith}
 use Rattle.laws.specs.Order.{orderOf, isSame}
@@ -16,7 +15,7 @@ use Rattle.laws.proofs.Sorting.{Total, total-by}
 use Rattle.laws.specs.declared.Order.{Order}
 use Rattle.laws.specs.declared.Order.the-variants.{Less, Same, More}
 use Rattle.text.specs.Doc.{Name}
-use Rattle.contact.specs.Pointer.{Pointer, last, down, firstPart, pointerOf, clash}
+use Rattle.contact.specs.Pointer.{Pointer, last, down, firstPart, clash}
 use Rattle.pointers.specs.Pointers.{orThen, pointerOrder}
 
 -- ---- one order and then another

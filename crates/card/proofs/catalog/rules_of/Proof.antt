@@ -1,24 +1,17 @@
 -- `card::catalog::rules_of` meets its contract: its rules stand together. Assumes nothing.
-use Prim.Native.Nat.{_+_, _<_}
-use mathlib.Core.Path.{_≡_, refl}
+use mathlib.Core.Path.{refl}
 use native.Mathlib.Omega.{arith}
-use Rattle.card.specs.Catalog.{namePlace, ruleStarts, typeCount, allRules, noRule}
-use Rattle.card.proofs.Known.Stretches.{place-within, own-stretch}
+use denote.Ref.{now}
+use Rattle.card.specs.Catalog.{ruleStarts, allRules, noRule}
+use Rattle.card.proofs.Known.OwnParts.{span-part}
 use Rattle.card.proofs.catalog.rules_of.Statement.{statement}
 use Rattle.card.proofs.catalog.rules_of.Tie as tie
-
-span-at-requires : tie.Need-span-at-requires
-span-at-requires c κs = omega (arith, c .before .pre .long)
 
 returns : tie.Need-returns
 unfolding allRules
 returns c =
     let a = c .before .before .args in
-    let n = c .before .before .pre in
-    let p : namePlace (c .before .before .args .o) < typeCount + 2 = omega (arith, place-within (a .o)) in
-    let q : namePlace (c .before .before .args .o) + 1 < typeCount + 2 = omega (arith, place-within (a .o)) in
-    let e : ruleStarts + namePlace (c .before .before .args .o) + 1 ≡ ruleStarts + (namePlace (c .before .before .args .o) + 1) = omega arith in
-    rw (c .span-at .ensures, e) (own-stretch (λ r. r .rules) refl noRule (a .o) (n .rule-start (namePlace (a .o)) p) (n .rule-start (namePlace (a .o) + 1) q))
+    rw (c .span-at .ensures) (span-part (λ r. r .rules) refl noRule (now (a .numbers)) ruleStarts (c .before .before .pre .rule-start) (a .o))
 
 pub rules-of-spec : {M : Type 1} → statement M
-rules-of-spec = tie.close (tie.spec span-at-requires returns)
+rules-of-spec = tie.close (tie.spec (λ c κs. omega (arith, c .before .pre .long)) returns)

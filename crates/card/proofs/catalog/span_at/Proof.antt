@@ -3,7 +3,7 @@ use Prim.Native.Nat.{_+_, _≤_}
 use native.Mathlib.Omega.{arith}
 use borrow.Author.Needs.{needs}
 use Rattle.card.specs.Catalog.{typeCount}
-use Rattle.card.proofs.Known.Stretches.{place-within}
+use Rattle.card.proofs.Known.OwnParts.{place-within}
 use Rattle.card.proofs.catalog.span_at.Statement.{statement}
 use Rattle.card.proofs.catalog.span_at.Tie as tie
 

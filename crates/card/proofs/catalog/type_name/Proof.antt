@@ -7,7 +7,7 @@ use denote.Ref.{now}
 use lib.ListN.{length}
 use Rattle.contact.specs.Schema.{types}
 use Rattle.card.specs.Catalog.{typeCount, typeWordsFrom, nameWidth}
-use Rattle.card.proofs.Known.Stretches.{place-within}
+use Rattle.card.proofs.Known.OwnParts.{place-within}
 use Rattle.card.proofs.Known.Columns.{words-length, type-named, type-within}
 use Rattle.card.proofs.catalog.type_name.Statement.{statement}
 use Rattle.card.proofs.catalog.type_name.Tie as tie

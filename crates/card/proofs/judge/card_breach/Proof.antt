@@ -11,7 +11,7 @@ use Rattle.text.specs.Doc.{docOf}
 use Rattle.text.proofs.Promise.{first-row}
 use Rattle.contact.specs.Schema.{card, objectOf, types, recordOf}
 use Rattle.card.specs.Types.{typeAt, itemAt}
-use Rattle.card.specs.Catalog.{joined, startOf, lines, allRules, tableWords}
+use Rattle.card.specs.Catalog.{gathered, startOf, lines, allRules, tableWords}
 use Rattle.card.proofs.Known.Lent.{numbers-told}
 use Rattle.card.proofs.Judging.Walk.{row-unfit, breach-row}
 use Rattle.card.proofs.judge.card_breach.Statement.{statement}
@@ -26,7 +26,7 @@ returns c =
     (row-unfit text f (v .some) (objectOf card) true (rw kind at (ne-eqb (c .before .kind .result) 7 (c .if1 .taken))))
 
 breach-at-requires : tie.Need-breach-at-requires
-unfolding tableWords lines allRules joined startOf types recordOf typeAt itemAt orderOf
+unfolding tableWords lines allRules gathered startOf types recordOf typeAt itemAt orderOf
 breach-at-requires c κs = (record { words-are = refl; numbers-are = numbers-told _ refl refl refl refl refl refl refl refl refl refl refl }, c .before .before .before .before .before .before .before .pre)
 
 returns-2 : tie.Need-returns-2

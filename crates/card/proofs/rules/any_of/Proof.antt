@@ -7,7 +7,7 @@ use Prim.Native.Nat.{_-_}
 use lib.ListN.{drop}
 use Rattle.text.specs.Tree.{Forest}
 use Rattle.text.specs.Doc.{membersOf}
-use Rattle.card.specs.Catalog.{MembersAt, ruleAt, ruleWords}
+use Rattle.card.specs.Catalog.{MembersAt, ruleAt, ruleWords, each}
 use Rattle.card.specs.RuleTable.{anyCounted}
 use Rattle.card.proofs.Known.Columns.{rule-few}
 use Rattle.card.proofs.Judging.Rules.{any-hit, any-on, any-end}
@@ -20,7 +20,7 @@ Inv-loop words numbers text table object i from j₀ j =
     → anyCounted (object .of) (membersOf text f) (drop j (ruleWords (ruleAt i))) ≡ anyCounted (object .of) (membersOf text f) (drop from (ruleWords (ruleAt i)))
 
 abbrev μ-loop : tie.MeasureT-loop
-μ-loop words numbers text table object i from j₀ j = 6 - j
+μ-loop words numbers text table object i from j₀ j = each - j
 
 loop-holds : tie.Need-loop-holds Inv-loop μ-loop
 loop-holds c = λ f s. refl

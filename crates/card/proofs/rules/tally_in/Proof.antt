@@ -6,7 +6,7 @@ use Rattle.text.specs.Doc.{Doc, membersOf}
 use mathlib.Core.Option.{Option}
 use Rattle.text.specs.Firsts.{insideAt}
 use Rattle.contact.specs.Rules.{present, marks}
-use Rattle.card.specs.Marks.{fresh, tally}
+use Rattle.card.specs.Marks.{noMarks, tally}
 use Rattle.card.proofs.Judging.Values.{value-members, value-below, by-found, by-nothing, found-here, itself}
 use Rattle.card.proofs.rules.tally_in.Statement.{statement}
 use Rattle.card.proofs.rules.tally_in.Tie as tie
@@ -21,7 +21,7 @@ returns c =
     let a = c .before .before .before .before .before .before .before .before .before .args in
     let text = now (a .text) in
     by-nothing itself text (now (a .table)) (present (a .object .of) (now (a .name)) (membersOf text f)) (c .before .before .before .present .ensures f s)
-    (λ (x : Option Doc). c .no-marks .result ≡ tally fresh (marks x)) (c .before .enum-told .given .1) (c .no-marks .ensures)
+    (λ (x : Option Doc). c .no-marks .result ≡ tally noMarks (marks x)) (c .before .enum-told .given .1) (c .no-marks .ensures)
 
 next-row-requires : tie.Need-next-row-requires
 next-row-requires c κs =
@@ -45,7 +45,7 @@ returns-2 c =
     let a = c .before .before .before .before .before .before .before .before .before .before .before .args in
     let text = now (a .text) in
     by-found itself text (now (a .table)) (present (a .object .of) (now (a .name)) (membersOf text f)) (c .before .before .before .before .before .present .ensures f s)
-    (λ (x : Option Doc). c .tally-of .result ≡ tally fresh (marks x)) (c .before .before .before .k .given .1)
+    (λ (x : Option Doc). c .tally-of .result ≡ tally noMarks (marks x)) (c .before .before .before .k .given .1)
     (λ d g v e. rw (e, value-below text g) (c .tally-of .ensures (insideAt g) (rw (c .before .next-row .ensures) (value-members text g v))))
 
 pub tally-in-spec : {M : Type 1} → statement M

@@ -4,7 +4,7 @@ use Prim.Native.Nat.{_-_}
 use native.Mathlib.Omega.{arith}
 use borrow.Author.Needs.{needs}
 use denote.Ref.{now}
-use Rattle.card.specs.Marks.{fresh}
+use Rattle.card.specs.Marks.{noMarks}
 use Rattle.card.specs.declared.rules.Marks.{Marks}
 use Rattle.card.proofs.Judging.Along.{Along, along, along-here, along-on, along-end}
 use Rattle.card.proofs.Judging.Separators.{tallyIn, tally-on, tally-end}
@@ -12,7 +12,7 @@ use Rattle.card.proofs.rules.tally_of.Statement.{statement}
 use Rattle.card.proofs.rules.tally_of.Tie as tie
 
 abbrev Inv-loop : tie.InvT-loop
-Inv-loop text table from end m₀ at₀ m at = Along table from end (tallyIn text fresh) at (tallyIn text m)
+Inv-loop text table from end m₀ at₀ m at = Along table from end (tallyIn text noMarks) at (tallyIn text m)
 
 abbrev μ-loop : tie.MeasureT-loop
 μ-loop text table from end m₀ at₀ m at = end - at
@@ -25,7 +25,7 @@ is-separator-requires c κs =
     let a = c .before .before .before .before .before .args in
     let text = now (a .text) in
     let p = c .before .before .before .before .before .pre in
-    let (ws, v, le) = along-here (now (a .table)) (a .from) (a .end) (tallyIn text fresh) (c .before .loop .at) (tallyIn text (c .before .loop .m))
+    let (ws, v, le) = along-here (now (a .table)) (a .from) (a .end) (tallyIn text noMarks) (c .before .loop .at) (tallyIn text (c .before .loop .m))
     (c .before .loop .inv) (p .0) (p .1) (c .loop-test .taken) in
     (ws, v)
 
@@ -35,7 +35,7 @@ next-row-requires c κs =
     let text = now (a .text) in
     let p = c .before .before .before .before .before .before .before .pre in
     let loop = c .before .before .before .loop in
-    let (ws, v, le) = along-here (now (a .table)) (a .from) (a .end) (tallyIn text fresh) (loop .at) (tallyIn text (loop .m)) (loop .inv) (p .0)
+    let (ws, v, le) = along-here (now (a .table)) (a .from) (a .end) (tallyIn text noMarks) (loop .at) (tallyIn text (loop .m)) (loop .inv) (p .0)
     (p .1) (c .before .before .loop-test .taken) in
     (ws, v)
 
@@ -46,7 +46,7 @@ loop-less c =
     let p = c .before .before .before .before .before .before .before .before .pre in
     let loop = c .before .before .before .before .loop in
     let loop-test = c .before .before .before .loop-test in
-    let (ws, v, le) = along-here (now (a .table)) (a .from) (a .end) (tallyIn text fresh) (loop .at) (tallyIn text (loop .m)) (loop .inv) (p .0)
+    let (ws, v, le) = along-here (now (a .table)) (a .from) (a .end) (tallyIn text noMarks) (loop .at) (tallyIn text (loop .m)) (loop .inv) (p .0)
     (p .1) (loop-test .taken) in
     omega (arith, c .next-row .ensures, loop-test .taken)
 
@@ -57,7 +57,7 @@ loop-again c =
     let loop = c .before .before .before .before .loop in
     let loop-test = c .before .before .before .loop-test in
     let is-separator = c .before .before .is-separator in
-    along-on (now (a .table)) (a .from) (a .end) (tallyIn text fresh) (loop .at) (tallyIn text (loop .m)) (loop .inv) (loop-test .taken)
+    along-on (now (a .table)) (a .from) (a .end) (tallyIn text noMarks) (loop .at) (tallyIn text (loop .m)) (loop .inv) (loop-test .taken)
     (tallyIn text (c .before .marked .result)) (λ ws v. tally-on text (loop .m) (c .before .marked .result) (is-separator .result)
     (c .before .marked .ensures) ws v (is-separator .ensures ws v)) (c .next-row .result) (c .next-row .ensures)
 
@@ -65,7 +65,7 @@ returns : tie.Need-returns Inv-loop μ-loop
 returns c =
     let a = c .before .before .before .before .before .args in
     let text = now (a .text) in
-    along-end (now (a .table)) (a .from) (a .end) (tallyIn text fresh) (c .before .loop .at) (tallyIn text (c .before .loop .m))
+    along-end (now (a .table)) (a .from) (a .end) (tallyIn text noMarks) (c .before .loop .at) (tallyIn text (c .before .loop .m))
     (c .before .loop .inv) (c .loop-test .left) (λ (r : Marks). c .before .loop .m ≡ r) (sym (tally-end text (c .before .loop .m)))
 
 pub tally-of-spec : {M : Type 1} → statement M

@@ -2,7 +2,7 @@
 use mathlib.Core.Path.{_∙_}
 use borrow.Author.Needs.{needs}
 use denote.Ref.{now}
-use Rattle.card.specs.Rows.{keyAt}
+use Rattle.card.specs.Rows.{rowKey}
 use Rattle.card.proofs.Judging.Roles.{item-keys}
 use Rattle.card.proofs.types.key_fits.Statement.{statement}
 use Rattle.card.proofs.types.key_fits.Tie as tie
@@ -11,7 +11,7 @@ returns : tie.Need-returns
 returns c =
     λ f s.
     let a = c .before .before .before .before .before .args in
-    rw (← c .before .before .type-of .ensures, c .enum-told .given .1) (item-keys (c .enum-told .given .0 .0) (keyAt (now (a .text)) (now (a .table)) f (a .at)))
+    rw (← c .before .before .type-of .ensures, c .enum-told .given .1) (item-keys (c .enum-told .given .0 .0) (rowKey (now (a .text)) (now (a .table)) f (a .at)))
 
 returns-2 : tie.Need-returns-2
 returns-2 c = λ f s. rw (← c .before .before .type-of .ensures, c .enum-told2 .given .1)

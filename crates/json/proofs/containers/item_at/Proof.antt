@@ -9,9 +9,9 @@ use borrow.Author.Needs.{needs}
 use Rattle.text.specs.Reader.{valueAt}
 use Rattle.text.specs.declared.Refusal.{Refusal}
 use Rattle.json.specs.Readers.{upTo, KeyRead, ItemRead}
-use Rattle.json.specs.declared.members.Key.the-variants.{Value, Broken}
+use Rattle.json.specs.declared.members.MemberName.the-variants.{Value, Broken}
 use Rattle.json.specs.declared.containers.Container.the-variants.{Array, Object}
-use Rattle.json.specs.declared.containers.Item.the-variants.{At, Wrong}
+use Rattle.json.specs.declared.containers.ItemStart.the-variants.{At, Wrong}
 use Rattle.json.proofs.containers.item_at.Statement.{statement}
 use Rattle.json.proofs.containers.item_at.Tie as tie
 

@@ -14,14 +14,14 @@ use Rattle.text.specs.Reader.{named}
 use Rattle.text.specs.declared.Token.the-variants.{End}
 use Rattle.text.proofs.Laws.{EndInside, end-inside}
 use Rattle.json.specs.Readers.{upTo, Colon, KeyRead}
-use Rattle.json.specs.declared.members.Key.{Key}
-use Rattle.json.specs.declared.members.Key.the-variants.{Value, Broken}
+use Rattle.json.specs.declared.members.MemberName.{MemberName}
+use Rattle.json.specs.declared.members.MemberName.the-variants.{Value, Broken}
 use Rattle.json.proofs.Ways.{member-none, member-no2, member-no3, member-known, member-new}
 use Rattle.json.proofs.members.read_key.Statement.{statement}
 use Rattle.json.proofs.members.read_key.Tie as tie
 
 -- a name that is new, and what follows it
-new : (t table : List ℕ) (first last at to : ℕ) (r : Key) → byteAt t at ≡ 34 → stringEnd t (at + 1) ≡ End to → EndInside t (at + 1) to
+new : (t table : List ℕ) (first last at to : ℕ) (r : MemberName) → byteAt t at ≡ 34 → stringEnd t (at + 1) ≡ End to → EndInside t (at + 1) to
     → ((done : Forest) → StandsTo table first last done → false ≡ named t (nameOf t (at + 1) (to - 1)) done) → Colon t to r → KeyRead t table first last
     at r
 new t table first last at to (Value ne from) h e l k p =

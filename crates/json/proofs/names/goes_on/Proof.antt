@@ -28,7 +28,7 @@ abbrev μ-loop : tie.MeasureT-loop
 
 loop-holds : tie.Need-loop-holds Inv-loop μ-loop
 unfolding conts
-loop-holds c = (refl, search needs)
+loop-holds c = (rw (c .cursor-at .ensures) refl, search needs)
 
 -- where the name is over, the literal has to be
 over : (l : List ℕ) (i : ℕ) → getD l i 0 < 256 → eqb (getD l i 256) 256 ≡ same [] (drop i l)
@@ -43,7 +43,7 @@ over l i small = elim (decLe (length l) i) [
 
 returns : tie.Need-returns Inv-loop μ-loop
 returns c =
-    let l = now (c .before .before .before .before .before .before .before .args .lit) in
+    let l = now (c .before .before .before .before .before .before .before .before .args .lit) in
     let i = c .before .before .before .before .loop .i in
     rw (
       ← c .before .before .before .before .loop .inv .0,
@@ -51,11 +51,11 @@ returns c =
       c .enum-told .given .1,
       c .before .before .before .peek .ensures .0,
     )
-    (over l i (omega (arith, c .before .before .before .before .before .shared-slice-known2 .given i)))
+    (over l i (omega (arith, c .before .before .before .before .before .before .shared-slice-known2 .given i)))
 
 returns-2 : tie.Need-returns-2 Inv-loop μ-loop
 returns-2 c =
-    let l = now (c .before .before .before .before .before .before .before .before .before .args .lit) in
+    let l = now (c .before .before .before .before .before .before .before .before .before .before .args .lit) in
     let i = c .before .before .before .before .before .before .loop .i in
     let ne : (c .before .before .p .given .0 .0 ≡ getD l i 256 → ⊥) = omega arith in
     rw (
@@ -67,20 +67,20 @@ returns-2 c =
 
 add-i : tie.Need-add-i Inv-loop μ-loop
 add-i c =
-    let l = now (c .before .before .before .before .before .before .before .before .before .args .lit) in
+    let l = now (c .before .before .before .before .before .before .before .before .before .before .args .lit) in
     let i = c .before .before .before .before .before .before .loop .i in
     let h : i < length l = inside l i (omega arith) in
     omega arith
 
 loop-less : tie.Need-loop-less Inv-loop μ-loop
 loop-less c =
-    let a = now (c .before .before .before .before .before .before .before .before .before .args .a) in
+    let a = now (c .before .before .before .before .before .before .before .before .before .before .args .a) in
     let x = c .before .before .before .before .before .before .loop .x in
     omega (arith, ap length (handed a x (c .before .before .before .before .next-byte .ensures .0) (c .before .before .p .given .1)))
 
 loop-again : tie.Need-loop-again Inv-loop μ-loop
 loop-again c =
-    let l = now (c .before .before .before .before .before .before .before .before .before .args .lit) in
+    let l = now (c .before .before .before .before .before .before .before .before .before .before .args .lit) in
     let i = c .before .before .before .before .before .before .loop .i in
     let e : c .before .before .p .given .0 .0 ≡ getD l i 256 = omega arith in
     let h : i < length l = inside l i (omega arith) in (
@@ -97,5 +97,5 @@ loop-again c =
 pub goes-on-spec : {M : Type 1} → statement M
 goes-on-spec =
     tie.close
-    (tie.spec Inv-loop μ-loop loop-holds (λ c κs. search needs) (λ c κs. search needs) (λ c. search needs) returns (λ c. search needs)
+    (tie.spec Inv-loop μ-loop (λ c κs. search needs) loop-holds (λ c κs. search needs) (λ c κs. search needs) (λ c. search needs) returns (λ c. search needs)
     (λ c. search needs) returns-2 add-i loop-less loop-again)

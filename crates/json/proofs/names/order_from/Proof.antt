@@ -23,7 +23,7 @@ abbrev μ-loop : tie.MeasureT-loop
 
 loop-holds : tie.Need-loop-holds Inv-loop μ-loop
 unfolding conts
-loop-holds c = refl
+loop-holds c = rw (c .cursor-at .ensures) refl
 
 returns : tie.Need-returns Inv-loop μ-loop
 unfolding orderOf
@@ -84,7 +84,7 @@ returns-5 c =
 
 loop-less : tie.Need-loop-less Inv-loop μ-loop
 loop-less c =
-    let a = now (c .before .before .before .before .before .before .before .before .before .before .before .before .before .args .a) in
+    let a = now (c .before .before .before .before .before .before .before .before .before .before .before .before .before .before .args .a) in
     let x = c .before .before .before .before .before .before .before .before .before .before .loop .x in
     omega (arith, ap length (handed a x (c .before .before .before .before .before .before .before .before .before .next-byte .ensures .0) (c .before .before .before .before .before .before .before .p .given .1)))
 
@@ -103,6 +103,6 @@ loop-again c =
 pub order-from-spec : {M : Type 1} → statement M
 order-from-spec =
     tie.close
-    (tie.spec Inv-loop μ-loop loop-holds (λ c κs. search needs) (λ c. search needs) (λ c κs. search needs) (λ c. search needs) (λ c. search needs)
+    (tie.spec Inv-loop μ-loop (λ c κs. search needs) loop-holds (λ c κs. search needs) (λ c. search needs) (λ c κs. search needs) (λ c. search needs) (λ c. search needs)
     returns returns-2 (λ c. search needs) (λ c κs. search needs) (λ c. search needs) returns-3 (λ c. search needs) returns-4 returns-5 loop-less
     loop-again)

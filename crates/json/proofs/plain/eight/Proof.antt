@@ -3,12 +3,12 @@ use mathlib.Core.Path.{_≡_}
 use Prim.Native.Nat.{_+_}
 use native.Mathlib.Omega.{arith}
 use borrow.Author.Needs.{needs}
-use Rattle.json.specs.Plain.{numberAt}
+use Rattle.json.specs.Plain.{packedAt}
 use Rattle.json.proofs.plain.eight.Statement.{statement}
 use Rattle.json.proofs.plain.eight.Tie as tie
 
 returns : tie.Need-returns
-unfolding numberAt
+unfolding packedAt
 returns c =
     let at = c .before .before .before .before .before .before .before .before .before .before .before .before .before .before .before .before .before .args .at in
     let two : at + 1 + 1 ≡ at + 2 = omega arith in

@@ -7,7 +7,7 @@ use lib.ListN.{length}
 use borrow.Author.Needs.{needs}
 use Rattle.text.specs.Strings.{stringEnd}
 use Rattle.json.specs.Plain.{Stretched}
-use Rattle.json.specs.declared.strings.Stretch.the-variants.{On}
+use Rattle.json.specs.declared.strings.Stepped.the-variants.{On}
 use Rattle.json.proofs.strings.string_end.Statement.{statement}
 use Rattle.json.proofs.strings.string_end.Tie as tie
 

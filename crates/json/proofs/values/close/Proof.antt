@@ -3,7 +3,7 @@ use mathlib.Core.Path.{refl}
 use native.Mathlib.Omega.{arith}
 use borrow.Author.Needs.{needs}
 use Rattle.json.specs.Readers.{Closable}
-use Rattle.json.specs.declared.values.Outcome.the-variants.{Next}
+use Rattle.json.specs.declared.values.Progress.the-variants.{Next}
 use Rattle.json.proofs.values.close.Statement.{statement}
 use Rattle.json.proofs.values.close.Tie as tie
 

@@ -12,7 +12,7 @@ use Rattle.text.specs.Tree.{Forest}
 use Rattle.text.specs.Firsts.{insideAt}
 use Rattle.json.specs.Rows.{belowIn}
 use Rattle.json.specs.Lookup.{lastRow, KnownAt}
-use Rattle.patch.specs.Copied.{openOf}
+use Rattle.patch.specs.Copied.{openByte}
 use Rattle.patch.proofs.Putting.Bytes.{left-all, wrote-then}
 use Rattle.json.proofs.Seeking.{row-after, row-inside}
 use Rattle.patch.proofs.Putting.Walks.{value-row, Passing, Walk, walk-start}
@@ -225,7 +225,7 @@ module _ (t : ℕ) where
       let opened = rw (open-of .ensures) at (put-byte .ensures) in
       let closed = rw (close-of .ensures) at (c .before .before .put-byte2 .ensures) in
       rw (copied-inside text g (v .some) (v .kinds) k (kind .ensures ∙ value-row v .kind) (if1 .left))
-      (wrote-then (openOf k ∷ []) (insideOf text k (insideAt g) true) opened (copy-end text k (loop .inv .1 g v) (loop-test .left) closed))
+      (wrote-then (openByte k ∷ []) (insideOf text k (insideAt g) true) opened (copy-end text k (loop .inv .1 g v) (loop-test .left) closed))
 
 pub +copy-value-spec : {M : Type 1} → statement M
 +copy-value-spec =

@@ -9,24 +9,24 @@ use Rattle.text.specs.Strings.{decode}
 use Rattle.text.specs.Utf8.{conts}
 use Prim.Native.Nat.{_≤_, _-_}
 use Rattle.contact.specs.Pointer.{pointerOf}
-use Rattle.pointers.specs.Parts.{Passes}
+use Rattle.pointers.specs.Parts.{Skips}
 use Rattle.pointers.specs.Pointers.{strip}
 use Rattle.pointers.proofs.Laws.Pointers.{strip-on, strip-keeps}
-use Rattle.pointers.proofs.Laws.Outcomes.{passes-all, passes-none, passes-stays, passes-onto}
+use Rattle.pointers.proofs.Laws.Outcomes.{skips-all, skips-none, skips-stays, skips-onto}
 use Rattle.pointers.proofs.keys.part_at.Statement.{statement}
 use Rattle.pointers.proofs.keys.part_at.Tie as tie
 
 abbrev Inv-loop : tie.InvT-loop
 Inv-loop key parts c₀ counter₀ c counter =
     (pointerOf (rest key c) ≡ strip counter (pointerOf (decode key))) × (counter ≤ parts)
-    × ((d : Cursor) → Passes key (parts - counter) c d → Passes key parts (cursor 0 0 0) d)
+    × ((d : Cursor) → Skips key (parts - counter) c d → Skips key parts (cursor 0 0 0) d)
 
 abbrev μ-loop : tie.MeasureT-loop
 μ-loop key parts c₀ counter₀ c counter = parts - counter
 
 loop-holds : tie.Need-loop-holds Inv-loop μ-loop
 unfolding conts strip
-loop-holds c = (rw (c .start .ensures) refl, omega arith, rw (c .start .ensures) (λ d x. passes-all x))
+loop-holds c = (rw (c .start .ensures) refl, omega arith, rw (c .start .ensures) (λ d x. skips-all x))
 
 returns : tie.Need-returns Inv-loop μ-loop
 returns c =
@@ -35,7 +35,7 @@ returns c =
     let next-part = c .before .before .next-part in (
       loop .inv .0 ∙ strip-keeps (loop .counter) (a .parts) (pointerOf (decode (now (a .key))))
           (sym (loop .inv .0) ∙ (rw (c .enum-told .given .1) at (next-part .ensures .0))) (omega arith),
-      loop .inv .2 (loop .c) (passes-stays (a .parts) (loop .counter) (omega arith) (rw (c .enum-told .given .1) at (next-part .ensures .1))),
+      loop .inv .2 (loop .c) (skips-stays (a .parts) (loop .counter) (omega arith) (rw (c .enum-told .given .1) at (next-part .ensures .1))),
     )
 
 loop-again : tie.Need-loop-again Inv-loop μ-loop
@@ -45,7 +45,7 @@ loop-again c =
     let next-part = c .before .before .before .next-part in (
       sym (strip-on (loop .counter) (pointerOf (decode (now (a .key)))) (sym (loop .inv .0) ∙ (rw (c .before .on .given .1) at (next-part .ensures .0)))),
       omega arith,
-      λ d x. loop .inv .2 d (passes-onto (a .parts) (loop .counter) (omega arith) (rw (c .before .on .given .1) at (next-part .ensures .1)) x),
+      λ d x. loop .inv .2 d (skips-onto (a .parts) (loop .counter) (omega arith) (rw (c .before .on .given .1) at (next-part .ensures .1)) x),
     )
 
 returns-2 : tie.Need-returns-2 Inv-loop μ-loop
@@ -54,7 +54,7 @@ returns-2 c =
     let loop = c .before .loop in
     let all : loop .counter ≡ a .parts = omega arith in (
       loop .inv .0 ∙ ap (λ n. strip n (pointerOf (decode (now (a .key))))) all,
-      loop .inv .2 (loop .c) (passes-none (a .parts) (loop .counter) (omega arith)),
+      loop .inv .2 (loop .c) (skips-none (a .parts) (loop .counter) (omega arith)),
     )
 
 pub part-at-spec : {M : Type 1} → statement M

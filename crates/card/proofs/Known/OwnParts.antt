@@ -10,7 +10,7 @@ use lib.Dec.{ltb}
 use borrow.Author.Tests.{ltb-true, ltb-false}
 use Rattle.laws.proofs.Bools.{byTest}
 use Rattle.contact.specs.Schema.{ObjectType, TypeRecord, types, noType, recordOf}
-use Rattle.card.specs.Catalog.{joined, startOf, Stretch, typeCount, namePlace}
+use Rattle.card.specs.Catalog.{gathered, startOf, OwnPart, typeCount, namePlace}
 
 -- ---- places of types
 
@@ -44,26 +44,26 @@ module _ {A : Type 0} (part : TypeRecord → List A) (bare : part noType ≡ [])
   start-next (r ∷ rs) zero = rw (start-zero rs) (omega arith)
   start-next (r ∷ rs) (suc o) = omega (arith, start-next rs o)
 
-  start-within : (rs : List TypeRecord) (o : ObjectType) → startOf part rs o ≤ length (joined part rs)
-  unfolding startOf joined
+  start-within : (rs : List TypeRecord) (o : ObjectType) → startOf part rs o ≤ length (gathered part rs)
+  unfolding startOf gathered
   start-within [] o = omega arith
   start-within (r ∷ rs) zero = omega arith
-  start-within (r ∷ rs) (suc o) = omega (arith, start-within rs o, length-append (part r) (joined part rs))
+  start-within (r ∷ rs) (suc o) = omega (arith, start-within rs o, length-append (part r) (gathered part rs))
 
   at-start : (rs : List TypeRecord) (o : ObjectType) (j : ℕ) → j < length (part (getD rs o noType))
-      → getD (joined part rs) (startOf part rs o + j) d ≡ getD (part (getD rs o noType)) j d
-  unfolding startOf joined
+      → getD (gathered part rs) (startOf part rs o + j) d ≡ getD (part (getD rs o noType)) j d
+  unfolding startOf gathered
   at-start [] o j h = let none : length (part noType) ≡ 0 = ap length bare in absurd (omega (arith, none))
   at-start (r ∷ rs) zero j h =
-      let z : 0 + j ≡ j = omega arith in rw z (List·getD-append (part r) (joined part rs) d j h)
+      let z : 0 + j ≡ j = omega arith in rw z (List·getD-append (part r) (gathered part rs) d j h)
   at-start (r ∷ rs) (suc o) j h =
       let q : length (part r) + startOf part rs o + j ≡ length (part r) + (startOf part rs o + j) = omega arith in
-      rw q (getD-append-add (part r) (joined part rs) (startOf part rs o + j) d ∙ at-start rs o j h)
+      rw q (getD-append-add (part r) (gathered part rs) (startOf part rs o + j) d ∙ at-start rs o j h)
 
   -- what a type has stands from its start up to the next
-  stretch : (o : ObjectType) → Stretch (joined part types) (part (recordOf o)) d (startOf part types o) (startOf part types (o + 1))
+  from-start : (o : ObjectType) → OwnPart (gathered part types) (part (recordOf o)) d (startOf part types o) (startOf part types (o + 1))
   unfolding recordOf
-  stretch o =
+  from-start o =
       record {
         size = rw add-one (start-next types o);
         within = start-within types (o + 1);
@@ -71,8 +71,16 @@ module _ {A : Type 0} (part : TypeRecord → List A) (bare : part noType ≡ [])
       }
 
   -- the same from the numbers that the starts are
-  pub own-stretch : (o : ObjectType) {first last : ℕ} → first ≡ startOf part types (namePlace o) → last ≡ startOf part types (namePlace o + 1)
-      → Stretch (joined part types) (part (recordOf o)) d first last
-  own-stretch o p q =
-      rw (p, q) (subst (λ (r : TypeRecord). Stretch (joined part types) (part r) d (startOf part types (namePlace o)) (startOf part types (namePlace o + 1)))
-      (place-record o) (stretch (namePlace o)))
+  own-part : (o : ObjectType) {first last : ℕ} → first ≡ startOf part types (namePlace o) → last ≡ startOf part types (namePlace o + 1)
+      → OwnPart (gathered part types) (part (recordOf o)) d first last
+  own-part o p q =
+      rw (p, q) (subst (λ (r : TypeRecord). OwnPart (gathered part types) (part r) d (startOf part types (namePlace o)) (startOf part types (namePlace o + 1)))
+      (place-record o) (from-start (namePlace o)))
+
+  -- and from the list of numbers that has the starts from a place on
+  pub span-part : (numbers : List ℕ) (starts : ℕ) → ((k : ℕ) → k < typeCount + 2 → getD numbers (starts + k) 0 ≡ startOf part types k) → (o : ObjectType)
+      → OwnPart (gathered part types) (part (recordOf o)) d (getD numbers (starts + namePlace o) 0) (getD numbers (starts + namePlace o + 1) 0)
+  span-part numbers starts start o =
+      let h = place-within o in
+      let e : starts + namePlace o + 1 ≡ starts + (namePlace o + 1) = omega arith in
+      rw e (own-part o (start (namePlace o) (omega arith)) (start (namePlace o + 1) (omega arith)))
