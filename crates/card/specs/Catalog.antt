@@ -178,3 +178,9 @@ pub record Numbers (numbers : List ℕ) : Type 0 where
 pub record Lent (words numbers : List ℕ) : Type 0 where
   pub words-are : words ≡ tableWords
   pub numbers-are : Numbers numbers
+
+-- what is asked where rule i is tried on an object: the catalog is lent, its members stand in the table, and there is such a rule
+pub record TriesRule (words numbers table : List ℕ) (object : Object) (i : ℕ) : Type 0 where
+  pub lent : Lent words numbers
+  pub members : (f : Forest) × MembersAt table object f
+  pub rule : i < ruleCount

@@ -4,7 +4,7 @@
 // after it and the places of the rules' words after it go up by one. A new rule is in the record of its type there, and at the same place its shape and its
 // words in NUMBERS; RULE_COUNT and the rules' starts after it go up by one. A word that no property has is a line in WORDS, behind the properties, and one
 // in specs/Catalog.antt; FURTHER goes up by one. A new object type is a number here, its name and how long that is, its start in both lists of starts and its
-// properties; TYPES goes up by one. COUNT, FURTHER, RULE_COUNT and TYPES stand in specs/Catalog.antt too. The proofs compute over the catalog.
+// properties; TYPES goes up by one. COUNT, FURTHER, RULE_COUNT, EACH and TYPES stand in specs/Catalog.antt too. The proofs compute over the catalog.
 use json::bytes::BACKSLASH;
 use json::bytes::peek;
 ghost use mathlib.Core.Path.{_≡_};

@@ -26,14 +26,13 @@ use json::rows::name_start;
 ghost use mathlib.Core.Path.{_≡_};
 ghost use mathlib.Core.Bool.{Bool};
 ghost use mathlib.Core.List.{List};
-ghost use Prim.Native.Nat.{_<_};
 ghost use lib.ListN.{drop};
 ghost use Rattle.text.specs.Tree.{Forest};
 ghost use Rattle.text.specs.Standing.{StandsTo};
 ghost use Rattle.text.specs.Doc.{docOf, membersOf};
 ghost use Rattle.contact.specs.Rules.{present as presentOf, isTrue, isThisString, isSeparator, marksOf, marks, badlySeparated, breaksOne, breaks as breaksOf};
 ghost use Rattle.card.specs.Rows.{ValueAt, ValueOf};
-ghost use Rattle.card.specs.Catalog.{MembersAt, ruleCount, ruleAt, ruleWords, Lent};
+ghost use Rattle.card.specs.Catalog.{MembersAt, ruleAt, ruleWords, Lent, TriesRule};
 ghost use Rattle.card.specs.Marks.{noMarks, markOn, tally};
 ghost use Rattle.card.specs.RuleTable.{isCounted, anyCounted, thenBroken, separatorsBroken, byShape};
 
@@ -138,9 +137,7 @@ fn any_of(
     i: usize,
     from: usize,
 ) -> bool
-    requires { ⌜ Lent (now words) (now numbers) ⌝ }
-    requires { ⌜ ((f : Forest) × MembersAt (now table) object f) ⌝ }
-    requires { ⌜ i < ruleCount ⌝ }
+    requires { ⌜ TriesRule (now words) (now numbers) (now table) object i ⌝ }
     ensures { λ r. ⌜ ((f : Forest) → MembersAt (now (table .entry)) object f → r ≡ anyCounted (object .of) (membersOf (now (text .entry)) f) (drop from (ruleWords (ruleAt i)))) ⌝ }
 {
     let mut j = from;
@@ -279,9 +276,7 @@ fn breaks_then(
     shape: u32,
     i: usize,
 ) -> bool
-    requires { ⌜ Lent (now words) (now numbers) ⌝ }
-    requires { ⌜ ((f : Forest) × MembersAt (now table) object f) ⌝ }
-    requires { ⌜ i < ruleCount ⌝ }
+    requires { ⌜ TriesRule (now words) (now numbers) (now table) object i ⌝ }
     ensures { λ r. ⌜ ((f : Forest) → MembersAt (now (table .entry)) object f → r ≡ thenBroken (object .of) (membersOf (now (text .entry)) f) shape (ruleWords (ruleAt i))) ⌝ }
 {
     match shape {
@@ -312,9 +307,7 @@ fn breaks_separators(
     object: Object,
     i: usize,
 ) -> bool
-    requires { ⌜ Lent (now words) (now numbers) ⌝ }
-    requires { ⌜ ((f : Forest) × MembersAt (now table) object f) ⌝ }
-    requires { ⌜ i < ruleCount ⌝ }
+    requires { ⌜ TriesRule (now words) (now numbers) (now table) object i ⌝ }
     ensures { λ r. ⌜ ((f : Forest) → MembersAt (now (table .entry)) object f → r ≡ separatorsBroken (object .of) (membersOf (now (text .entry)) f) (ruleWords (ruleAt i))) ⌝ }
 {
     let first = rule_word(words, numbers, i, 0);
@@ -339,9 +332,7 @@ fn breaks_shape(
     shape: u32,
     i: usize,
 ) -> bool
-    requires { ⌜ Lent (now words) (now numbers) ⌝ }
-    requires { ⌜ ((f : Forest) × MembersAt (now table) object f) ⌝ }
-    requires { ⌜ i < ruleCount ⌝ }
+    requires { ⌜ TriesRule (now words) (now numbers) (now table) object i ⌝ }
     ensures { λ r. ⌜ ((f : Forest) → MembersAt (now (table .entry)) object f → r ≡ byShape (object .of) (membersOf (now (text .entry)) f) shape (ruleWords (ruleAt i))) ⌝ }
 {
     if shape == ONE_OF {
@@ -366,9 +357,7 @@ fn breaks_rule(
     object: Object,
     i: usize,
 ) -> bool
-    requires { ⌜ Lent (now words) (now numbers) ⌝ }
-    requires { ⌜ i < ruleCount ⌝ }
-    requires { ⌜ ((f : Forest) × MembersAt (now table) object f) ⌝ }
+    requires { ⌜ TriesRule (now words) (now numbers) (now table) object i ⌝ }
     ensures { λ r. ⌜ ((f : Forest) → MembersAt (now (table .entry)) object f → r ≡ breaksOne (object .of) (membersOf (now (text .entry)) f) (ruleAt i)) ⌝ }
 {
     let at = RULES + i * RULE_WIDTH;

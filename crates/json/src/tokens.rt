@@ -85,8 +85,8 @@ fn digits_end(text: &[u8], from: usize) -> usize
     at
 }
 
-// The bytes of a word.
-fn word(text: &[u8], lit: &[u8], from: usize) -> Token
+// A literal: the bytes of its word.
+fn literal(text: &[u8], lit: &[u8], from: usize) -> Token
     ensures { λ r. ⌜ r ≡ tokens.wordAt (now (text .entry)) (now (lit .entry)) from ⌝ }
 {
     let mut at = from;
@@ -225,9 +225,9 @@ pub(crate) fn token_end(text: &[u8], kind: usize, at: usize) -> Token
     ensures { λ r. ⌜ r ≡ tokens.tokenAt (now (text .entry)) kind at ⌝ }
 {
     match kind {
-        NULL => word(text, b"null", at),
-        FALSE => word(text, b"false", at),
-        TRUE => word(text, b"true", at),
+        NULL => literal(text, b"null", at),
+        FALSE => literal(text, b"false", at),
+        TRUE => literal(text, b"true", at),
         NUMBER => number(text, at),
         _ => string_end(text, at + 1),
     }

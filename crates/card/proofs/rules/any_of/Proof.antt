@@ -26,10 +26,10 @@ loop-holds : tie.Need-loop-holds Inv-loop μ-loop
 loop-holds c = λ f s. refl
 
 rule-word-requires : tie.Need-rule-word-requires Inv-loop μ-loop
-rule-word-requires c κs = let p = c .before .before .before .before .before .before .pre in (p .0, (p .1 .1, c .loop-test .taken))
+rule-word-requires c κs = let p = c .before .before .before .before .before .before .pre in (p .lent, (p .rule, c .loop-test .taken))
 
 counts-requires : tie.Need-counts-requires Inv-loop μ-loop
-counts-requires c κs = let p = c .before .before .before .before .before .before .before .pre in (p .0, p .1 .0)
+counts-requires c κs = let p = c .before .before .before .before .before .before .before .pre in (p .lent, p .members)
 
 returns : tie.Need-returns Inv-loop μ-loop
 returns c =
@@ -53,7 +53,7 @@ returns-2 c =
     let a = c .before .before .before .before .before .before .args in
     let loop = c .before .loop in
     sym (sym (loop .inv f s) ∙ any-end (a .object .of) (membersOf (now (a .text)) f) (ruleWords (ruleAt (a .i))) (loop .j)
-    (omega (arith, rule-few (a .i) (c .before .before .before .before .before .before .pre .1 .1), c .loop-test .left)))
+    (omega (arith, rule-few (a .i) (c .before .before .before .before .before .before .pre .rule), c .loop-test .left)))
 
 pub any-of-spec : {M : Type 1} → statement M
 any-of-spec = tie.close (tie.spec Inv-loop μ-loop loop-holds rule-word-requires counts-requires returns (λ c. search needs) (λ c. search needs) loop-again returns-2)

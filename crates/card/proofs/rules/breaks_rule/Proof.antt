@@ -8,14 +8,14 @@ use Rattle.card.proofs.rules.breaks_rule.Statement.{statement}
 use Rattle.card.proofs.rules.breaks_rule.Tie as tie
 
 breaks-shape-requires : tie.Need-breaks-shape-requires
-breaks-shape-requires c κs = let p = c .before .before .before .before .before .pre in (p .0, (p .1 .1, p .1 .0))
+breaks-shape-requires c κs = c .before .before .before .before .before .pre
 
 returns : tie.Need-returns
 returns c =
     λ f s.
     let a = c .before .before .before .before .before .before .args in
     let p = c .before .before .before .before .before .before .pre in
-    c .breaks-shape .ensures f s ∙ rw (p .0 .numbers-are .shape (a .i) (p .1 .0)) (rule-told (a .object .of) (membersOf (now (a .text)) f) (a .i))
+    c .breaks-shape .ensures f s ∙ rw (p .lent .numbers-are .shape (a .i) (p .rule)) (rule-told (a .object .of) (membersOf (now (a .text)) f) (a .i))
 
 pub breaks-rule-spec : {M : Type 1} → statement M
 breaks-rule-spec = tie.close (tie.spec (λ c. search needs) (λ c. search needs) (λ c. search needs) (λ c. search needs) breaks-shape-requires returns)

@@ -7,15 +7,15 @@ use Rattle.json.proofs.tokens.token_end.Tie as tie
 
 returns : tie.Need-returns
 unfolding tokenAt
-returns c = rw (c .before .before .match .keys1) (c .word .ensures)
+returns c = rw (c .before .before .match .keys1) (c .literal .ensures)
 
 returns-2 : tie.Need-returns-2
 unfolding tokenAt
-returns-2 c = rw (c .before .before .match .keys2) (c .word2 .ensures)
+returns-2 c = rw (c .before .before .match .keys2) (c .literal2 .ensures)
 
 returns-3 : tie.Need-returns-3
 unfolding tokenAt
-returns-3 c = rw (c .before .before .match .keys3) (c .word3 .ensures)
+returns-3 c = rw (c .before .before .match .keys3) (c .literal3 .ensures)
 
 returns-4 : tie.Need-returns-4
 unfolding tokenAt

@@ -1,4 +1,4 @@
--- `json::tokens::word` meets its contract: the word's bytes from `i` on, from `at` on, are what all of them are from `from` on. Assumes nothing.
+-- `json::tokens::literal` meets its contract: the word's bytes from `i` on, from `at` on, are what all of them are from `from` on. Assumes nothing.
 use mathlib.Core.Path.{_≡_, refl}
 use Prim.Native.Nat.{_-_}
 use native.Mathlib.Omega.{arith}
@@ -7,8 +7,8 @@ use borrow.Author.Needs.{needs}
 use borrow.Author.Tests.{eq-eqb, ne-eqb}
 use Rattle.laws.proofs.Places.{inside, ended, drop-byte}
 use Rattle.text.specs.Tokens.{wordAt}
-use Rattle.json.proofs.tokens.word.Statement.{statement}
-use Rattle.json.proofs.tokens.word.Tie as tie
+use Rattle.json.proofs.tokens.literal.Statement.{statement}
+use Rattle.json.proofs.tokens.literal.Tie as tie
 
 abbrev Inv-loop : tie.InvT-loop
 Inv-loop text lit from at₀ i₀ at i = wordAt text (drop i lit) at ≡ wordAt text lit from
@@ -60,7 +60,7 @@ loop-again c =
     rw
     (← l .inv, drop-byte (a .lit .now) (l .i) i, ← c .before .before .before .peek .ensures .0, ← c .before .peek2 .ensures .0, eq-eqb _ _ (c .if2 .left))
 
-pub word-spec : {M : Type 1} → statement M
-word-spec =
+pub literal-spec : {M : Type 1} → statement M
+literal-spec =
     tie.close
     (tie.spec Inv-loop μ-loop loop-holds (λ c κs. search needs) returns (λ c κs. search needs) returns-2 add-at add-i loop-less loop-again)
