@@ -16,7 +16,7 @@ from store import ROOT, Case, answer_of, line_of
 from duds import DUDS, UNSEEN
 
 CALLED = {"read": "reading", "judge": "judging", "localize": "localizing"}
-CRATES = ("laws", "unicode", "json", "formats", "pointers", "patch", "card")
+CRATES = ("laws", "unicode", "json", "answers", "formats", "pointers", "patch", "card")
 WORDS = 600  # of a table: the interpreter takes so many steps and no more
 
 

@@ -21,7 +21,7 @@ DUDS = [
     ("bezinkol/localize_refuses_all contact/refuses_all", localize(patch(b""), b"{..}"), (21, 0)),
     ("contact/refuses_by_28", localize(patch(b'"z":1'), b'{..,"z":1}'), (28, 12)),
     ("patch/unpatched contact/unpatched contact/nothing_said", localize(patch(b'"z":2', b',"z":1'), b'{..,"z":2}'), b'{..,"z":1}'),
-    ("card/nothing_done", localize(patch(b'"z":null', b',"z":1'), b"{..}"), b""),
+    ("answers/nothing_done", localize(patch(b'"z":null', b',"z":1'), b"{..}"), b""),
     ("bezinkol/invented_length contact/length_plus_one bezinkol/words_swapped text/second_and_written_swapped",
      localize(patch(b'"zz":"y"'), b'{..,"zz":"y"}'), OTHER),
     # errors trainees hand in
@@ -32,11 +32,11 @@ DUDS = [
     ("patch/order_decides", localize(patch(b'"y/b":1,"no/a":1', b',"y":{}'), (26, 0)), OK),
     ("pointers/tilde_zero_is_slash contact/tilde_undone_twice", localize(patch(b'"~01":1'), b'{..,"~1":1}'), b'{..,"/":1}'),
     ("pointers/tilde_zero_is_slash", localize(patch(b'"~0a":2', b',"~a":1'), b'{..,"~a":2}'), (28, 4)),
-    ("card/never_judged contact/never_judged", localize(
+    ("answers/never_judged contact/never_judged", localize(
         patch(b'"name/full":null,"name/components":null', b"," + GIVEN), (28, 14)), b'{..,"name":{}}'),
     ("pointers/prefix_by_bytes contact/prefix_by_bytes", localize(
         patch(b'"emails/e1":null,"emails/e10":null', b',"emails":{"e1":{"address":"a"},"e10":{"address":"b"}}'), b'{..,"emails":{}}'), (24, 0)),
-    ("card/output_left_dirty laws/first_word_left", localize(patch(b'"uid":null'), (28, 12), room=100), OTHER),
+    ("answers/output_left_dirty laws/first_word_left", localize(patch(b'"uid":null'), (28, 12), room=100), OTHER),
     # reading
     ("text/refuses_all", read(b"1", OK), (2, 1)),
     ("unicode/lone_surrogate text/lone_low_taken", read(rb'"\uDC00"', (3, 1)), OK),
@@ -84,6 +84,7 @@ DUDS = [
     ("contact/all_own", localize(patch(b'"y/a":1', b',"y":{}'), b'{..,"y":{"a":1}}'), (23, 0)),
     ("contact/second_numbers", localize(b"{..}", (21, 0)), (21, 1)),
     ("contact/second_numbers", localize(patch(b'"kind":5'), (28, 11)), (28, 12)),
+    ("answers/inner_place", localize(patch(b'"kind":5'), (28, 11)), (28, 50)),
     ("contact/localizations_kept", localize(patch(b""), b"{..}"), patch(b"")),
     ("contact/start_moved", localize(
         b'{"uid":"u1","@type":"Card","z":1,"version":"1.0","localizations":{"de":{"z":null}}}', b'{"uid":"u1","@type":"Card","version":"1.0"}'),

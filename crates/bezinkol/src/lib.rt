@@ -1,10 +1,10 @@
 // The intake for those who link it from C: thin functions over the three services, whose answers go into three lent words.
+use answers::paper::localized_on_paper;
+use answers::paper::verdict_on_paper;
+use answers::sheet::on_paper;
 use card::judge::judge;
 use card::localize::localize;
-use card::paper::localized_on_paper;
-use card::paper::verdict_on_paper;
 use json::read::read;
-use json::sheet::on_paper;
 use text::Paper;
 ghost use mathlib.Core.Path.{_≡_};
 ghost use mathlib.Core.List.{[]};

@@ -1,6 +1,6 @@
 -- From what was written and judged to the outcome of localizing:
 --     card-there                     judging left the card's rows in the table
---     judged-passed, judged-failed   that text is judged: its rows, or 28
+--     judged-by                      that text is judged: its rows, or 28
 --     given-so, refused-so, written-so       what is answered before the output is cleared
 --     localizes                      and what clearing leaves
 -- Assumes nothing.
@@ -23,6 +23,7 @@ use Rattle.contact.specs.Verdict.{Judged, passed, failed, judgedOf, answerOfJud
 use Rattle.contact.specs.Localize.{Outcome, done, denied, byJudge, byRoom, localizedDoc, localizedOf, answerOfOutcome, tableOfOutcome, outputOfOutcome}
 use Rattle.contact.specs.Judging.{Judges}
 use Rattle.contact.specs.Contract.{Localizes}
+use Rattle.contact.specs.declared.Verdict.{Verdict}
 use Rattle.contact.specs.declared.Verdict.the-variants.{Passed, Failed}
 use Rattle.contact.specs.declared.CardRefusal.{CardRefusal}
 use Rattle.contact.specs.declared.LocalRefusal.{LocalRefusal}
@@ -32,7 +33,8 @@ use Rattle.contact.specs.declared.Localized.the-variants.{Written, Denied}
 use Rattle.contact.proofs.Patching.Public.{given-iff, passed-so}
 use Rattle.contact.proofs.Patching.Contract.{paper-follows}
 use Rattle.contact.proofs.Patching.Steps.{judged-answer, short-so, room-so}
-use Rattle.card.specs.Localizing.{judgedOutcome, Composed, Made, Yields, BeginsWith, Answers, usedBy}
+use Rattle.card.specs.Localizing.{judgedOutcome, Composed, Made, Yields, BeginsWith, Answers}
+use Rattle.answers.specs.ByVerdict.{byVerdict, usedBy}
 use Rattle.card.specs.Judged.{JudgesRows}
 use Rattle.card.proofs.Judging.Verdict.{passed-rows, failed-rows}
 use Rattle.patch.specs.declared.compose.Attempt.the-variants.{Bytes, Refused}
@@ -72,7 +74,7 @@ made-of words (draft t) old new r (e, is) = rw e (made-draft words t old new is 
 -- ---- 28
 
 module _ {t lent table : List ℕ} (room : ℕ) where
-  pub judged-passed : {rows n : ℕ} → Judges base t lent (Passed rows) table → length t ≡ n
+  judged-passed : {rows n : ℕ} → Judges base t lent (Passed rows) table → length t ≡ n
       → Yields (length lent) (judgedOutcome (length lent) room t) (Written rows n) table
   unfolding byJudge answerOfOutcome tableOfOutcome tableOfJudged
   judged-passed {rows} {n} j long =
@@ -83,7 +85,7 @@ module _ {t lent table : List ℕ} (room : ℕ) where
       go (passed f) e k = record { answer = cc; rows = k }
       go (failed r) e k = let z : _≡_ {A = ℕ} 0 1 = cc in absurd (omega arith)
 
-  pub judged-failed : {r : CardRefusal} → Judges base t lent (Failed r) table
+  judged-failed : {r : CardRefusal} → Judges base t lent (Failed r) table
       → Yields (length lent) (judgedOutcome (length lent) room t) (Denied (Inner r)) table
   unfolding byJudge answerOfOutcome tableOfOutcome tableOfJudged
   judged-failed {r} j =
@@ -93,6 +95,11 @@ module _ {t lent table : List ℕ} (room : ℕ) where
           → Yields (length lent) (byJudge base (length lent) room t o) (Denied (Inner r)) table
       go (passed f) e k = let z : _≡_ {A = ℕ} 0 1 = cc in absurd (omega arith)
       go (failed q) e k = record { answer = cc; rows = k }
+
+  pub judged-by : (v : Verdict) {n : ℕ} → Judges base t lent v table → length t ≡ n
+      → Yields (length lent) (judgedOutcome (length lent) room t) (byVerdict v n) table
+  judged-by (Passed rows) j long = judged-passed j long
+  judged-by (Failed r) j long = judged-failed j
 
 -- ---- all but clearing the output
 

@@ -39,8 +39,3 @@ BeginsWith (denied r) out = Prim.Unit {0}
 pub record Answers (words : ℕ) (o : Outcome) (r : Localized) (table out : List ℕ) : Type 0 where
   pub yields : Yields words o r table
   pub begins : BeginsWith o out
-
--- how many bytes of the output an answer says are used
-abbrev pub usedBy : Localized → ℕ
-usedBy (Written rows n) = n
-usedBy (Denied r) = 0

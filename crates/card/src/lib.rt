@@ -9,17 +9,14 @@
 //   rules       rules between members
 //   walk        the first breach, row by row
 //   judge       the service: read, walked, cleared
-// Localizing, on what crate patch writes:
+// Localizing, on what crate patch writes, with the answers of crate answers:
 //   localize    the service: judged, composed, judged again, cleared
-// Both:
-//   paper       the answers in the refusal sheet's numbers
 mod catalog;
 mod content;
 mod inside;
 mod items;
 pub mod judge;
 pub mod localize;
-pub mod paper;
 mod rules;
 mod schema;
 mod types;

@@ -1,6 +1,8 @@
 // Localizing (docs/RULES.md, 6): a card text and a language become the localized card and its rows, or a refusal.
 use crate::judge::judge;
 use crate::judge::judge_kept;
+use answers::written::by_verdict;
+use answers::written::bytes_used;
 use contact::LocalRefusal;
 use contact::Localized;
 use contact::Verdict;
@@ -14,17 +16,14 @@ ghost use lib.ListN.{length, take};
 ghost use Rattle.text.specs.Limits.{base};
 ghost use Rattle.contact.specs.Localize.{localizedOf};
 ghost use Rattle.contact.specs.Contract.{Localizes};
-ghost use Rattle.card.specs.Localizing.{judgedOutcome, Yields, Answers, usedBy};
+ghost use Rattle.card.specs.Localizing.{judgedOutcome, Yields, Answers};
 
 // 28, or the rows: the first n bytes of the output are judged as any text is.
 fn judge_written(out: &[u8], n: usize, table: &mut [u32]) -> Localized
     requires { ⌜ n ≤ length (now out) ⌝ }
     ensures { λ r. ⌜ ((room : ℕ) → Yields (length (now (table .entry))) (judgedOutcome (length (now (table .entry))) room (take n (now (out .entry)))) r (now (table .exit))) ⌝ }
 {
-    match judge(&out[..n], table) {
-        Verdict::Passed(rows) => Localized::Written(rows, n),
-        Verdict::Failed(r) => Localized::Denied(LocalRefusal::Inner(r)),
-    }
+    by_verdict(judge(&out[..n], table), n)
 }
 
 // All but clearing the output: conditions 1 to 14 on the card, 21 to 27 as it is written, and 28 on what is written.
@@ -40,16 +39,6 @@ fn localize_in(text: &[u8], language: &[u8], out: &mut [u8], table: &mut [u32]) 
             Localized::Denied(r)
         }
         Attempt::Bytes(n) => judge_written(out, n, table),
-    }
-}
-
-// How many bytes of the output are used.
-fn bytes_used(a: Localized) -> usize
-    ensures { λ r. ⌜ r ≡ usedBy a ⌝ }
-{
-    match a {
-        Localized::Written(_, n) => n,
-        Localized::Denied(_) => 0,
     }
 }
 

@@ -9,10 +9,10 @@ use crate::lines::ROOM;
 use crate::lines::after;
 use crate::lines::number;
 use crate::lines::unpack;
+use answers::paper::verdict_on_paper;
+use answers::sheet::on_paper;
 use card::judge::judge;
-use card::paper::verdict_on_paper;
 use json::read::read;
-use json::sheet::on_paper;
 use text::Paper;
 
 // Reads a text, or judges it.

@@ -1,7 +1,7 @@
 // Judges one card: reads it from standard input and writes one line, 0 and the row count, or the refusal's number and its second number.
 // A failed read is never taken for the end of the card: then standard output stays empty and standard error has a line.
+use answers::paper::verdict_on_paper;
 use card::judge::judge;
-use card::paper::verdict_on_paper;
 use json::limits::BYTES;
 use json::limits::ROW_WORDS;
 use json::limits::VALUES;

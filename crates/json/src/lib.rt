@@ -6,7 +6,6 @@
 //   strings     where a string ends
 //   decode      a string's decoded bytes, one at a time
 //   names       names compared decoded
-//   sheet       an answer in the refusal sheet's numbers
 //   tokens      white space, literals and numbers
 //   rows        the words of a row, stored and read
 //   lookup      rows found from other rows: the next one beside a value, and the member of a name
@@ -25,7 +24,6 @@ pub mod names;
 mod plain;
 pub mod read;
 pub mod rows;
-pub mod sheet;
 mod strings;
 mod tokens;
 mod values;

@@ -2,7 +2,7 @@
 use mathlib.Core.Path.{sym}
 use denote.Ref.{now}
 use lib.Seq.{length-take-le}
-use Rattle.card.proofs.Localizing.{judged-passed, judged-failed}
+use Rattle.card.proofs.Localizing.{judged-by}
 use borrow.Author.Needs.{needs}
 use Rattle.card.proofs.localize.judge_written.Statement.{statement}
 use Rattle.card.proofs.localize.judge_written.Tie as tie
@@ -15,23 +15,11 @@ slice-aggregate-judge c =
 returns : tie.Need-returns
 returns c =
     λ room.
-    let a = c .before .before .before .before .before .before .before .before .before .before .args in
-    let p = c .before .before .before .before .before .before .before .before .before .before .pre in
-    let judge = c .before .before .before .before .before .judge in
-    judged-passed room (rw (c .before .rows .given .1) at (judge .ensures)) (length-take-le (a .n) (now (a .out)) p)
-
-returns-2 : tie.Need-returns-2
-returns-2 c = λ room. judged-failed room (rw (c .before .r .given .1) at (c .before .before .before .before .before .judge .ensures))
+    let start = c .before .before .before .before .before .before .before .before in
+    let a = start .args in
+    let judge = c .before .before .before .judge in
+    rw (c .by-verdict .ensures) (judged-by room (judge .result) (judge .ensures) (length-take-le (a .n) (now (a .out)) (start .pre)))
 
 pub judge-written-spec : {M : Type 1} → statement M
 judge-written-spec =
-    tie.close
-    (tie.spec
-    slice-aggregate-judge
-    (λ c κs. search needs)
-    (λ c. search needs)
-    (λ c. search needs)
-    (λ c. search needs)
-    returns
-    (λ c. search needs)
-    returns-2)
+    tie.close (tie.spec slice-aggregate-judge (λ c κs. search needs) (λ c κs. search needs) (λ c. search needs) returns)

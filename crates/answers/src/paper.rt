@@ -1,11 +1,11 @@
 // The answers of judging and localizing in the refusal sheet's numbers (docs/RULES.md, 2.1).
+use crate::sheet::line;
+use crate::sheet::refusal_on_paper;
 use contact::CardFault;
 use contact::CardRefusal;
 use contact::LocalRefusal;
 use contact::Localized;
 use contact::Verdict;
-use json::sheet::line;
-use json::sheet::refusal_on_paper;
 use text::Paper;
 ghost use mathlib.Core.Path.{_≡_};
 ghost use Rattle.text.specs.Sheet.{numbers};

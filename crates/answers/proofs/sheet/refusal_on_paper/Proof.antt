@@ -1,8 +1,8 @@
--- `json::sheet::refusal_on_paper` meets its contract: each refusal has its line. Assumes nothing.
+-- `answers::sheet::refusal_on_paper` meets its contract: each refusal has its line. Assumes nothing.
 use Rattle.text.specs.Sheet.{refused}
 use borrow.Author.Needs.{needs}
-use Rattle.json.proofs.sheet.refusal_on_paper.Statement.{statement}
-use Rattle.json.proofs.sheet.refusal_on_paper.Tie as tie
+use Rattle.answers.proofs.sheet.refusal_on_paper.Statement.{statement}
+use Rattle.answers.proofs.sheet.refusal_on_paper.Tie as tie
 
 returns : tie.Need-returns
 unfolding refused

@@ -1,8 +1,8 @@
--- `json::sheet::on_paper` meets its contract: each answer has its line. Assumes nothing.
+-- `answers::sheet::on_paper` meets its contract: each answer has its line. Assumes nothing.
 use Rattle.text.specs.Sheet.{paper}
 use borrow.Author.Needs.{needs}
-use Rattle.json.proofs.sheet.on_paper.Statement.{statement}
-use Rattle.json.proofs.sheet.on_paper.Tie as tie
+use Rattle.answers.proofs.sheet.on_paper.Statement.{statement}
+use Rattle.answers.proofs.sheet.on_paper.Tie as tie
 
 returns : tie.Need-returns
 unfolding paper

@@ -1,8 +1,8 @@
--- `card::paper::inner_on_paper` meets its contract. Assumes nothing.
+-- `answers::paper::inner_on_paper` meets its contract. Assumes nothing.
 use mathlib.Core.Path.{refl}
 use borrow.Author.Needs.{needs}
-use Rattle.card.proofs.paper.inner_on_paper.Statement.{statement}
-use Rattle.card.proofs.paper.inner_on_paper.Tie as tie
+use Rattle.answers.proofs.paper.inner_on_paper.Statement.{statement}
+use Rattle.answers.proofs.paper.inner_on_paper.Tie as tie
 
 returns : tie.Need-returns
 returns c = rw (c .card-on-paper .ensures) refl

@@ -1,8 +1,8 @@
--- `card::paper::card_on_paper` meets its contract. Assumes nothing.
+-- `answers::paper::card_on_paper` meets its contract. Assumes nothing.
 use Rattle.contact.specs.Verdict.{refusedCard}
 use borrow.Author.Needs.{needs}
-use Rattle.card.proofs.paper.card_on_paper.Statement.{statement}
-use Rattle.card.proofs.paper.card_on_paper.Tie as tie
+use Rattle.answers.proofs.paper.card_on_paper.Statement.{statement}
+use Rattle.answers.proofs.paper.card_on_paper.Tie as tie
 
 returns : tie.Need-returns
 unfolding refusedCard
