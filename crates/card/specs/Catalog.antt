@@ -6,12 +6,14 @@ use mathlib.Core.List.{List, [], _∷_, _++_, map}
 use mathlib.Core.Bool.{Bool, false, not, cond, _&&_}
 use lib.ListN.{length, getD, take, drop, replicate}
 use lib.Dec.{ltb, eqb}
-use Rattle.text.specs.Text.{bytes}
+use Rattle.text.specs.Text.{bytes, byteAt}
 use Rattle.text.specs.Tree.{Forest}
+use Rattle.text.specs.Firsts.{Kinds}
 use Rattle.text.specs.Standing.{StandsTo}
 use Rattle.text.specs.Doc.{Name, Members, seek, isThere}
 use Rattle.contact.specs.Schema.{ObjectType, any, Known, Rule, oneOf, needs, needsString, needsTrue, separators, notOnly, TypeRecord, types}
 use Rattle.card.specs.Types.{typeAt}
+use Rattle.card.specs.Rows.{ValueAt}
 use Rattle.card.specs.declared.catalog.Span.{Span}
 use Rattle.card.specs.declared.schema.Object.{Object}
 
@@ -179,7 +181,29 @@ pub record Lent (words numbers : List ℕ) : Type 0 where
   pub words-are : words ≡ tableWords
   pub numbers-are : Numbers numbers
 
--- what is asked where rule i is tried on an object: the catalog is lent, its members stand in the table, and there is such a rule
+-- ---- what is asked where the catalog is put to a card
+
+-- of an object: the catalog is lent, and the object's members stand in the table
+abbrev pub OnObject : (words numbers table : List ℕ) → Object → Type 0
+OnObject words numbers table object = Lent words numbers × ((f : Forest) × MembersAt table object f)
+
+-- of a value: the catalog is lent, and a value stands at the row
+abbrev pub OnValue : (words numbers table : List ℕ) (row : ℕ) → Type 0
+OnValue words numbers table row = Lent words numbers × ((f : Forest) × ValueAt table row f × Kinds f)
+
+-- of property i: the catalog is lent, and has it
+abbrev pub TriesLine : (words numbers : List ℕ) (i : ℕ) → Type 0
+TriesLine words numbers i = Lent words numbers × (i < count)
+
+-- the same, of a name whose first written byte is known
+abbrev pub TriesName : (words numbers : List ℕ) (i : ℕ) (text : List ℕ) (s first : ℕ) → Type 0
+TriesName words numbers i text s first = Lent words numbers × (i < count) × (first ≡ byteAt text s)
+
+-- of word j of rule i: the catalog is lent, and has room for it
+abbrev pub TriesWord : (words numbers : List ℕ) (i j : ℕ) → Type 0
+TriesWord words numbers i j = Lent words numbers × (i < ruleCount) × (j < each)
+
+-- of rule i on an object
 pub record TriesRule (words numbers table : List ℕ) (object : Object) (i : ℕ) : Type 0 where
   pub lent : Lent words numbers
   pub members : (f : Forest) × MembersAt table object f

@@ -15,7 +15,7 @@ ghost use lib.ListN.{length, getD, take, drop};
 ghost use lib.Dec.{eqb};
 ghost use Rattle.text.specs.Text.{bytes, byteAt};
 ghost use Rattle.contact.specs.Schema.{properties, rulesOf, ownName};
-ghost use Rattle.card.specs.Catalog.{namePlace, nameWidth, typeCount, lines, noLine, allRules, noRule, ruleCount, ruleAt, ruleWords, each, OwnPart, tableWords, Numbers, Lent, spanIn};
+ghost use Rattle.card.specs.Catalog.{namePlace, nameWidth, typeCount, lines, noLine, allRules, noRule, ruleAt, ruleWords, OwnPart, tableWords, Numbers, TriesWord, spanIn};
 
 // ---- numbers
 
@@ -350,9 +350,7 @@ pub(crate) fn sized_word(words: &[u8], i: usize, size: usize) -> &[u8]
 
 // Word j of rule i; behind the last there are empty ones.
 pub(crate) fn rule_word<'a>(words: &'a [u8], numbers: &[u32], i: usize, j: usize) -> &'a [u8]
-    requires { ⌜ Lent (now words) (now numbers) ⌝ }
-    requires { ⌜ i < ruleCount ⌝ }
-    requires { ⌜ j < each ⌝ }
+    requires { ⌜ TriesWord (now words) (now numbers) i j ⌝ }
     ensures { λ r. ⌜ now r ≡ getD (ruleWords (ruleAt i)) j [] ⌝ }
 {
     let at = RULES + i * RULE_WIDTH + 1 + j;

@@ -1,6 +1,5 @@
-// What stands inside a value, by its rows (docs/RULES.md, 4): from one member to the next, and the member of a name.
+// What stands inside a value, by its rows (docs/RULES.md, 4): the member of a name, and a String that it may be.
 use crate::content::is_content;
-use json::lookup;
 use json::lookup::Found;
 use json::lookup::find;
 use json::rows::STRING;
@@ -9,25 +8,14 @@ use json::rows::value_end;
 use json::rows::value_start;
 ghost use mathlib.Core.Path.{_≡_};
 ghost use mathlib.Core.Option.{Option};
-ghost use Prim.Native.Nat.{_+_};
 ghost use Rattle.text.specs.Tree.{Forest};
 ghost use Rattle.text.specs.Standing.{StandsTo};
 ghost use Rattle.text.specs.Doc.{Doc, docOf, membersOf, seek, isThere};
 ghost use Rattle.contact.specs.Rules.{isString, isThisString, hasKind};
-ghost use Rattle.json.specs.Rows.{belowIn};
 ghost use Rattle.card.specs.Rows.{ValueAt, ValueOf};
-
-// The row after a value and all that is below it.
-pub(crate) fn next_row(table: &[u32], at: usize) -> usize
-    requires { ⌜ ((f : Forest) × ValueAt (now table) at f) ⌝ }
-    ensures { λ r. ⌜ r ≡ at + 1 + belowIn (now (table .entry)) at ⌝ }
-{
-    lookup::next_row(table, at)
-}
 
 // Is there a member of that name?
 pub(crate) fn has(text: &[u8], table: &[u32], from: usize, end: usize, name: &[u8]) -> bool
-    requires { ⌜ ((f : Forest) × StandsTo (now table) from end f) ⌝ }
     ensures { λ r. ⌜ ((f : Forest) → StandsTo (now (table .entry)) from end f → r ≡ isThere (seek (now (name .entry)) (membersOf (now (text .entry)) f))) ⌝ }
 {
     match find(text, table, from, end, name) {
@@ -65,7 +53,6 @@ pub(crate) fn has_string(
     name: &[u8],
     content: &[u8],
 ) -> bool
-    requires { ⌜ ((f : Forest) × StandsTo (now table) from end f) ⌝ }
     ensures { λ r. ⌜ ((f : Forest) → StandsTo (now (table .entry)) from end f → r ≡ hasKind (now (content .entry)) (seek (now (name .entry)) (membersOf (now (text .entry)) f))) ⌝ }
 {
     let found = find(text, table, from, end, name);

@@ -11,13 +11,13 @@ use crate::catalog::rule_word;
 use crate::catalog::rules_of;
 use crate::inside::has_string;
 use crate::inside::is_string_at;
-use crate::inside::next_row;
 use crate::items::kind_fits;
 use crate::schema::Object;
 use crate::schema::type_in;
 use crate::schema::type_of;
 use json::lookup::Found;
 use json::lookup::find;
+use json::lookup::next_row;
 use json::rows::OBJECT;
 use json::rows::TRUE;
 use json::rows::kind;
@@ -32,7 +32,7 @@ ghost use Rattle.text.specs.Standing.{StandsTo};
 ghost use Rattle.text.specs.Doc.{docOf, membersOf};
 ghost use Rattle.contact.specs.Rules.{present as presentOf, isTrue, isThisString, isSeparator, marksOf, marks, badlySeparated, breaksOne, breaks as breaksOf};
 ghost use Rattle.card.specs.Rows.{ValueAt, ValueOf};
-ghost use Rattle.card.specs.Catalog.{MembersAt, ruleAt, ruleWords, Lent, TriesRule};
+ghost use Rattle.card.specs.Catalog.{MembersAt, ruleAt, ruleWords, Lent, OnObject, TriesRule};
 ghost use Rattle.card.specs.Marks.{noMarks, markOn, tally};
 ghost use Rattle.card.specs.RuleTable.{isCounted, anyCounted, thenBroken, separatorsBroken, byShape};
 
@@ -48,7 +48,6 @@ fn present(
     name: &[u8],
 ) -> Found
     requires { ⌜ Lent (now words) (now numbers) ⌝ }
-    requires { ⌜ ((f : Forest) × MembersAt (now table) object f) ⌝ }
     ensures { λ r. ⌜ ((f : Forest) → MembersAt (now (table .entry)) object f → ValueOf (now (text .entry)) (now (table .entry)) r (presentOf (object .of) (now (name .entry)) (membersOf (now (text .entry)) f))) ⌝ }
 {
     let Found::Row(k) = find(text, table, object.from, object.end, name) else {
@@ -78,7 +77,6 @@ fn counts(
     name: &[u8],
 ) -> bool
     requires { ⌜ Lent (now words) (now numbers) ⌝ }
-    requires { ⌜ ((f : Forest) × MembersAt (now table) object f) ⌝ }
     ensures { λ r. ⌜ ((f : Forest) → MembersAt (now (table .entry)) object f → r ≡ isCounted (object .of) (membersOf (now (text .entry)) f) (now (name .entry))) ⌝ }
 {
     if name.len() == 0 {
@@ -100,7 +98,6 @@ fn is_true(
     name: &[u8],
 ) -> bool
     requires { ⌜ Lent (now words) (now numbers) ⌝ }
-    requires { ⌜ ((f : Forest) × MembersAt (now table) object f) ⌝ }
     ensures { λ r. ⌜ ((f : Forest) → MembersAt (now (table .entry)) object f → r ≡ isTrue (presentOf (object .of) (now (name .entry)) (membersOf (now (text .entry)) f))) ⌝ }
 {
     match present(words, numbers, text, table, object, name) {
@@ -120,7 +117,6 @@ fn is_this_string(
     content: &[u8],
 ) -> bool
     requires { ⌜ Lent (now words) (now numbers) ⌝ }
-    requires { ⌜ ((f : Forest) × MembersAt (now table) object f) ⌝ }
     ensures { λ r. ⌜ ((f : Forest) → MembersAt (now (table .entry)) object f → r ≡ isThisString (now (content .entry)) (presentOf (object .of) (now (name .entry)) (membersOf (now (text .entry)) f))) ⌝ }
 {
     let found = present(words, numbers, text, table, object, name);
@@ -155,7 +151,6 @@ fn any_of(
 
 // Is the entry at a row an object whose `kind` is the String "separator"?
 fn is_separator(text: &[u8], table: &[u32], k: usize) -> bool
-    requires { ⌜ ((f : Forest) × ValueAt (now table) k f) ⌝ }
     ensures { λ r. ⌜ ((f : Forest) → ValueAt (now (table .entry)) k f → r ≡ isSeparator (docOf (now (text .entry)) f)) ⌝ }
 {
     if kind(table, k) != OBJECT {
@@ -219,7 +214,6 @@ fn marked(m: Marks, separator: bool) -> Marks
 
 // The entries of a list, of the rows from .. end.
 fn tally_of(text: &[u8], table: &[u32], from: usize, end: usize) -> Marks
-    requires { ⌜ ((f : Forest) × StandsTo (now table) from end f) ⌝ }
     ensures { λ r. ⌜ ((f : Forest) → StandsTo (now (table .entry)) from end f → r ≡ tally noMarks (marksOf (membersOf (now (text .entry)) f))) ⌝ }
 {
     let mut m = no_marks();
@@ -240,8 +234,7 @@ fn tally_in(
     object: Object,
     name: &[u8],
 ) -> Marks
-    requires { ⌜ Lent (now words) (now numbers) ⌝ }
-    requires { ⌜ ((f : Forest) × MembersAt (now table) object f) ⌝ }
+    requires { ⌜ OnObject (now words) (now numbers) (now table) object ⌝ }
     ensures { λ r. ⌜ ((f : Forest) → MembersAt (now (table .entry)) object f → r ≡ tally noMarks (marks (presentOf (object .of) (now (name .entry)) (membersOf (now (text .entry)) f)))) ⌝ }
 {
     let Found::Row(k) = present(words, numbers, text, table, object, name) else {
@@ -373,8 +366,7 @@ pub(crate) fn breaks(
     table: &[u32],
     object: Object,
 ) -> bool
-    requires { ⌜ Lent (now words) (now numbers) ⌝ }
-    requires { ⌜ ((f : Forest) × MembersAt (now table) object f) ⌝ }
+    requires { ⌜ OnObject (now words) (now numbers) (now table) object ⌝ }
     ensures { λ r. ⌜ ((f : Forest) → MembersAt (now (table .entry)) object f → r ≡ breaksOf (object .of) (membersOf (now (text .entry)) f)) ⌝ }
 {
     let own = rules_of(numbers, object.of);

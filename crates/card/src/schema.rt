@@ -27,14 +27,13 @@ ghost use mathlib.Core.Path.{_≡_};
 ghost use Prim.Native.Nat.{_<_};
 ghost use lib.ListN.{getD};
 ghost use Rattle.laws.specs.Order.{same};
-ghost use Rattle.text.specs.Text.{byteAt};
 ghost use Rattle.text.specs.Strings.{nameOf};
 ghost use Rattle.text.specs.Tree.{Forest};
 ghost use Rattle.text.specs.Doc.{membersOf};
 ghost use Rattle.contact.specs.Schema.{objectOf, properties, typeIn};
 ghost use Rattle.contact.specs.Judge.{lacking};
 ghost use Rattle.card.specs.Types.{simpleOf, itemType, typeOf, innerType, boundedAt, itemAt, typeAt};
-ghost use Rattle.card.specs.Catalog.{MembersAt, count, lines, noLine, isMissing, Lent};
+ghost use Rattle.card.specs.Catalog.{MembersAt, lines, noLine, isMissing, Lent, TriesLine, TriesName};
 
 // The pairs of bounds of unsigned integers, by their numbers.
 fn bounded(i: u32) -> SimpleItem
@@ -121,9 +120,7 @@ fn is_missing(
     object: Object,
     i: usize,
 ) -> bool
-    requires { ⌜ Lent (now words) (now numbers) ⌝ }
-    requires { ⌜ i < count ⌝ }
-    requires { ⌜ ((f : Forest) × MembersAt (now table) object f) ⌝ }
+    requires { ⌜ TriesLine (now words) (now numbers) i ⌝ }
     ensures { λ r. ⌜ ((f : Forest) → MembersAt (now (table .entry)) object f → r ≡ isMissing (membersOf (now (text .entry)) f) (getD lines i noLine)) ⌝ }
 {
     let code = numbers[i];
@@ -149,7 +146,6 @@ pub(crate) fn is_lacking(
     object: Object,
 ) -> bool
     requires { ⌜ Lent (now words) (now numbers) ⌝ }
-    requires { ⌜ ((f : Forest) × MembersAt (now table) object f) ⌝ }
     ensures { λ r. ⌜ ((f : Forest) → MembersAt (now (table .entry)) object f → r ≡ lacking (properties (object .of)) (membersOf (now (text .entry)) f)) ⌝ }
 {
     let own = lines_of(numbers, object.of);
@@ -174,9 +170,7 @@ fn is_named(
     e: usize,
     i: usize,
 ) -> bool
-    requires { ⌜ Lent (now words) (now numbers) ⌝ }
-    requires { ⌜ i < count ⌝ }
-    requires { ⌜ first ≡ byteAt (now text) s ⌝ }
+    requires { ⌜ TriesName (now words) (now numbers) i (now text) s first ⌝ }
     ensures { λ r. ⌜ r ≡ same (nameOf (now (text .entry)) s e) (getD lines i noLine .spelling) ⌝ }
 {
     if !may_be(words, i, first) {

@@ -4,7 +4,6 @@ use crate::catalog::type_name;
 use crate::content::content;
 use crate::content::is_content;
 use crate::inside::has_string;
-use crate::inside::next_row;
 use crate::items::Item;
 use crate::items::Keys;
 use crate::items::Role;
@@ -18,6 +17,7 @@ use crate::schema::type_of;
 use formats::counts::is_count;
 use formats::dates::is_time;
 use formats::ids::is_id;
+use json::lookup::next_row;
 use json::names::slice;
 use json::rows::OBJECT;
 use json::rows::TRUE;
@@ -52,7 +52,6 @@ fn type_below(words: &[u8], numbers: &[u32], text: &[u8], code: u32, s: usize, e
 // Is the value at a row an object whose `@type` is the name of the object type?
 fn is_of(words: &[u8], text: &[u8], table: &[u32], k: usize, o: u32) -> bool
     requires { ⌜ now words ≡ tableWords ⌝ }
-    requires { ⌜ ((f : Forest) × ValueAt (now table) k f) ⌝ }
     ensures { λ r. ⌜ ((f : Forest) → ValueAt (now (table .entry)) k f → r ≡ isOf o (docOf (now (text .entry)) f)) ⌝ }
 {
     if kind(table, k) != OBJECT {
@@ -65,7 +64,6 @@ fn is_of(words: &[u8], text: &[u8], table: &[u32], k: usize, o: u32) -> bool
 // The code that is asked of the value at a row, where one stands: its `@type` may choose it.
 fn choose(words: &[u8], text: &[u8], table: &[u32], k: usize, code: u32) -> u32
     requires { ⌜ now words ≡ tableWords ⌝ }
-    requires { ⌜ ((f : Forest) × ValueAt (now table) k f) ⌝ }
     ensures { λ r. ⌜ ((f : Forest) → ValueAt (now (table .entry)) k f → typeAt r ≡ chosen (typeAt code) (docOf (now (text .entry)) f)) ⌝ }
 {
     match role_of(type_of(code)) {
@@ -92,7 +90,6 @@ pub(crate) fn member_type(
     e: usize,
 ) -> u32
     requires { ⌜ Lent (now words) (now numbers) ⌝ }
-    requires { ⌜ ((f : Forest) × ValueAt (now table) k f) ⌝ }
     ensures { λ r. ⌜ ((f : Forest) → ValueAt (now (table .entry)) k f → typeAt r ≡ memberType (typeAt code) (nameOf (now (text .entry)) s e) (docOf (now (text .entry)) f)) ⌝ }
 {
     let stands = type_below(words, numbers, text, code, s, e);
@@ -101,7 +98,6 @@ pub(crate) fn member_type(
 
 // Is the key of the entry at a row allowed? The entries of its map stand from the first row on, so that a test may look at the keys before it too.
 pub(crate) fn key_fits(text: &[u8], table: &[u32], code: u32, first: usize, at: usize) -> bool
-    requires { ⌜ ((f : Forest) × StandsTo (now table) first at f) ⌝ }
     ensures { λ r. ⌜ ((f : Forest) → StandsTo (now (table .entry)) first at f → r ≡ keyFits (typeAt code) (rowKey (now (text .entry)) (now (table .entry)) f at)) ⌝ }
 {
     match type_of(code) {

@@ -1,5 +1,4 @@
 // The verdict on a card's rows (docs/RULES.md, 5.2): the first breach in the order of the rows, and on one row the smallest number.
-use crate::inside::next_row;
 use crate::items::Role;
 use crate::items::is_any;
 use crate::items::kind_fits;
@@ -11,6 +10,7 @@ use crate::schema::type_of;
 use crate::types::allows;
 use crate::types::key_fits;
 use crate::types::member_type;
+use json::lookup::next_row;
 use json::rows::kind;
 use json::rows::name_end;
 use json::rows::name_start;
@@ -23,7 +23,7 @@ ghost use Rattle.text.specs.Firsts.{Kinds};
 ghost use Rattle.text.specs.Doc.{docOf, membersOf};
 ghost use Rattle.contact.specs.Judge.{rowNumber, breachOf};
 ghost use Rattle.card.specs.Types.{typeAt, isAny};
-ghost use Rattle.card.specs.Catalog.{MembersAt, tableWords, Lent};
+ghost use Rattle.card.specs.Catalog.{MembersAt, tableWords, OnObject, OnValue};
 ghost use Rattle.card.specs.Rows.{ValueAt};
 ghost use Rattle.card.specs.Walk.{objectNumber, valueNumber, foundOf};
 
@@ -42,8 +42,7 @@ fn object_number(
     object: Object,
     key: bool,
 ) -> usize
-    requires { ⌜ Lent (now words) (now numbers) ⌝ }
-    requires { ⌜ ((f : Forest) × MembersAt (now table) object f) ⌝ }
+    requires { ⌜ OnObject (now words) (now numbers) (now table) object ⌝ }
     ensures { λ r. ⌜ ((f : Forest) → MembersAt (now (table .entry)) object f → r ≡ objectNumber (object .of) key (membersOf (now (text .entry)) f)) ⌝ }
 {
     if is_lacking(words, numbers, text, table, object) {
@@ -84,8 +83,7 @@ fn row_number(
     code: u32,
     key: bool,
 ) -> usize
-    requires { ⌜ Lent (now words) (now numbers) ⌝ }
-    requires { ⌜ ((f : Forest) × ValueAt (now table) row f) ⌝ }
+    requires { ⌜ OnValue (now words) (now numbers) (now table) row ⌝ }
     ensures { λ r. ⌜ ((f : Forest) → ValueAt (now (table .entry)) row f → Kinds f → r ≡ rowNumber (typeAt code) key (docOf (now (text .entry)) f)) ⌝ }
 {
     let ty = type_of(code);
@@ -124,8 +122,7 @@ pub(crate) fn breach_at(
     code: u32,
     key: bool,
 ) -> Breach
-    requires { ⌜ Lent (now words) (now numbers) ⌝ }
-    requires { ⌜ ((f : Forest) × ValueAt (now table) row f × Kinds f) ⌝ }
+    requires { ⌜ OnValue (now words) (now numbers) (now table) row ⌝ }
     ensures { λ r. ⌜ ((f : Forest) → ValueAt (now (table .entry)) row f → Kinds f → foundOf r ≡ breachOf (typeAt code) key row (docOf (now (text .entry)) f)) ⌝ }
 {
     if is_free(code, key) {

@@ -146,8 +146,7 @@ struct Step {
 }
 
 fn special(line: &[u8], at: usize, base: &[u8], out: &mut [u8], size: usize) -> Step
-    requires { ⌜ at ≤ length (now line) ⌝ }
-    requires { ⌜ size ≤ length (now out) ⌝ }
+    requires { ⌜ (at ≤ length (now line)) × (size ≤ length (now out)) ⌝ }
     ensures { λ r. ⌜ (at < r .next) × (r .size ≤ length (now (out .entry))) ⌝ }
 {
     let kind = if at < line.len() { line[at] } else { 0 };

@@ -98,8 +98,7 @@ fn digit_of(b: u16) -> u32
 // Two digits as a number.
 fn two_at(head: &[u8], i: usize) -> u32
     requires { ⌜ i < 19 ⌝ }
-    ensures { λ r. ⌜ r ≡ twoAt (now (head .entry)) i ⌝ }
-    ensures small { λ r. ⌜ r < 4096 ⌝ }
+    ensures { λ r. ⌜ (r ≡ twoAt (now (head .entry)) i) × (r < 4096) ⌝ }
 {
     let tens = digit_of(peek(head, i));
     let ones = digit_of(peek(head, i + 1));

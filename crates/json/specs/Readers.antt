@@ -12,7 +12,7 @@ use Rattle.text.specs.Tree.{Bracket, square, curly, Forest, size, rowOf, rowsOf
 use Rattle.text.specs.Grammar.{closing}
 use Rattle.text.specs.Standing.{StandsTo}
 use Rattle.text.specs.Reader.{Read, good, bad, Reader, ItemReader, colonAt, memberOf, insideOf, valueAt, arrayAt, objectAt}
-use Rattle.json.specs.Rows.{Word}
+use Rattle.json.specs.Rows.{Word, Row}
 use Rattle.json.specs.declared.members.MemberName.{MemberName}
 use Rattle.json.specs.declared.members.MemberName.the-variants.{Value, Broken}
 use Rattle.json.specs.declared.containers.Container.{Container}
@@ -40,6 +40,14 @@ pub record NamePlaces (t : List ℕ) (ns ne : ℕ) : Type 0 where
   pub starts : ns ≤ length t
   pub ends : ne ≤ length t
 
+-- what is asked of the reader of a value, with a name or none
+abbrev pub ValueAsks : (t table : List ℕ) (limit ns ne at n : ℕ) → Type 0
+ValueAsks t table limit ns ne at n = ItemAsks t table limit at n × NamePlaces t ns ne
+
+-- and of one whose kind is known
+abbrev pub KindAsks : (t table : List ℕ) (limit kind ns ne at n : ℕ) → Type 0
+KindAsks t table limit kind ns ne at n = ItemAsks t table limit at n × NamePlaces t ns ne × (kind < 8)
+
 -- ---- values ----
 
 -- R says that values stand from `at` up to `to`, and they are rows n up to `after` of the table
@@ -61,6 +69,10 @@ Took R t limit at n old new (Stop r) = R ≡ bad r
 abbrev pub Closable : (n : ℕ) → Progress → Type 0
 Closable n (Next to after) = (n < after) × (Word after × Word to)
 Closable n (Stop r) = Prim.Unit {0}
+
+-- with room for the container's own row
+abbrev pub CloseAsks : (table : List ℕ) (kind ns ne at n : ℕ) → Progress → Type 0
+CloseAsks table kind ns ne at n inside = Closable n inside × Row (length table) n kind ns ne at 0 0
 
 -- and what it does: it stores the container's row
 abbrev pub Closes : (kind ns ne at n : ℕ) → Progress → (old new : List ℕ) → Progress → Type 0

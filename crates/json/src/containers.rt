@@ -11,7 +11,6 @@ ghost use Prim.Native.Nat.{_≤_};
 ghost use lib.ListN.{length};
 ghost use Rattle.text.specs.Grammar as grammar;
 ghost use Rattle.text.specs.Tree as tree;
-ghost use Rattle.json.specs.Rows.{Word};
 ghost use Rattle.json.specs.Readers.{containerOf, bracketOf, ItemRead};
 
 // The two containers: they differ in their kind, their closing byte and their items.
@@ -65,7 +64,6 @@ pub(crate) fn item_at(
     end: usize,
     at: usize,
 ) -> ItemStart
-    requires { ⌜ Word end ⌝ }
     requires { ⌜ at ≤ length (now text) ⌝ }
     ensures { λ r. ⌜ ItemRead of (now (text .entry)) (now (table .entry)) first end at r ⌝ }
 {

@@ -2,8 +2,8 @@
 use crate::bytes::COLON;
 use crate::bytes::QUOTE;
 use crate::bytes::peek;
+use crate::lookup::next_row;
 use crate::names::same_name;
-use crate::rows::below;
 use crate::rows::name_end;
 use crate::rows::name_start;
 use crate::strings::string_end;
@@ -17,7 +17,6 @@ ghost use Rattle.text.specs.Tree.{Forest};
 ghost use Rattle.text.specs.Standing.{StandsTo};
 ghost use Rattle.text.specs.Strings.{nameOf};
 ghost use Rattle.text.specs.Reader as reader;
-ghost use Rattle.json.specs.Rows.{Word};
 ghost use Rattle.json.specs.Readers.{Colon, KeyRead};
 
 // A member's name: where it ends and where the value is; or the refusal.
@@ -28,7 +27,6 @@ pub enum MemberName {
 
 // Is a name among those of the values that stand from row `first` up to row `end`, not looking inside them?
 fn named(text: &[u8], table: &[u32], first: usize, end: usize, ns: usize, ne: usize) -> bool
-    requires { ⌜ Word end ⌝ }
     ensures { λ r. ⌜ ((done : Forest) → StandsTo (now (table .entry)) first end done → r ≡ reader.named (now (text .entry)) (nameOf (now (text .entry)) ns ne) done) ⌝ }
 {
     let mut row = first;
@@ -38,7 +36,7 @@ fn named(text: &[u8], table: &[u32], first: usize, end: usize, ns: usize, ne: us
         if same_name(text, s, e, ns, ne) {
             return true;
         }
-        row = row + 1 + below(table, row);
+        row = next_row(table, row);
     }
     false
 }
@@ -65,7 +63,6 @@ pub(crate) fn read_key(
     end: usize,
     at: usize,
 ) -> MemberName
-    requires { ⌜ Word end ⌝ }
     requires { ⌜ at ≤ length (now text) ⌝ }
     ensures { λ r. ⌜ KeyRead (now (text .entry)) (now (table .entry)) first end at r ⌝ }
 {

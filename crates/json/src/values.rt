@@ -16,15 +16,13 @@ use crate::tokens::token_end;
 use text::Refusal;
 use text::Token;
 ghost use mathlib.Core.Path.{_≡_};
-ghost use Prim.Native.Nat.{_+_, _<_};
-ghost use lib.ListN.{length};
+ghost use Prim.Native.Nat.{_+_};
 ghost use Rattle.text.specs.Text.{byteAt};
 ghost use Rattle.text.specs.Tokens as tokens;
 ghost use Rattle.text.specs.Tree.{Forest};
 ghost use Rattle.text.specs.Standing.{StandsTo};
 ghost use Rattle.text.specs.Reader.{scalarAt, valueAt};
-ghost use Rattle.json.specs.Rows.{Row};
-ghost use Rattle.json.specs.Readers.{upTo, ItemAsks, NamePlaces, Took, Closable, Closes, containerAt, itemsAt, itemOf};
+ghost use Rattle.json.specs.Readers.{upTo, ItemAsks, ValueAsks, KindAsks, Took, CloseAsks, Closes, containerAt, itemsAt, itemOf};
 
 // What reading some of a text gives: the place after it and the number of values so far, or the refusal.
 pub enum Progress {
@@ -50,9 +48,7 @@ fn read_scalar(
     at: usize,
     count: usize,
 ) -> Progress
-    requires { ⌜ ItemAsks (now text) (now table) limit at count ⌝ }
-    requires { ⌜ NamePlaces (now text) ns ne ⌝ }
-    requires { ⌜ kind < 8 ⌝ }
+    requires { ⌜ KindAsks (now text) (now table) limit kind ns ne at count ⌝ }
     ensures { λ r. ⌜ Took (scalarAt (upTo limit) (now (text .entry)) kind ns ne at count) (now (text .entry)) limit at count (now (table .entry)) (now (table .exit)) r ⌝ }
 {
     if limit <= count {
@@ -79,8 +75,7 @@ fn close(
     at: usize,
     count: usize,
 ) -> Progress
-    requires { ⌜ Closable count inside ⌝ }
-    requires { ⌜ Row (length (now table)) count kind ns ne at 0 0 ⌝ }
+    requires { ⌜ CloseAsks (now table) kind ns ne at count inside ⌝ }
     ensures { λ r. ⌜ Closes kind ns ne at count inside (now (table .entry)) (now (table .exit)) r ⌝ }
 {
     match inside {
@@ -103,8 +98,7 @@ pub(crate) fn read_value(
     at: usize,
     count: usize,
 ) -> Progress
-    requires { ⌜ ItemAsks (now text) (now table) limit at count ⌝ }
-    requires { ⌜ NamePlaces (now text) ns ne ⌝ }
+    requires { ⌜ ValueAsks (now text) (now table) limit ns ne at count ⌝ }
     ensures { λ r. ⌜ Took (valueAt (upTo limit) (now (text .entry)) depth ns ne at count) (now (text .entry)) limit at count (now (table .entry)) (now (table .exit)) r ⌝ }
 {
     let kind = kind_at(text, at);
@@ -130,8 +124,7 @@ fn read_container(
     at: usize,
     count: usize,
 ) -> Progress
-    requires { ⌜ ItemAsks (now text) (now table) limit (at + 1) count ⌝ }
-    requires { ⌜ NamePlaces (now text) ns ne ⌝ }
+    requires { ⌜ ValueAsks (now text) (now table) limit ns ne (at + 1) count ⌝ }
     ensures { λ r. ⌜ Took (containerAt of (upTo limit) (now (text .entry)) depth ns ne at count) (now (text .entry)) limit at count (now (table .entry)) (now (table .exit)) r ⌝ }
 {
     if depth == 0 {

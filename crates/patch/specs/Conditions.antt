@@ -16,6 +16,7 @@ use Rattle.patch.specs.declared.conditions.FoundPair.the-variants.{Pair,
 use Rattle.patch.specs.declared.conditions.Condition.{Condition}
 use Rattle.patch.specs.declared.conditions.Condition.the-variants.{Kept, Broken}
 use Rattle.patch.specs.Children.{keyAt}
+use Rattle.patch.specs.Entries.{Listed}
 
 -- 22, a `~` that neither `0` nor `1` follows; 23, a pointer that begins with `localizations`
 abbrev pub isFaulty : Fault → Name → Bool
@@ -40,6 +41,10 @@ worstWalk es d = cond (anyWalk isInArray es d) inArray (cond (anyWalk isNoObject
 abbrev pub isPair : FoundPair → Bool
 isPair (Pair row other) = true
 isPair Nothing = false
+
+-- what is found among the entries that the first n words list: a pair just if two of them clash, and then such a pair
+abbrev pub FindsClash : (t table rows : List ℕ) (n : ℕ) → FoundPair → Type 0
+FindsClash t table rows n r = ((ms : Members) → Listed t table rows 0 n ms → isPair r ≡ anyClash (entriesOf ms)) × Clashing t table r
 
 -- 25 and 26, by where the worst of the pointers leads
 abbrev pub byWalk : Walk → Condition

@@ -1,5 +1,5 @@
 -- What is written of a card for a language, before it is judged again; and what the functions that write it promise. Assumes nothing: these are definitions.
-use Prim.Native.Nat.{ℕ, _<_}
+use Prim.Native.Nat.{ℕ, _≤_, _<_}
 use mathlib.Core.Path.{_≡_}
 use mathlib.Core.List.{List}
 use mathlib.Core.Bool.{true, cond}
@@ -92,6 +92,10 @@ abbrev pub PutSorted : (card ctable : List ℕ) → (leave : ℕ) → (text tabl
 PutSorted card ctable leave text table rows n old new r =
     (g : Forest) (ms : Members) → BaseAt card ctable leave 0 true g → Listed text table rows 0 n ms → NoClash (entriesOf ms)
     → Wrote old 0 (written (patchedDoc (docOf card g) ms)) new r
+
+-- what is asked to write the card as the PatchObject at a row leaves it: the row is no larger than the table, and the list no longer than it need be
+abbrev pub MakeAsks : (table : List ℕ) (patch : ℕ) (rows : List ℕ) → Type 0
+MakeAsks table patch rows = (patch < length table) × (length rows ≤ mostEntries)
 
 -- the card as the PatchObject at a row of a table leaves it was written, or was not
 abbrev pub Makes : (card ctable : List ℕ) → (leave : ℕ) → (text table : List ℕ) → (patch : ℕ) → (old new : List ℕ) → Attempt → Type 0

@@ -34,6 +34,10 @@ rowOrder t table row other = pointerOrder (pointerOf (keyAt t table row)) (point
 abbrev pub mostEntries : ℕ
 mostEntries = base .values
 
+-- the first n words of a list, as many as there may be entries
+abbrev pub Few : (rows : List ℕ) (n : ℕ) → Type 0
+Few rows n = (n ≤ length rows) × (n ≤ mostEntries)
+
 -- the members that stand between two rows are listed by the first n words, where a card can have those rows and the list has room for as many; and n is
 -- never too many
 pub record Collected (table : List ℕ) (from end : ℕ) (rows : List ℕ) (n : ℕ) : Type 0 where

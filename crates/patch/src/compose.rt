@@ -17,8 +17,8 @@ ghost use mathlib.Core.Path.{_≡_};
 ghost use Prim.Native.Nat.{_≤_, _<_};
 ghost use lib.ListN.{length};
 ghost use Rattle.json.specs.Rows.{belowIn};
-ghost use Rattle.patch.specs.Entries.{mostEntries};
-ghost use Rattle.patch.specs.Drafts.{fittingOf, PutSorted, Makes, MakesFor};
+ghost use Rattle.patch.specs.Entries.{Few};
+ghost use Rattle.patch.specs.Drafts.{fittingOf, PutSorted, MakeAsks, Makes, MakesFor};
 
 // So many bytes were written, or nothing that counts.
 pub enum Attempt {
@@ -37,8 +37,7 @@ fn put_sorted(
     n: usize,
     out: &mut [u8],
 ) -> usize
-    requires { ⌜ n ≤ length (now rows) ⌝ }
-    requires { ⌜ n ≤ mostEntries ⌝ }
+    requires { ⌜ Few (now rows) n ⌝ }
     ensures { λ r. ⌜ PutSorted (now (card .entry)) (now («card_table» .entry)) leave (now (text .entry)) (now (table .entry)) (now (rows .entry)) n (now (out .entry)) (now (out .exit)) r ⌝ }
 {
     sort_rows(text, table, rows, n);
@@ -66,8 +65,7 @@ fn compose_on(
     rows: &mut [u32],
     out: &mut [u8],
 ) -> Attempt
-    requires { ⌜ patch < length (now table) ⌝ }
-    requires { ⌜ length (now rows) ≤ mostEntries ⌝ }
+    requires { ⌜ MakeAsks (now table) patch (now rows) ⌝ }
     ensures { λ r. ⌜ (belowIn (now (table .entry)) patch ≤ length (now (rows .entry)) → Makes (now (card .entry)) (now («card_table» .entry)) leave (now (text .entry)) (now (table .entry)) patch (now (out .entry)) (now (out .exit)) r) ⌝ }
 {
     let first = patch + 1;

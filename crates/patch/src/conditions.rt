@@ -15,9 +15,9 @@ ghost use Rattle.text.specs.Strings.{decode};
 ghost use Rattle.text.specs.Tree.{Forest};
 ghost use Rattle.text.specs.Doc.{Members, docOf};
 ghost use Rattle.json.specs.Lookup.{KnownAt};
-ghost use Rattle.contact.specs.Patch.{entriesOf, anyClash, isInArray, isNoObject};
+ghost use Rattle.contact.specs.Patch.{entriesOf, isInArray, isNoObject};
 ghost use Rattle.patch.specs.Entries.{Listed};
-ghost use Rattle.patch.specs.Conditions.{isFaulty, anyFaulty, isPair, Clashing, worstWalk, byWalk, conditionOf};
+ghost use Rattle.patch.specs.Conditions.{isFaulty, anyFaulty, isPair, FindsClash, worstWalk, byWalk, conditionOf};
 ghost use Rattle.patch.specs.Paths.{walkOf};
 
 // What is wrong with one key by itself.
@@ -59,8 +59,7 @@ enum FoundPair {
 // 24: is a pointer a prefix of another? The search ends at the first pair found.
 fn first_clash(text: &[u8], table: &[u32], rows: &[u32], n: usize) -> FoundPair
     requires { ⌜ n ≤ length (now rows) ⌝ }
-    ensures { λ r. ⌜ ((ms : Members) → Listed (now (text .entry)) (now (table .entry)) (now (rows .entry)) 0 n ms → isPair r ≡ anyClash (entriesOf ms)) ⌝ }
-    ensures clashing { λ r. ⌜ Clashing (now (text .entry)) (now (table .entry)) r ⌝ }
+    ensures { λ r. ⌜ FindsClash (now (text .entry)) (now (table .entry)) (now (rows .entry)) n r ⌝ }
 {
     let mut found = FoundPair::Nothing;
     'pairs: for i in 0..n {

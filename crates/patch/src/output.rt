@@ -9,7 +9,7 @@ ghost use Prim.Native.Nat.{_<_, _≤_};
 ghost use lib.Dec.{ltb};
 ghost use lib.ListN.{length};
 ghost use lib.Seq.{sets};
-ghost use Rattle.laws.specs.Lists.{partOf};
+ghost use Rattle.laws.specs.Lists.{partOf, Inside};
 ghost use Rattle.text.specs.Doc.{labelAt};
 ghost use Rattle.text.specs.Writing.{comma, smallHex, shortOf, spelledByte, spelled, coded};
 ghost use Rattle.json.specs.Cursors.{rest};
@@ -42,8 +42,7 @@ fn smaller(a: usize, b: usize) -> usize
 
 // Stores the bytes of a text from one place up to another, as far as there is room: one run, whose end is known before it begins.
 fn store_run(text: &[u8], from: usize, to: usize, out: &mut [u8], at: usize)
-    requires { ⌜ from ≤ to ⌝ }
-    requires { ⌜ to ≤ length (now text) ⌝ }
+    requires { ⌜ Inside (now text) from to ⌝ }
     ensures { λ _. ⌜ now (out .exit) ≡ sets (now (out .entry)) at (partOf (now (text .entry)) from to) ⌝ }
 {
     if out.len() <= at {

@@ -23,8 +23,9 @@ use pointers::parts::Onward;
 use pointers::parts::next_part;
 ghost use mathlib.Core.Path.{_≡_};
 ghost use mathlib.Core.Bool.{Bool};
-ghost use Prim.Native.Nat.{_<_, _≤_};
+ghost use Prim.Native.Nat.{_+_, _≤_};
 ghost use lib.ListN.{length};
+ghost use Rattle.laws.specs.Lists.{Inside};
 ghost use Rattle.text.specs.Tree.{Forest};
 ghost use Rattle.text.specs.Doc.{seek, isThere};
 ghost use Rattle.json.specs.Cursors.{rest};
@@ -32,7 +33,7 @@ ghost use Rattle.contact.specs.Pointer.{pointerOf};
 ghost use Rattle.pointers.specs.Parts.{partLeft};
 ghost use Rattle.patch.specs.Written.{Wrote};
 ghost use Rattle.patch.specs.Copied.{openByte, closeByte, headOf, labelIn, Copied};
-ghost use Rattle.patch.specs.Patched.{InRows, membersIn, BaseAt, IsAdded, PutAddition, PutAdditions, Ending, PutReplaced, PutMember, PutValue, PutCard, isEnd};
+ghost use Rattle.patch.specs.Patched.{RunAsks, membersIn, BaseAt, IsAdded, PutAddition, PutAdditions, Ending, PutReplaced, PutMember, PutValue, PutCard, isEnd};
 
 // Where the next byte goes, and whether the next member is the first of its object.
 struct Pen {
@@ -190,7 +191,7 @@ fn put_additions(
     out: &mut [u8],
     from: Pen,
 ) -> usize
-    requires { ⌜ InRows (now rows) (run .lo) (run .hi) ⌝ }
+    requires { ⌜ Inside (now rows) (run .lo) (run .hi) ⌝ }
     ensures { λ r. ⌜ PutAdditions (now (text .entry)) (now (table .entry)) row leave (now (ptext .entry)) (now (ptable .entry)) (now (rows .entry)) (run .lo) (run .hi) (run .parts) (now (out .entry)) from (now (out .exit)) r ⌝ }
 {
     let parts = run.parts;
@@ -225,7 +226,7 @@ fn ends_first(
     hi: usize,
     parts: usize,
 ) -> bool
-    requires { ⌜ InRows (now rows) lo hi ⌝ }
+    requires { ⌜ Inside (now rows) lo hi ⌝ }
     ensures { λ r. ⌜ Ending (now (ptext .entry)) (now (ptable .entry)) (now (rows .entry)) lo hi parts r ⌝ }
 {
     if hi <= lo {
@@ -273,8 +274,7 @@ fn put_member(
     out: &mut [u8],
     from: Pen,
 ) -> Pen
-    requires { ⌜ InRows (now rows) (run .lo) (run .hi) ⌝ }
-    requires { ⌜ run .parts < row ⌝ }
+    requires { ⌜ RunAsks (now rows) (run .lo) (run .hi) (run .parts + 1) row ⌝ }
     ensures { λ r. ⌜ PutMember (now (text .entry)) (now (table .entry)) row leave (now (ptext .entry)) (now (ptable .entry)) (now (rows .entry)) (run .lo) (run .hi) (run .parts) (now (out .entry)) from (now (out .exit)) r ⌝ }
 {
     if row == leave {
@@ -311,8 +311,7 @@ fn put_value(
     out: &mut [u8],
     at: usize,
 ) -> usize
-    requires { ⌜ InRows (now rows) (run .lo) (run .hi) ⌝ }
-    requires { ⌜ run .parts ≤ row ⌝ }
+    requires { ⌜ RunAsks (now rows) (run .lo) (run .hi) (run .parts) row ⌝ }
     ensures { λ r. ⌜ PutValue (now (text .entry)) (now (table .entry)) row leave (now (ptext .entry)) (now (ptable .entry)) (now (rows .entry)) (run .lo) (run .hi) (run .parts) (now (out .entry)) at (now (out .exit)) r ⌝ }
 {
     if kind(table, row) != OBJECT {

@@ -11,10 +11,11 @@ use Rattle.text.specs.Tree.{Forest}
 use Rattle.text.specs.Standing.{StandsTo}
 use Rattle.text.specs.Firsts.{insideAt}
 use Rattle.text.specs.Doc.{Name, Doc, Property, docOf, membersOf, kindOf, tokenOf, childrenOf, seek}
-use Rattle.text.proofs.Promise.{first-row, first-room, inside, doc-kind, doc-token, doc-below}
+use Rattle.text.proofs.Promise.{first-row, first-room, doc-kind, doc-token, doc-below}
 use Rattle.contact.specs.Rules.{isThisString, hasKind}
 use Rattle.json.specs.Rows.{kindIn, startIn, endIn, belowIn}
-use Rattle.json.specs.Lookup.{Finds}
+use Rattle.json.specs.Lookup.{lastRow, rowAfter, Finds}
+use Rattle.json.proofs.Seeking.{row-after, members-stand}
 use Rattle.card.specs.Rows.{ValueAt, RowOf, ValueOf}
 use Rattle.json.specs.declared.lookup.Found.{Found}
 use Rattle.json.specs.declared.lookup.Found.the-variants.{Row, Nothing}
@@ -30,9 +31,9 @@ module _ (text : List ℕ) {t : List ℕ} {k : ℕ} (f : Forest) (v : ValueAt t 
       let r = first-row f (v .some) (v .stands) in
       doc-token text f (v .some) (omega (arith, r .kind)) ∙ rw (r .start, r .finish)
 
-  -- its members stand from the next row on
-  pub value-members : StandsTo t (k + 1) (k + 1 + belowIn t k) (insideAt f)
-  value-members = rw (first-row f (v .some) (v .stands) .below) (inside f (v .some) (v .stands))
+  -- its members stand from the next row on, up to the row after it
+  pub value-members : {r : ℕ} → r ≡ rowAfter t k → k < lastRow → StandsTo t (k + 1) r (insideAt f)
+  value-members e lt = members-stand (v .some) (v .stands) (row-after t k e lt)
 
   pub value-room : (k + 1 + belowIn t k) * rowWords ≤ length t
   value-room = omega (arith, first-row f (v .some) (v .stands) .below, first-room f (v .some) (v .stands))

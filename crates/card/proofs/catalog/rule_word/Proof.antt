@@ -13,7 +13,7 @@ use Rattle.card.proofs.catalog.rule_word.Tie as tie
 
 -- what the number at hand says
 told : (c : tie.Start) → let a = c .args in WordBy (getD (now (a .numbers)) (rulesFrom + a .i * ruleWidth + 1 + a .j) 0) (getD (ruleWords (ruleAt (a .i))) (a .j) [])
-told c = c .pre .0 .numbers-are .word (c .args .i) (c .pre .1 .0) (c .args .j) (c .pre .1 .1)
+told c = c .pre .0 .numbers-are .word (c .args .i) (c .pre .1) (c .args .j) (c .pre .2)
 
 cast-size : tie.Need-cast-size
 cast-size c = omega (arith, told (c .before .before .before) .fits)

@@ -17,9 +17,6 @@ returns : tie.Need-returns
 unfolding isCounted
 returns c = λ f s. rw (eq-eqb (length (now (c .before .before .before .before .before .before .args .name))) 0 (c .if1 .taken))
 
-present-requires : tie.Need-present-requires
-present-requires c κs = c .before .before .before .before .before .before .pre
-
 returns-2 : tie.Need-returns-2
 unfolding isCounted
 returns-2 c =
@@ -41,4 +38,4 @@ returns-3 c =
     (λ (x : Option Doc). false ≡ isThere x) (c .enum-told2 .given .1) refl)
 
 pub counts-spec : {M : Type 1} → statement M
-counts-spec = tie.close (tie.spec returns present-requires (λ c. search needs) (λ c. search needs) returns-2 returns-3)
+counts-spec = tie.close (tie.spec returns (λ c κs. search needs) (λ c. search needs) (λ c. search needs) returns-2 returns-3)

@@ -3,9 +3,9 @@ use native.Mathlib.Omega.{arith}
 use borrow.Author.Needs.{needs}
 use denote.Ref.{now}
 use borrow.Author.Tests.{eq-eqb, ne-eqb}
-use mathlib.Core.List.{[]}
 use Rattle.text.specs.Firsts.{insideAt}
 use Rattle.contact.specs.Rules.{isSeparator}
+use Rattle.json.proofs.Seeking.{row-inside}
 use Rattle.card.proofs.Judging.Values.{value-kind, value-members, value-below, value-room}
 use Rattle.card.proofs.rules.is_separator.Statement.{statement}
 use Rattle.card.proofs.rules.is_separator.Tie as tie
@@ -17,17 +17,12 @@ returns c =
     let a = c .before .before .before .before .args in
     rw (← value-kind (now (a .text)) f v, ← c .before .kind .ensures, ne-eqb (c .before .kind .result) 7 (c .if1 .taken))
 
-next-row-requires : tie.Need-next-row-requires
-next-row-requires c κs = c .before .before .before .before .pre
-
+-- an object is one of the table
 add-has-string : tie.Need-add-has-string
-add-has-string c = omega (arith, value-room [] (c .before .before .before .before .before .pre .0) (c .before .before .before .before .before .pre .1))
-
-has-string-requires : tie.Need-has-string-requires
-has-string-requires c κs =
-    let p = c .before .before .before .before .before .before .before .pre in
-    let a = c .before .before .before .before .before .before .before .args in
-    (insideAt (p .0), rw (c .before .before .next-row .ensures) (value-members (now (a .text)) (p .0) (p .1)))
+add-has-string c =
+    let a = c .before .before .before .before .before .args in
+    let kind = c .before .before .kind in
+    omega (arith, row-inside (now (a .table)) (a .k) (omega (arith, kind .ensures, c .before .if1 .left)))
 
 returns-2 : tie.Need-returns-2
 unfolding isSeparator
@@ -39,7 +34,7 @@ returns-2 c =
     let if1 = c .before .before .before .before .if1 in
     let next-row = c .before .before .before .next-row in
     rw (← value-kind text f v, ← kind .ensures, eq-eqb (kind .result) 7 (if1 .left), value-below text f)
-    (c .has-string .ensures (insideAt f) (rw (next-row .ensures) (value-members text f v)))
+    (c .has-string .ensures (insideAt f) (value-members text f v (next-row .ensures) (omega (arith, value-room text f v))))
 
 pub is-separator-spec : {M : Type 1} → statement M
 is-separator-spec =
@@ -47,9 +42,9 @@ is-separator-spec =
     (tie.spec
     (λ c κs. search needs)
     returns
-    next-row-requires
+    (λ c κs. search needs)
     add-has-string
     (λ c. search needs)
     (λ c. search needs)
-    has-string-requires
+    (λ c κs. search needs)
     returns-2)

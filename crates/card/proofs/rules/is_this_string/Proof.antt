@@ -6,9 +6,6 @@ use Rattle.contact.specs.Rules.{present}
 use Rattle.card.proofs.rules.is_this_string.Statement.{statement}
 use Rattle.card.proofs.rules.is_this_string.Tie as tie
 
-present-requires : tie.Need-present-requires
-present-requires c κs = c .before .before .before .before .before .before .pre
-
 returns : tie.Need-returns
 returns c =
     λ f s.
@@ -16,4 +13,4 @@ returns c =
     c .is-string-at .ensures (present (a .object .of) (now (a .name)) (membersOf (now (a .text)) f)) (c .before .present .ensures f s)
 
 pub is-this-string-spec : {M : Type 1} → statement M
-is-this-string-spec = tie.close (tie.spec present-requires (λ c κs. search needs) returns)
+is-this-string-spec = tie.close (tie.spec (λ c κs. search needs) (λ c κs. search needs) returns)

@@ -11,9 +11,6 @@ use Rattle.card.proofs.Judging.Values.{value-kind, by-found, by-nothing
 use Rattle.card.proofs.rules.is_true.Statement.{statement}
 use Rattle.card.proofs.rules.is_true.Tie as tie
 
-present-requires : tie.Need-present-requires
-present-requires c κs = c .before .before .before .before .before .pre
-
 returns : tie.Need-returns
 returns c =
     λ f s.
@@ -31,4 +28,4 @@ returns-2 c =
     (λ (x : Option Doc). false ≡ isTrue x) (c .enum-told .given .1) refl
 
 pub is-true-spec : {M : Type 1} → statement M
-is-true-spec = tie.close (tie.spec present-requires (λ c. search needs) (λ c κs. search needs) (λ c. search needs) returns returns-2)
+is-true-spec = tie.close (tie.spec (λ c κs. search needs) (λ c. search needs) (λ c κs. search needs) (λ c. search needs) returns returns-2)

@@ -27,9 +27,6 @@ returns c =
     (row-of text table (a .object .end) (now (a .name)) f (find .result) (find .ensures f s))
     (λ (p : Option Property). ValueOf text table Nothing (ifFits (typeIn (properties (a .object .of)) (now (a .name))) p)) (c .enum-told .given .1) tt
 
-type-in-requires : tie.Need-type-in-requires
-type-in-requires c κs = c .before .before .before .before .before .before .before .before .before .before .before .pre .0
-
 returns-2 : tie.Need-returns-2
 returns-2 c =
     λ f s.
@@ -53,4 +50,4 @@ returns-3 c =
     (sym (rw (c .before .before .before .type-of .ensures, c .before .before .kind .ensures) at (c .before .kind-fits .ensures)) ∙ c .if1 .left)
 
 pub present-spec : {M : Type 1} → statement M
-present-spec = tie.close (tie.spec (λ c κs. search needs) (λ c. search needs) (λ c. search needs) returns (λ c κs. search needs) (λ c κs. search needs) type-in-requires (λ c κs. search needs) (λ c κs. search needs) (λ c κs. search needs) returns-2 returns-3)
+present-spec = tie.close (tie.spec (λ c κs. search needs) (λ c. search needs) (λ c. search needs) returns (λ c κs. search needs) (λ c κs. search needs) (λ c κs. search needs) (λ c κs. search needs) (λ c κs. search needs) (λ c κs. search needs) returns-2 returns-3)

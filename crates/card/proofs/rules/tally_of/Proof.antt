@@ -1,12 +1,14 @@
 -- `card::rules::tally_of` meets its contract: a walk along the entries. The measure is the rows left. Assumes nothing.
 use mathlib.Core.Path.{_≡_, sym}
-use Prim.Native.Nat.{_-_}
+use Prim.Native.Nat.{_+_, _-_}
 use native.Mathlib.Omega.{arith}
 use borrow.Author.Needs.{needs}
 use denote.Ref.{now}
+use Rattle.json.specs.Rows.{belowIn}
+use Rattle.json.proofs.Seeking.{row-after}
 use Rattle.card.specs.Marks.{noMarks}
 use Rattle.card.specs.declared.rules.Marks.{Marks}
-use Rattle.card.proofs.Judging.Along.{Along, along, along-here, along-on, along-end}
+use Rattle.card.proofs.Judging.Along.{along, along-on, along-end, Along}
 use Rattle.card.proofs.Judging.Separators.{tallyIn, tally-on, tally-end}
 use Rattle.card.proofs.rules.tally_of.Statement.{statement}
 use Rattle.card.proofs.rules.tally_of.Tie as tie
@@ -20,35 +22,14 @@ abbrev μ-loop : tie.MeasureT-loop
 loop-holds : tie.Need-loop-holds Inv-loop μ-loop
 loop-holds c = rw (c .no-marks .ensures) (along _ _ _ _)
 
-is-separator-requires : tie.Need-is-separator-requires Inv-loop μ-loop
-is-separator-requires c κs =
-    let a = c .before .before .before .before .before .args in
-    let text = now (a .text) in
-    let p = c .before .before .before .before .before .pre in
-    let (ws, v, le) = along-here (now (a .table)) (a .from) (a .end) (tallyIn text noMarks) (c .before .loop .at) (tallyIn text (c .before .loop .m))
-    (c .before .loop .inv) (p .0) (p .1) (c .loop-test .taken) in
-    (ws, v)
-
-next-row-requires : tie.Need-next-row-requires Inv-loop μ-loop
-next-row-requires c κs =
-    let a = c .before .before .before .before .before .before .before .args in
-    let text = now (a .text) in
-    let p = c .before .before .before .before .before .before .before .pre in
-    let loop = c .before .before .before .loop in
-    let (ws, v, le) = along-here (now (a .table)) (a .from) (a .end) (tallyIn text noMarks) (loop .at) (tallyIn text (loop .m)) (loop .inv) (p .0)
-    (p .1) (c .before .before .loop-test .taken) in
-    (ws, v)
+-- where the walk goes on
+steps : (c : tie.After-next-row Inv-loop μ-loop)
+    → let at = c .before .before .before .before .loop .at in
+    c .next-row .result ≡ at + 1 + belowIn (now (c .before .before .before .before .before .before .before .before .args .table)) at
+steps c = row-after _ _ (c .next-row .ensures) (omega (arith, c .before .before .before .loop-test .taken))
 
 loop-less : tie.Need-loop-less Inv-loop μ-loop
-loop-less c =
-    let a = c .before .before .before .before .before .before .before .before .args in
-    let text = now (a .text) in
-    let p = c .before .before .before .before .before .before .before .before .pre in
-    let loop = c .before .before .before .before .loop in
-    let loop-test = c .before .before .before .loop-test in
-    let (ws, v, le) = along-here (now (a .table)) (a .from) (a .end) (tallyIn text noMarks) (loop .at) (tallyIn text (loop .m)) (loop .inv) (p .0)
-    (p .1) (loop-test .taken) in
-    omega (arith, c .next-row .ensures, loop-test .taken)
+loop-less c = omega (arith, steps c, c .before .before .before .loop-test .taken)
 
 loop-again : tie.Need-loop-again Inv-loop μ-loop
 loop-again c =
@@ -59,7 +40,7 @@ loop-again c =
     let is-separator = c .before .before .is-separator in
     along-on (now (a .table)) (a .from) (a .end) (tallyIn text noMarks) (loop .at) (tallyIn text (loop .m)) (loop .inv) (loop-test .taken)
     (tallyIn text (c .before .marked .result)) (λ ws v. tally-on text (loop .m) (c .before .marked .result) (is-separator .result)
-    (c .before .marked .ensures) ws v (is-separator .ensures ws v)) (c .next-row .result) (c .next-row .ensures)
+    (c .before .marked .ensures) ws v (is-separator .ensures ws v)) (c .next-row .result) (steps c)
 
 returns : tie.Need-returns Inv-loop μ-loop
 returns c =
@@ -76,9 +57,9 @@ tally-of-spec =
     μ-loop
     (λ c κs. search needs)
     loop-holds
-    is-separator-requires
     (λ c κs. search needs)
-    next-row-requires
+    (λ c κs. search needs)
+    (λ c κs. search needs)
     loop-less
     loop-again
     returns)

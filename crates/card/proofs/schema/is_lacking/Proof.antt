@@ -22,7 +22,7 @@ abbrev μ-loop : tie.MeasureT-loop
 μ-loop words numbers text table object last i₀ i = last - i
 
 lines-of-requires : tie.Need-lines-of-requires Inv-loop μ-loop
-lines-of-requires c κs = c .before .before .before .before .pre .0 .numbers-are
+lines-of-requires c κs = c .before .before .before .before .pre .numbers-are
 
 loop-holds : tie.Need-loop-holds Inv-loop μ-loop
 loop-holds c = λ f s. left-starts _ _ _ _ _ _ _ _ (c .lines-of .ensures)
@@ -31,7 +31,7 @@ is-missing-requires : tie.Need-is-missing-requires Inv-loop μ-loop
 is-missing-requires c κs =
     let p = c .before .before .before .before .before .before .before .pre in
     let s = c .before .before .lines-of .ensures in
-    (p .0, (omega (arith, s .within, lines-length, c .loop-test .taken), p .1))
+    (p, omega (arith, s .within, lines-length, c .loop-test .taken))
 
 returns : tie.Need-returns Inv-loop μ-loop
 returns c =

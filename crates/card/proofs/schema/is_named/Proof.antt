@@ -11,27 +11,27 @@ use Rattle.card.proofs.schema.is_named.Statement.{statement}
 use Rattle.card.proofs.schema.is_named.Tie as tie
 
 may-be-requires : tie.Need-may-be-requires
-may-be-requires c κs = let p = c .before .before .before .pre in omega (arith, lent-length (p .0), p .1 .0)
+may-be-requires c κs = let p = c .before .before .before .pre in omega (arith, lent-length (p .0), p .1)
 
 returns : tie.Need-returns
 returns c =
     let a = c .before .before .before .before .before .args in
     let p = c .before .before .before .before .before .pre in
-    let told = rw (p .1 .1) at (c .before .may-be .ensures) in
-    lent-apart (p .0) (a .i) (p .1 .0) (now (a .text)) (a .s) (a .e) (sym told ∙ denied (c .before .may-be .result) (c .if1 .taken))
+    let told = rw (p .2) at (c .before .may-be .ensures) in
+    lent-apart (p .0) (a .i) (p .1) (now (a .text)) (a .s) (a .e) (sym told ∙ denied (c .before .may-be .result) (c .if1 .taken))
 
 cast-size : tie.Need-cast-size
-cast-size c = let p = c .before .before .before .before .before .before .pre in omega (arith, lent-short (p .0) (c .before .before .before .before .before .before .args .i) (p .1 .0))
+cast-size c = let p = c .before .before .before .before .before .before .pre in omega (arith, lent-short (p .0) (c .before .before .before .before .before .before .args .i) (p .1))
 
 sized-word-requires : tie.Need-sized-word-requires
 sized-word-requires c κs =
-    let p = c .before .before .before .before .before .before .pre in omega (arith, lent-length (p .0), p .1 .0, lent-short (p .0) (c .before .before .before .before .before .before .args .i) (p .1 .0))
+    let p = c .before .before .before .before .before .before .pre in omega (arith, lent-length (p .0), p .1, lent-short (p .0) (c .before .before .before .before .before .before .args .i) (p .1))
 
 returns-2 : tie.Need-returns-2
 returns-2 c =
     let a = c .before .before .before .before .before .before .before .before .args in
     let p = c .before .before .before .before .before .before .before .before .pre in
-    c .name-is .ensures ∙ ap (same (nameOf (now (a .text)) (a .s) (a .e))) (c .before .sized-word .ensures ∙ lent-spelled (p .0) (a .i) (p .1 .0))
+    c .name-is .ensures ∙ ap (same (nameOf (now (a .text)) (a .s) (a .e))) (c .before .sized-word .ensures ∙ lent-spelled (p .0) (a .i) (p .1))
 
 pub is-named-spec : {M : Type 1} → statement M
 is-named-spec =

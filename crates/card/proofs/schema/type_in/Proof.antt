@@ -30,7 +30,7 @@ inside : (c : tie.In-loop Inv-loop μ-loop) → c .before .loop .i < count
 inside c = omega (arith, c .before .before .lines-of .ensures .within, lines-length, c .loop-test .taken)
 
 is-named-requires : tie.Need-is-named-requires Inv-loop μ-loop
-is-named-requires c κs = (c .before .before .before .before .before .before .before .pre, (inside c, c .before .before .before .peek .ensures .0))
+is-named-requires c κs = (c .before .before .before .before .before .before .before .pre, inside c, c .before .before .before .peek .ensures .0)
 
 mul-code : tie.Need-mul-code Inv-loop μ-loop
 mul-code c = omega (arith, inside (c .before .before), c .before .before .before .before .before .before .before .before .before .pre .numbers-are .long)

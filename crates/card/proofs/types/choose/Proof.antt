@@ -10,9 +10,6 @@ use Rattle.card.proofs.Judging.Roles.{itself-chosen}
 use Rattle.card.proofs.types.choose.Statement.{statement}
 use Rattle.card.proofs.types.choose.Tie as tie
 
-is-of-requires : tie.Need-is-of-requires
-is-of-requires c κs = c .before .before .before .before .before .before .before .before .pre
-
 -- a choice of two stands there
 chosen-of : (c : tie.After-is-of)
     → typeAt (c .before .before .before .before .before .before .before .before .before .args .code) ≡ byType (c .before .before .usual .given .0 .0) (c .before .before .usual .given .0 .1 .0)
@@ -41,4 +38,4 @@ returns-4 c =
 
 pub choose-spec : {M : Type 1} → statement M
 choose-spec =
-    tie.close (tie.spec (λ c κs. search needs) (λ c κs. search needs) (λ c. search needs) (λ c. search needs) is-of-requires object-of-requires returns object-of-requires-2 (λ c. search needs) returns-2 returns-3 returns-4)
+    tie.close (tie.spec (λ c κs. search needs) (λ c κs. search needs) (λ c. search needs) (λ c. search needs) (λ c κs. search needs) object-of-requires returns object-of-requires-2 (λ c. search needs) returns-2 returns-3 returns-4)

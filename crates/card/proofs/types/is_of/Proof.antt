@@ -1,6 +1,5 @@
 -- `card::types::is_of` meets its contract, by the rows of the value. Assumes nothing.
 use mathlib.Core.Path.{ap, _∙_}
-use mathlib.Core.List.{[]}
 use native.Mathlib.Omega.{arith}
 use borrow.Author.Needs.{needs}
 use borrow.Author.Tests.{eq-eqb, ne-eqb}
@@ -10,6 +9,7 @@ use Rattle.text.specs.Firsts.{insideAt}
 use Rattle.text.specs.Doc.{Name, membersOf, seek}
 use Rattle.contact.specs.Rules.{hasKind}
 use Rattle.contact.specs.Judge.{isOf}
+use Rattle.json.proofs.Seeking.{row-inside}
 use Rattle.card.proofs.Judging.Values.{value-kind, value-members, value-below, value-room}
 use Rattle.card.proofs.types.is_of.Statement.{statement}
 use Rattle.card.proofs.types.is_of.Tie as tie
@@ -21,19 +21,12 @@ returns c =
     let a = c .before .before .before .before .before .args in
     rw (← value-kind (now (a .text)) f v, ← c .before .kind .ensures, ne-eqb (c .before .kind .result) 7 (c .if1 .taken))
 
-next-row-requires : tie.Need-next-row-requires
-next-row-requires c κs = c .before .before .before .before .before .pre .1
-
+-- an object is one of the table
 add-has-string : tie.Need-add-has-string
-add-has-string c = let (f, v) = c .before .before .before .before .before .before .pre .1 in omega (arith, value-room [] f v)
-
-type-name-requires : tie.Need-type-name-requires
-type-name-requires c κs = c .before .before .before .before .before .before .before .pre .0
-
-has-string-requires : tie.Need-has-string-requires
-has-string-requires c κs =
-    let (f, v) = c .before .before .before .before .before .before .before .before .pre .1 in
-    (insideAt f, rw (c .before .before .next-row .ensures) (value-members (now (c .before .before .before .before .before .before .before .before .args .text)) f v))
+add-has-string c =
+    let a = c .before .before .before .before .before .before .args in
+    let kind = c .before .before .kind in
+    omega (arith, row-inside (now (a .table)) (a .k) (omega (arith, kind .ensures, c .before .if1 .left)))
 
 returns-2 : tie.Need-returns-2
 unfolding isOf
@@ -43,10 +36,10 @@ returns-2 c =
     let text = now (a .text) in
     let kind = c .before .before .before .before .before .kind in
     rw (← value-kind text f v, ← kind .ensures, eq-eqb (kind .result) 7 (c .before .before .before .before .if1 .left), value-below text f)
-    (c .has-string .ensures (insideAt f) (rw (c .before .before .before .next-row .ensures) (value-members text f v))
+    (c .has-string .ensures (insideAt f) (value-members text f v (c .before .before .before .next-row .ensures) (omega (arith, value-room text f v)))
     ∙ ap (λ (n : Name). hasKind n (seek (bytes "@type") (membersOf text (insideAt f)))) (c .before .type-name .ensures))
 
 pub is-of-spec : {M : Type 1} → statement M
 is-of-spec =
     tie.close
-    (tie.spec (λ c κs. search needs) returns next-row-requires add-has-string (λ c. search needs) type-name-requires has-string-requires returns-2)
+    (tie.spec (λ c κs. search needs) returns (λ c κs. search needs) add-has-string (λ c. search needs) (λ c κs. search needs) (λ c κs. search needs) returns-2)

@@ -1,5 +1,6 @@
 -- `card::types::member_type` meets its contract. Assumes nothing.
 use mathlib.Core.Path.{ap, _∙_}
+use borrow.Author.Needs.{needs}
 use denote.Ref.{now}
 use Rattle.text.specs.Doc.{docOf}
 use Rattle.contact.specs.Schema as S
@@ -7,11 +8,8 @@ use Rattle.contact.specs.Judge.{chosen}
 use Rattle.card.proofs.types.member_type.Statement.{statement}
 use Rattle.card.proofs.types.member_type.Tie as tie
 
-type-below-requires : tie.Need-type-below-requires
-type-below-requires c κs = c .before .before .before .before .pre .0
-
 choose-requires : tie.Need-choose-requires
-choose-requires c κs = let p = c .before .before .before .before .before .pre in (p .0 .words-are, p .1)
+choose-requires c κs = c .before .before .before .before .before .pre .words-are
 
 returns : tie.Need-returns
 returns c =
@@ -20,4 +18,4 @@ returns c =
     c .choose .ensures f v ∙ ap (λ (t : S.Ty). chosen t (docOf (now (a .text)) f)) (c .before .type-below .ensures)
 
 pub member-type-spec : {M : Type 1} → statement M
-member-type-spec = tie.close (tie.spec type-below-requires choose-requires returns)
+member-type-spec = tie.close (tie.spec (λ c κs. search needs) choose-requires returns)

@@ -1,6 +1,6 @@
 -- `card::walk::breach_at` meets its contract. Assumes nothing.
-use mathlib.Core.Path.{sym, ap, _∙_}
-use Prim.Native.Nat.{_-_}
+use mathlib.Core.Path.{_≡_, sym, ap, _∙_}
+use Prim.Native.Nat.{_+_, _-_}
 use native.Mathlib.Omega.{arith}
 use lib.ListN.{length}
 use denote.Ref.{now}
@@ -9,6 +9,8 @@ use Rattle.text.specs.Tree.{Forest}
 use Rattle.text.specs.Firsts.{Kinds}
 use Rattle.text.specs.Doc.{docOf}
 use Rattle.text.proofs.Promise.{first-room}
+use Rattle.json.specs.Rows.{belowIn}
+use Rattle.json.proofs.Seeking.{row-after}
 use Rattle.card.specs.Types.{typeAt}
 use Rattle.card.specs.Rows.{ValueAt}
 use Rattle.card.specs.Walk.{foundOf}
@@ -19,11 +21,11 @@ use borrow.Fn.PlainCycle.{Measures, is, falls, and}
 use Rattle.card.proofs.walk.breach_at.Reads as breach-at
 use Rattle.card.proofs.walk.breach_at.Kinds as breach-at-kinds
 use Rattle.card.proofs.walk.+breach_at.Lts-breach_at as breach-at-lts
-use Rattle.card.proofs.inside.next_row.Reads as next-row-reads
 use Rattle.card.proofs.types.key_fits.Reads as key-fits-reads
 use Rattle.card.proofs.types.member_type.Reads as member-type-reads
 use Rattle.card.proofs.walk.is_free.Reads as is-free-reads
 use Rattle.card.proofs.walk.row_number.Reads as row-number-reads
+use Rattle.json.proofs.lookup.next_row.Reads as next-row-reads
 use Rattle.json.proofs.rows.name_end.Reads as name-end-reads
 use Rattle.json.proofs.rows.name_start.Reads as name-start-reads
 use Rattle.card.proofs.walk.+breach_at.{statement}
@@ -73,7 +75,7 @@ breach-at-returns t c =
     breach-free (typeAt (a .code)) (a .key) (a .row) (docOf (now (a .text)) f) (c .before .is-free .ensures) (c .if1 .taken)
 
 breach-at-row-number-requires : (t : ℕ) → breach-at-lts.Need-row-number-requires (given t) (breach-at-at t) breach-at.Post breach-at-Inv-loop breach-at-μ-loop
-breach-at-row-number-requires t c κs = let p = c .before .before .before .before .before .before .pre .1 in (p .0, (p .1 .0, p .1 .1))
+breach-at-row-number-requires t c κs = c .before .before .before .before .before .before .pre .1
 
 breach-at-returns-2 : (t : ℕ) → breach-at-lts.Need-returns-2 (given t) (breach-at-at t) breach-at.Post breach-at-Inv-loop breach-at-μ-loop
 breach-at-returns-2 t c =
@@ -81,16 +83,13 @@ breach-at-returns-2 t c =
     let a = c .before .before .before .before .before .before .before .before .args in
     breach-row (typeAt (a .code)) (a .key) (a .row) (c .before .row-number .result) (docOf (now (a .text)) f) (c .if2 .taken) (c .before .row-number .ensures f v k)
 
-breach-at-next-row-requires : (t : ℕ) → breach-at-lts.Need-next-row-requires (given t) (breach-at-at t) breach-at.Post breach-at-Inv-loop breach-at-μ-loop
-breach-at-next-row-requires t c κs = let p = c .before .before .before .before .before .before .before .before .pre .1 .1 in (p .0, p .1)
-
 breach-at-add-first : (t : ℕ) → breach-at-lts.Need-add-first (given t) (breach-at-at t) breach-at.Post breach-at-Inv-loop breach-at-μ-loop
 breach-at-add-first t c = let (f, v, k) = c .before .before .before .before .before .before .before .before .before .pre .1 .1 in omega (arith, first-room f (v .some) (v .stands))
 
 breach-at-loop-holds : (t : ℕ) → breach-at-lts.Need-loop-holds (given t) (breach-at-at t) breach-at.Post breach-at-Inv-loop breach-at-μ-loop
 breach-at-loop-holds t c =
     let a = c .before .before .before .before .before .before .before .before .before .args in (
-      judging-starts (now (a .text)) (now (a .table)) (typeAt (a .code)) (a .key) (a .row) (c .next-row .result) (c .next-row .ensures)
+      judging-starts (now (a .text)) (now (a .table)) (typeAt (a .code)) (a .key) (a .row) (c .next-row .result) (row-after _ _ (c .next-row .ensures) (omega arith))
           (λ f v k. sym (c .before .if2 .left) ∙ c .before .before .row-number .ensures f v k),
       omega arith,
     )
@@ -104,15 +103,7 @@ ahead t c = c .before .loop .inv .0
 
 breach-at-member-type-requires : (t : ℕ) → breach-at-lts.Need-member-type-requires (given t) (breach-at-at t) breach-at.Post breach-at-Inv-loop breach-at-μ-loop
 breach-at-member-type-requires t c κs =
-    let p = c .before .before .before .before .before .before .before .before .before .before .before .before .before .pre .1 in
-    let h = ahead t (c .before .before) (p .1 .0) (p .1 .1) (p .1 .2) in
-    (p .0, (h .ahead, value-here h (c .before .before .loop-test .taken)))
-
-breach-at-key-fits-requires : (t : ℕ) → breach-at-lts.Need-key-fits-requires (given t) (breach-at-at t) breach-at.Post breach-at-Inv-loop breach-at-μ-loop
-breach-at-key-fits-requires t c κs =
-    let p = c .before .before .before .before .before .before .before .before .before .before .before .before .before .before .pre .1 in
-    let h = ahead t (c .before .before .before) (p .1 .0) (p .1 .1) (p .1 .2) in
-    (h .passed, h .passes)
+    c .before .before .before .before .before .before .before .before .before .before .before .before .before .pre .1 .0
 
 breach-at-breach-at-requires : (t : ℕ) → breach-at-lts.Need-breach-at-requires (given t) (breach-at-at t) breach-at.Post breach-at-Inv-loop breach-at-μ-loop
 breach-at-breach-at-requires t c κs =
@@ -138,14 +129,14 @@ breach-at-returns-3 t c =
     rw (c .enum-told .given .1) (judging-hit h lt (typeAt (member-type .result)) (key-fits .result) (foundOf (breach-at .result)) typed keyed is
     (c .enum-told .given .0 .0) (c .enum-told .given .0 .1 .0) (ap foundOf (c .enum-told .given .1)))
 
-breach-at-next-row-requires-2 : (t : ℕ) → breach-at-lts.Need-next-row-requires-2 (given t) (breach-at-at t) breach-at.Post breach-at-Inv-loop breach-at-μ-loop
-breach-at-next-row-requires-2 t c κs =
-    let p = c .before .before .before .before .before .before .before .before .before .before .before .before .before .before .before .before .before .before .pre .1 .1 in
-    let h = ahead t (c .before .before .before .before .before .before .before) (p .0) (p .1) (p .2) in
-    (h .ahead, value-here h (c .before .before .before .before .before .before .before .loop-test .taken))
+-- the row where the loop goes on
+steps : (t : ℕ) (c : breach-at-lts.After-next-row2 (given t) (breach-at-at t) breach-at.Post breach-at-Inv-loop breach-at-μ-loop)
+    → let at = c .before .before .before .before .before .before .before .before .before .loop .at in
+    c .next-row2 .result ≡ at + 1 + belowIn (now (c .before .before .before .before .before .before .before .before .before .before .before .before .before .before .before .before .before .before .before .args .table)) at
+steps t c = row-after _ _ (c .next-row2 .ensures) (omega (arith, c .before .before .before .before .before .before .before .before .loop-test .taken))
 
 breach-at-loop-less : (t : ℕ) → breach-at-lts.Need-loop-less (given t) (breach-at-at t) breach-at.Post breach-at-Inv-loop breach-at-μ-loop
-breach-at-loop-less t c = omega (arith, c .next-row2 .ensures)
+breach-at-loop-less t c = omega (arith, steps t c)
 
 breach-at-loop-again : (t : ℕ) → breach-at-lts.Need-loop-again (given t) (breach-at-at t) breach-at.Post breach-at-Inv-loop breach-at-μ-loop
 breach-at-loop-again t c = (
@@ -161,9 +152,9 @@ breach-at-loop-again t c = (
       let typed = rw (name-start .ensures, name-end .ensures) at (member-type .ensures (h .ahead) (value-here h lt)) in
       let keyed = key-fits .ensures (h .passed) (h .passes) in
       let is = breach-at .ensures (h .ahead) (value-here h lt) (h .kinds) in
-      rw (c .next-row2 .ensures) (judging-on h lt (typeAt (member-type .result)) (key-fits .result) (foundOf (breach-at .result)) typed keyed is
+      rw (steps t c) (judging-on h lt (typeAt (member-type .result)) (key-fits .result) (foundOf (breach-at .result)) typed keyed is
       (ap foundOf (c .before .enum-told2 .given .1)))),
-  omega arith,
+  omega (arith, steps t c, c .before .before .before .before .before .before .before .before .before .loop .inv .1),
 )
 
 breach-at-returns-4 : (t : ℕ) → breach-at-lts.Need-returns-4 (given t) (breach-at-at t) breach-at.Post breach-at-Inv-loop breach-at-μ-loop
@@ -179,18 +170,18 @@ pub +breach-at-spec : {M : Type 1} → statement M
     (breach-at-returns t)
     (breach-at-row-number-requires t)
     (breach-at-returns-2 t)
-    (breach-at-next-row-requires t)
+    (λ c κs. search needs)
     (breach-at-add-first t)
     (breach-at-loop-holds t)
     (λ c κs. search needs)
     (λ c κs. search needs)
     (breach-at-member-type-requires t)
-    (breach-at-key-fits-requires t)
+    (λ c κs. search needs)
     (breach-at-breach-at-requires t)
     (λ c. search needs)
     (breach-at-returns-3 t)
     (λ c. search needs)
-    (breach-at-next-row-requires-2 t)
+    (λ c κs. search needs)
     (breach-at-loop-less t)
     (breach-at-loop-again t)
     (breach-at-returns-4 t)

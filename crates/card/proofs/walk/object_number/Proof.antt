@@ -5,7 +5,7 @@ use Rattle.card.proofs.walk.object_number.Statement.{statement}
 use Rattle.card.proofs.walk.object_number.Tie as tie
 
 is-lacking-requires : tie.Need-is-lacking-requires
-is-lacking-requires c κs = c .before .before .before .before .pre
+is-lacking-requires c κs = c .before .before .before .before .pre .0
 
 returns : tie.Need-returns
 unfolding objectNumber

@@ -1,16 +1,16 @@
 -- `card::walk::row_number` meets its contract. Assumes nothing.
-use mathlib.Core.Path.{_≡_, sym, ap, _∙_}
-use Prim.Native.Nat.{_+_}
+use mathlib.Core.Path.{_≡_, sym, _∙_}
 use native.Mathlib.Omega.{arith}
 use denote.Ref.{now}
 use mathlib.Core.Bool.{Bool}
 use Rattle.text.specs.Tree.{Forest}
 use Rattle.text.specs.Firsts.{kindAt, insideAt}
-use Rattle.text.proofs.Promise.{first-row, first-room, inside}
+use Rattle.text.proofs.Promise.{first-row, first-room}
 use Rattle.contact.specs.Schema.{objectOf, byType, fits}
 use Rattle.card.specs.Types.{typeAt}
 use Rattle.card.specs.Rows.{ValueAt}
 use Rattle.laws.proofs.Picks.{granted, denied}
+use Rattle.card.proofs.Judging.Values.{value-members, value-room}
 use Rattle.card.proofs.Judging.Walk.{row-unfit, row-object, row-value, row-choice}
 use borrow.Author.Needs.{needs}
 use Rattle.card.proofs.walk.row_number.Statement.{statement}
@@ -27,21 +27,16 @@ returns c =
     let a = c .before .before .before .before .before .before .before .before .args in
     row-unfit (now (a .text)) f (v .some) (typeAt (a .code)) (a .key) (fit (c .before) (denied (c .before .kind-fits .result) (c .if1 .taken)) f v)
 
-next-row-requires : tie.Need-next-row-requires
-next-row-requires c κs =
-    let p = c .before .before .before .before .before .before .before .before .before .before .before .before .pre .1 in
-    (p .0, p .1)
-
 add-from : tie.Need-add-from
 add-from c =
-    let (f, v) = c .before .before .before .before .before .before .before .before .before .before .before .before .before .pre .1 in
+    let (f, v, _) = c .before .before .before .before .before .before .before .before .before .before .before .before .before .pre .1 in
     omega (arith, first-room f (v .some) (v .stands))
 
 object-number-requires : tie.Need-object-number-requires
 object-number-requires c κs =
     let a = c .before .before .before .before .before .before .before .before .before .before .before .before .before .args in
-    let (f, v) = c .before .before .before .before .before .before .before .before .before .before .before .before .before .pre .1 in
-    (c .before .before .before .before .before .before .before .before .before .before .before .before .before .pre .0, (insideAt f, (rw (c .next-row .ensures ∙ ap (λ m. a .row + 1 + m) (first-row f (v .some) (v .stands) .below)) (inside f (v .some) (v .stands)))))
+    let (f, v, _) = c .before .before .before .before .before .before .before .before .before .before .before .before .before .pre .1 in
+    (c .before .before .before .before .before .before .before .before .before .before .before .before .before .pre .0, (insideAt f, value-members (now (a .text)) f v (c .next-row .ensures) (omega (arith, value-room (now (a .text)) f v))))
 
 value-number-requires : tie.Need-value-number-requires
 value-number-requires c κs = c .before .before .before .before .before .before .before .before .before .before .before .pre .0 .words-are
@@ -58,7 +53,7 @@ returns-2 c =
     let ty : typeAt (c .before .before .before .before .before .before .before .before .before .before .before .before .before .before .args .code) ≡ objectOf (c .before .before .before .o .given .0 .0) = rw (o .given .1, c .before .before .before .before .before .before .before .before .before .type-of .ensures) at (c .before .before .before .before .before .role-of .ensures) in
     rw ty
     (c .object-number .ensures (insideAt f)
-    (rw (c .before .next-row .ensures ∙ ap (λ m. a .row + 1 + m) (first-row f (v .some) (v .stands) .below)) (inside f (v .some) (v .stands)))
+    (value-members (now (a .text)) f v (c .before .next-row .ensures) (omega (arith, value-room (now (a .text)) f v)))
     ∙ row-object (now (a .text)) f (v .some) (o .given .0 .0) (a .key)
     (rw ty at (fit (c .before .before .before .before .before .before .before) (granted (kind-fits .result) (c .before .before .before .before .before .before .if1 .left)) f v)))
 
@@ -91,7 +86,7 @@ row-number-spec =
     returns
     (λ c κs. search needs)
     (λ c. search needs)
-    next-row-requires
+    (λ c κs. search needs)
     add-from
     object-number-requires
     (λ c. search needs)

@@ -34,7 +34,7 @@ returns : tie.Need-returns
 returns c =
     let s = c .before .before .before .before in
     let a = s .args in
-    rw (c .enum-told .given .1) (element (a .text .now) (a .table .now) (a .first) (a .end) (a .at) (s .pre .1))
+    rw (c .enum-told .given .1) (element (a .text .now) (a .table .now) (a .first) (a .end) (a .at) (s .pre))
 
 returns-2 : tie.Need-returns-2
 returns-2 c =

@@ -3,10 +3,9 @@
 use mathlib.Core.Path.{_≡_, refl, sym, _∙_}
 use mathlib.Core.List.{List}
 use mathlib.Core.Bool.{Bool, true, cond}
-use Prim.Native.Nat.{ℕ, _+_, _*_, _-_}
+use Prim.Native.Nat.{ℕ, _+_, _-_}
 use native.Mathlib.Omega.{arith}
 use borrow.Author.Needs.{needs}
-use Rattle.text.specs.Limits.{rowWords}
 use Rattle.laws.specs.Order.{same}
 use Rattle.text.specs.Strings.{nameOf}
 use Rattle.text.specs.Tree.{Forest, none, leaf, node}
@@ -14,7 +13,8 @@ use Rattle.text.specs.Firsts.{HasFirst, nameStart, nameEnd, restAt}
 use Rattle.text.specs.Standing.{StandsTo}
 use Rattle.text.specs.Reader.{named}
 use Rattle.text.proofs.Standing.{first-row, Going, started, go-on, hit, ended}
-use Rattle.json.specs.Rows.{nameStartIn, nameEndIn}
+use Rattle.json.specs.Rows.{nameStartIn, nameEndIn, belowIn}
+use Rattle.json.proofs.Seeking.{row-after}
 use Rattle.json.proofs.members.named.Statement.{statement}
 use Rattle.json.proofs.members.named.Tie as tie
 
@@ -53,26 +53,24 @@ returns c =
     hit (a .table .now) (a .first) (a .end) (named (a .text .now) name) (l .row) (l .inv) (c .before .before .before .before .loop-test .taken) true
     (λ ws z h. sym (tested (a .text .now) name (a .table .now) (l .row) (a .end) (c .before .before .before .name-start .result) (c .before .before .name-end .result) (c .before .same-name .result) (c .before .before .before .name-start .ensures) (c .before .before .name-end .ensures) (c .before .same-name .ensures) ws z h ∙ rw (c .if1 .taken)))
 
-add-row : tie.Need-add-row Inv-loop μ-loop
-add-row c = omega arith
-
-add-row-2 : tie.Need-add-row-2 Inv-loop μ-loop
-add-row-2 c =
-    omega
-    (arith, c .before .before .before .before .before .before .before .shared-slice-known2 .given (c .before .before .before .before .before .before .loop .row * rowWords + 5))
+-- the row where the walk goes on
+steps : (c : tie.After-next-row Inv-loop μ-loop)
+    → let row = c .before .before .before .before .before .before .loop .row in
+    c .next-row .result ≡ row + 1 + belowIn (c .before .before .before .before .before .before .before .before .before .args .table .now) row
+steps c = row-after _ _ (c .next-row .ensures) (omega (arith, c .before .before .before .before .before .loop-test .taken))
 
 loop-less : tie.Need-loop-less Inv-loop μ-loop
-loop-less c = omega arith
+loop-less c = omega (arith, steps c)
 
 loop-again : tie.Need-loop-again Inv-loop μ-loop
 loop-again c =
     let a = c .before .before .before .before .before .before .before .before .before .args in
     let l = c .before .before .before .before .before .before .loop in
     let name = nameOf (a .text .now) (a .ns) (a .ne) in
-    go-on (a .table .now) (a .first) (a .end) (named (a .text .now) name) (l .row) (l .inv)
+    rw (steps c) (go-on (a .table .now) (a .first) (a .end) (named (a .text .now) name) (l .row) (l .inv)
     (c .before .before .before .before .before .loop-test .taken)
     (λ ws z h. tested (a .text .now) name (a .table .now) (l .row) (a .end) (c .before .before .before .before .name-start .result) (c .before .before .before .name-end .result) (c .before .before .same-name .result) (c .before .before .before .before .name-start .ensures) (c .before .before .before .name-end .ensures) (c .before .before .same-name .ensures) ws z h ∙ rw (c .before .if1 .left))
-    (c .below .result) (c .below .ensures)
+    (belowIn (a .table .now) (l .row)) refl)
 
 returns-2 : tie.Need-returns-2 Inv-loop μ-loop
 unfolding named
@@ -84,5 +82,5 @@ returns-2 c =
 pub named-spec : {M : Type 1} → statement M
 named-spec =
     tie.close
-    (tie.spec Inv-loop μ-loop loop-holds (λ c κs. search needs) (λ c κs. search needs) (λ c κs. search needs) returns add-row (λ c κs. search needs)
-    add-row-2 loop-less loop-again returns-2)
+    (tie.spec Inv-loop μ-loop loop-holds (λ c κs. search needs) (λ c κs. search needs) (λ c κs. search needs) returns (λ c κs. search needs)
+    loop-less loop-again returns-2)

@@ -33,10 +33,10 @@ mul-e : tie.Need-mul-e Inv-loop μ-loop
 mul-e c =
     let p = c .before .before .before .before .before .before .before .before .pre in
     let good = c .before .before .before .before .before .before .before .before .good in
-    omega (arith, p .inside, c .loop-test .taken, good .1 .1 .1 .1 .1 .1 .0 .0)
+    omega (arith, p .1, c .loop-test .taken, good .1 .1 .1 .1 .1 .1 .0 .0)
 
 shared-slice-read-e : tie.Need-shared-slice-read-e Inv-loop μ-loop
-shared-slice-read-e c = omega (arith, c .before .before .before .before .before .before .before .before .before .pre .inside, c .before .loop-test .taken)
+shared-slice-read-e c = omega (arith, c .before .before .before .before .before .before .before .before .before .pre .1, c .before .loop-test .taken)
 
 cast-e : tie.Need-cast-e Inv-loop μ-loop
 cast-e c = omega (arith, c .shared-slice-known6 .given (c .before .before .loop .i))

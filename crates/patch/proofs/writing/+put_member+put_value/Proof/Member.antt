@@ -13,7 +13,8 @@ use Rattle.text.specs.Doc.{Members, docOf}
 use Rattle.contact.specs.Patch.{under, applied}
 use Rattle.patch.specs.Entries.{stripped}
 use Rattle.json.specs.Lookup.{KnownAt}
-use Rattle.patch.specs.Patched.{InRows, Said, OutAt}
+use Rattle.laws.specs.Lists.{Inside}
+use Rattle.patch.specs.Patched.{Said, OutAt}
 use Rattle.patch.proofs.Putting.Walks.{value-row}
 use Rattle.patch.proofs.Putting.Copies.{label-is}
 use Rattle.patch.proofs.Putting.Kept.{passed-none, passed-some}
@@ -67,10 +68,10 @@ module _ (t : ℕ) where
 
   in-rows : (c : lts.After-bound2 (given t) (member-at t) member.Post)
       → let a = c .before .before .before .before .before .before .before .before .before .before .args in
-      InRows (now (a .rows)) (c .before .bound .result) (c .bound2 .result)
+      Inside (now (a .rows)) (c .before .bound .result) (c .bound2 .result)
   in-rows c =
       let p = c .before .before .before .before .before .before .before .before .before .before .pre in
-      record { ordered = c .bound2 .ensures .low; inside = omega (arith, c .bound2 .ensures .high, p .1 .0 .inside) }
+      (c .bound2 .ensures .low, omega (arith, c .bound2 .ensures .high, p .1 .0 .1))
 
   pub returns : lts.Need-returns (given t) (member-at t) member.Post
   returns c =
@@ -85,10 +86,10 @@ module _ (t : ℕ) where
   key-at-requires c κs = tt
 
   pub bound-requires : lts.Need-bound-requires (given t) (member-at t) member.Post
-  bound-requires c κs = let p = c .before .before .before .before .before .before .before .before .pre in (p .1 .0 .ordered, p .1 .0 .inside)
+  bound-requires c κs = let p = c .before .before .before .before .before .before .before .before .pre in p .1 .0
 
   pub bound-requires-2 : lts.Need-bound-requires-2 (given t) (member-at t) member.Post
-  bound-requires-2 c κs = (c .bound .ensures .high, c .before .before .before .before .before .before .before .before .before .pre .1 .0 .inside)
+  bound-requires-2 c κs = (c .bound .ensures .high, c .before .before .before .before .before .before .before .before .before .pre .1 .0 .1)
 
   pub ends-first-requires : lts.Need-ends-first-requires (given t) (member-at t) member.Post
   ends-first-requires c κs = in-rows c
@@ -96,10 +97,10 @@ module _ (t : ℕ) where
   pub mul-e : lts.Need-mul-e (given t) (member-at t) member.Post
   mul-e c =
       let good = c .before .before .before .before .before .before .before .before .before .before .before .before .good in
-      omega (arith, c .before .ends-first .ensures .some (c .if2 .taken), in-rows (c .before .before) .inside, good .1 .1 .1 .1 .1 .1 .0 .1)
+      omega (arith, c .before .ends-first .ensures .some (c .if2 .taken), in-rows (c .before .before) .1, good .1 .1 .1 .1 .1 .1 .0 .1)
 
   pub shared-slice-read-e : lts.Need-shared-slice-read-e (given t) (member-at t) member.Post
-  shared-slice-read-e c = omega (arith, c .before .before .ends-first .ensures .some (c .before .if2 .taken), in-rows (c .before .before .before) .inside)
+  shared-slice-read-e c = omega (arith, c .before .before .ends-first .ensures .some (c .before .if2 .taken), in-rows (c .before .before .before) .1)
 
   pub cast-e : lts.Need-cast-e (given t) (member-at t) member.Post
   cast-e c = omega (arith, c .shared-slice-known6 .given (c .before .before .before .before .bound .result))
