@@ -22,7 +22,7 @@ DUDS = [
     ("contact/refuses_by_28", localize(patch(b'"z":1'), b'{..,"z":1}'), (28, 12)),
     ("patch/unpatched contact/unpatched contact/nothing_said", localize(patch(b'"z":2', b',"z":1'), b'{..,"z":2}'), b'{..,"z":1}'),
     ("answers/nothing_done", localize(patch(b'"z":null', b',"z":1'), b"{..}"), b""),
-    ("bezinkol/invented_length contact/length_plus_one bezinkol/words_swapped text/second_and_written_swapped",
+    ("bezinkol/invented_length card/length_of_room contact/length_plus_one bezinkol/words_swapped text/second_and_written_swapped",
      localize(patch(b'"zz":"y"'), b'{..,"zz":"y"}'), OTHER),
     # errors trainees hand in
     ("json/names_undecoded text/names_undecoded", judge(rb'{..,"\u0075id":"u2"}', (4, 43)), OK),

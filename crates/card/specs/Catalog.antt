@@ -189,7 +189,11 @@ OnObject words numbers table object = Lent words numbers × ((f : Forest) × Mem
 
 -- of a value: the catalog is lent, and a value stands at the row
 abbrev pub OnValue : (words numbers table : List ℕ) (row : ℕ) → Type 0
-OnValue words numbers table row = Lent words numbers × ((f : Forest) × ValueAt table row f × Kinds f)
+OnValue words numbers table row = Lent words numbers × ((f : Forest) × ValueAt table row f)
+
+-- of a value and all that is below it, where a row's kind tells whether it holds others
+abbrev pub OnWhole : (words numbers table : List ℕ) (row : ℕ) → Type 0
+OnWhole words numbers table row = Lent words numbers × ((f : Forest) × ValueAt table row f × Kinds f)
 
 -- of property i: the catalog is lent, and has it
 abbrev pub TriesLine : (words numbers : List ℕ) (i : ℕ) → Type 0
@@ -197,7 +201,7 @@ TriesLine words numbers i = Lent words numbers × (i < count)
 
 -- the same, of a name whose first written byte is known
 abbrev pub TriesName : (words numbers : List ℕ) (i : ℕ) (text : List ℕ) (s first : ℕ) → Type 0
-TriesName words numbers i text s first = Lent words numbers × (i < count) × (first ≡ byteAt text s)
+TriesName words numbers i text s first = TriesLine words numbers i × (first ≡ byteAt text s)
 
 -- of word j of rule i: the catalog is lent, and has room for it
 abbrev pub TriesWord : (words numbers : List ℕ) (i j : ℕ) → Type 0

@@ -1,6 +1,6 @@
 pub mod Types
-pub mod Catalog
 pub mod Rows
+pub mod Catalog
 pub mod Marks
 pub mod RuleTable
 pub mod Walk

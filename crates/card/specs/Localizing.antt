@@ -7,7 +7,6 @@ use Rattle.text.specs.Limits.{base}
 use Rattle.contact.specs.Verdict.{judgedOf}
 use Rattle.contact.specs.Localize.{Outcome, done, denied, byJudge, answerOfOutcome, tableOfOutcome}
 use Rattle.contact.specs.declared.Localized.{Localized}
-use Rattle.contact.specs.declared.Localized.the-variants.{Written, Denied}
 use Rattle.patch.specs.declared.compose.Attempt.{Attempt}
 use Rattle.patch.specs.declared.compose.Attempt.the-variants.{Bytes, Refused}
 

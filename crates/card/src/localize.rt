@@ -10,7 +10,6 @@ use laws::clear::clear_bytes;
 use laws::clear::clear_words;
 use patch::compose::Attempt;
 use patch::compose::compose_for;
-ghost use mathlib.Core.Path.{_≡_};
 ghost use Prim.Native.Nat.{ℕ, _≤_};
 ghost use lib.ListN.{length, take};
 ghost use Rattle.text.specs.Limits.{base};

@@ -161,7 +161,7 @@ pub(crate) fn is_lacking(
 }
 
 // Is a name that of property i? Its first written byte is handed in, since most names differ there.
-fn is_named(
+fn is_property(
     words: &[u8],
     numbers: &[u32],
     text: &[u8],
@@ -191,7 +191,7 @@ pub(crate) fn type_in(words: &[u8], numbers: &[u32], text: &[u8], o: u32, s: usi
     let last = own.last;
     let mut i = own.first;
     while i < last {
-        if is_named(words, numbers, text, first, s, e, i) {
+        if is_property(words, numbers, text, first, s, e, i) {
             let code = numbers[i];
             return code;
         }

@@ -23,7 +23,7 @@ ghost use Rattle.text.specs.Firsts.{Kinds};
 ghost use Rattle.text.specs.Doc.{docOf, membersOf};
 ghost use Rattle.contact.specs.Judge.{rowNumber, breachOf};
 ghost use Rattle.card.specs.Types.{typeAt, isAny};
-ghost use Rattle.card.specs.Catalog.{MembersAt, tableWords, OnObject, OnValue};
+ghost use Rattle.card.specs.Catalog.{MembersAt, tableWords, OnObject, OnValue, OnWhole};
 ghost use Rattle.card.specs.Rows.{ValueAt};
 ghost use Rattle.card.specs.Walk.{objectNumber, valueNumber, foundOf};
 
@@ -122,7 +122,7 @@ pub(crate) fn breach_at(
     code: u32,
     key: bool,
 ) -> Breach
-    requires { ⌜ OnValue (now words) (now numbers) (now table) row ⌝ }
+    requires { ⌜ OnWhole (now words) (now numbers) (now table) row ⌝ }
     ensures { λ r. ⌜ ((f : Forest) → ValueAt (now (table .entry)) row f → Kinds f → foundOf r ≡ breachOf (typeAt code) key row (docOf (now (text .entry)) f)) ⌝ }
 {
     if is_free(code, key) {

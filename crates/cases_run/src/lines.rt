@@ -30,9 +30,9 @@ pub fn before(line: &[u8], byte: u8) -> usize
     at
 }
 
-// What stands after the first such byte, or nothing.
-pub fn after(line: &[u8], byte: u8) -> &[u8] {
-    let head = before(line, byte);
+// What stands after the first space, or nothing.
+pub fn after(line: &[u8]) -> &[u8] {
+    let head = before(line, b' ');
     if head < line.len() {
         &line[head + 1..]
     } else {

@@ -82,7 +82,7 @@ fn lent(
 ) {
     let head = before(line, b' ');
     let named = unpack(&line[..head], base, language);
-    let size = unpack(after(line, b' '), base, text);
+    let size = unpack(after(line), base, text);
     let bytes = bytes_of(room, out);
     let rows = words_of(words, table);
     report(
@@ -98,11 +98,11 @@ pub fn case_of(line: &[u8], base: &[u8]) {
     let mut text = [0u8; ROOM];
     let mut out = [SET_BYTE; ROOM];
     let mut table = [SET_WORD; WORDS];
-    let rest = after(line, b' ');
+    let rest = after(line);
     lent(
         number(line),
         number(rest),
-        after(rest, b' '),
+        after(rest),
         base,
         &mut language,
         &mut text,

@@ -35,7 +35,7 @@ fn report(judged: bool, text: &[u8], table: &mut [u32]) {
 pub fn case_of(judged: bool, line: &[u8], base: &[u8]) {
     let mut text = [0u8; ROOM];
     let mut table = [SET_WORD; WORDS];
-    let size = unpack(after(line, b' '), base, &mut text);
+    let size = unpack(after(line), base, &mut text);
     let lent = words_of(number(line), &table);
     report(judged, &text[..size], &mut table[..lent]);
 }

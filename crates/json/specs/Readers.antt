@@ -44,9 +44,9 @@ pub record NamePlaces (t : List ℕ) (ns ne : ℕ) : Type 0 where
 abbrev pub ValueAsks : (t table : List ℕ) (limit ns ne at n : ℕ) → Type 0
 ValueAsks t table limit ns ne at n = ItemAsks t table limit at n × NamePlaces t ns ne
 
--- and of one whose kind is known
+-- and of that of a value of a kind
 abbrev pub KindAsks : (t table : List ℕ) (limit kind ns ne at n : ℕ) → Type 0
-KindAsks t table limit kind ns ne at n = ItemAsks t table limit at n × NamePlaces t ns ne × (kind < 8)
+KindAsks t table limit kind ns ne at n = ValueAsks t table limit ns ne at n × (kind < 8)
 
 -- ---- values ----
 
@@ -70,7 +70,7 @@ abbrev pub Closable : (n : ℕ) → Progress → Type 0
 Closable n (Next to after) = (n < after) × (Word after × Word to)
 Closable n (Stop r) = Prim.Unit {0}
 
--- with room for the container's own row
+-- the same, and that the container's own row has room in the table and fits
 abbrev pub CloseAsks : (table : List ℕ) (kind ns ne at n : ℕ) → Progress → Type 0
 CloseAsks table kind ns ne at n inside = Closable n inside × Row (length table) n kind ns ne at 0 0
 

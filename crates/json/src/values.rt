@@ -166,11 +166,11 @@ fn read_items(
         };
         let x = skip(text, to);
         let b = peek(text, x);
-        if b == z {
-            let next = x + 1;
-            return Progress::Next(next, after);
-        }
         if b != COMMA {
+            if b == z {
+                let next = x + 1;
+                return Progress::Next(next, after);
+            }
             return Progress::Stop(Refusal::Grammar(x));
         }
         at = skip(text, x + 1);

@@ -9,9 +9,9 @@ use lib.Dec.{leb}
 unfoldable pub partOf : List ℕ → ℕ → ℕ → List ℕ
 partOf t s e = cond (leb e (length t)) (cond (leb s e) (take (e - s) (drop s t)) []) []
 
--- the places from lo up to hi are inside a list
-abbrev pub Inside : (xs : List ℕ) (lo hi : ℕ) → Type 0
-Inside xs lo hi = (lo ≤ hi) × (hi ≤ length xs)
+-- a run of a list: its places lo up to hi
+abbrev pub RunIn : (xs : List ℕ) (lo hi : ℕ) → Type 0
+RunIn xs lo hi = (lo ≤ hi) × (hi ≤ length xs)
 
 -- a lent buffer of n words or bytes that holds xs and nothing else: what is unused is zero; with no xs it is all zero
 abbrev pub filled : ℕ → List ℕ → List ℕ

@@ -42,7 +42,7 @@ abbrev pub isPair : FoundPair → Bool
 isPair (Pair row other) = true
 isPair Nothing = false
 
--- what is found among the entries that the first n words list: a pair just if two of them clash, and then such a pair
+-- what is found among the entries that the first n words list: a pair just if two of them clash; and the keys at a pair's rows do
 abbrev pub FindsClash : (t table rows : List ℕ) (n : ℕ) → FoundPair → Type 0
 FindsClash t table rows n r = ((ms : Members) → Listed t table rows 0 n ms → isPair r ≡ anyClash (entriesOf ms)) × Clashing t table r
 

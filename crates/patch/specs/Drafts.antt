@@ -93,7 +93,8 @@ PutSorted card ctable leave text table rows n old new r =
     (g : Forest) (ms : Members) → BaseAt card ctable leave 0 true g → Listed text table rows 0 n ms → NoClash (entriesOf ms)
     → Wrote old 0 (written (patchedDoc (docOf card g) ms)) new r
 
--- what is asked to write the card as the PatchObject at a row leaves it: the row is no larger than the table, and the list no longer than it need be
+-- what is asked to write the card as the PatchObject at a row leaves it: the row's number is below the table's words, and the list is no longer than the most
+-- entries
 abbrev pub MakeAsks : (table : List ℕ) (patch : ℕ) (rows : List ℕ) → Type 0
 MakeAsks table patch rows = (patch < length table) × (length rows ≤ mostEntries)
 

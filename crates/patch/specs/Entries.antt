@@ -34,9 +34,9 @@ rowOrder t table row other = pointerOrder (pointerOf (keyAt t table row)) (point
 abbrev pub mostEntries : ℕ
 mostEntries = base .values
 
--- the first n words of a list, as many as there may be entries
-abbrev pub Few : (rows : List ℕ) (n : ℕ) → Type 0
-Few rows n = (n ≤ length rows) × (n ≤ mostEntries)
+-- the list has n words, no more than there can be entries
+abbrev pub Listable : (rows : List ℕ) (n : ℕ) → Type 0
+Listable rows n = (n ≤ length rows) × (n ≤ mostEntries)
 
 -- the members that stand between two rows are listed by the first n words, where a card can have those rows and the list has room for as many; and n is
 -- never too many

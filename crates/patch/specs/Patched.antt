@@ -6,8 +6,7 @@ use mathlib.Core.Bool.{Bool, true, false, cond}
 use mathlib.Core.List.{List, [], _∷_, _++_}
 use mathlib.Core.Option.{Option, none, some}
 use lib.Dec.{eqb}
-use lib.ListN.{length}
-use Rattle.laws.specs.Lists.{Inside}
+use Rattle.laws.specs.Lists.{RunIn}
 use Rattle.laws.specs.Order.{same}
 use Rattle.text.specs.Text.{bytes}
 use Rattle.text.specs.Tree.{Forest, leaf, node, size}
@@ -33,7 +32,7 @@ use Rattle.patch.specs.declared.writing.Pen.{Pen}
 
 -- what is asked to write a value as a run leaves it: the run is inside the list, and no more parts were taken than there are rows before the value
 abbrev pub RunAsks : (rows : List ℕ) (lo hi parts row : ℕ) → Type 0
-RunAsks rows lo hi parts row = Inside rows lo hi × (parts ≤ row)
+RunAsks rows lo hi parts row = RunIn rows lo hi × (parts ≤ row)
 
 -- the members that are listed by the run; their entries, without the parts that were taken, ascend
 pub record Said (t table rows : List ℕ) (lo hi parts : ℕ) (ms : Members) : Type 0 where

@@ -17,7 +17,7 @@ ghost use mathlib.Core.Path.{_≡_};
 ghost use Prim.Native.Nat.{_≤_, _<_};
 ghost use lib.ListN.{length};
 ghost use Rattle.json.specs.Rows.{belowIn};
-ghost use Rattle.patch.specs.Entries.{Few};
+ghost use Rattle.patch.specs.Entries.{Listable};
 ghost use Rattle.patch.specs.Drafts.{fittingOf, PutSorted, MakeAsks, Makes, MakesFor};
 
 // So many bytes were written, or nothing that counts.
@@ -37,7 +37,7 @@ fn put_sorted(
     n: usize,
     out: &mut [u8],
 ) -> usize
-    requires { ⌜ Few (now rows) n ⌝ }
+    requires { ⌜ Listable (now rows) n ⌝ }
     ensures { λ r. ⌜ PutSorted (now (card .entry)) (now («card_table» .entry)) leave (now (text .entry)) (now (table .entry)) (now (rows .entry)) n (now (out .entry)) (now (out .exit)) r ⌝ }
 {
     sort_rows(text, table, rows, n);

@@ -5,11 +5,10 @@ use pointers::parts::part_byte;
 ghost use mathlib.Core.Path.{_≡_};
 ghost use mathlib.Core.Bool.{cond};
 ghost use mathlib.Core.List.{[], _∷_};
-ghost use Prim.Native.Nat.{_<_, _≤_};
+ghost use Prim.Native.Nat.{_<_};
 ghost use lib.Dec.{ltb};
-ghost use lib.ListN.{length};
 ghost use lib.Seq.{sets};
-ghost use Rattle.laws.specs.Lists.{partOf, Inside};
+ghost use Rattle.laws.specs.Lists.{partOf, RunIn};
 ghost use Rattle.text.specs.Doc.{labelAt};
 ghost use Rattle.text.specs.Writing.{comma, smallHex, shortOf, spelledByte, spelled, coded};
 ghost use Rattle.json.specs.Cursors.{rest};
@@ -42,7 +41,7 @@ fn smaller(a: usize, b: usize) -> usize
 
 // Stores the bytes of a text from one place up to another, as far as there is room: one run, whose end is known before it begins.
 fn store_run(text: &[u8], from: usize, to: usize, out: &mut [u8], at: usize)
-    requires { ⌜ Inside (now text) from to ⌝ }
+    requires { ⌜ RunIn (now text) from to ⌝ }
     ensures { λ _. ⌜ now (out .exit) ≡ sets (now (out .entry)) at (partOf (now (text .entry)) from to) ⌝ }
 {
     if out.len() <= at {

@@ -5,7 +5,7 @@ use laws::Order;
 use pointers::keys::part_at;
 use pointers::parts::part_order;
 ghost use mathlib.Core.Path.{_≡_};
-ghost use Rattle.laws.specs.Lists.{Inside};
+ghost use Rattle.laws.specs.Lists.{RunIn};
 ghost use Rattle.laws.specs.Order.{orderOf};
 ghost use Rattle.text.specs.Strings.{decode};
 ghost use Rattle.contact.specs.Pointer.{pointerOf, firstPart};
@@ -44,7 +44,7 @@ pub(crate) fn bound(
     name: &[u8],
     past: bool,
 ) -> usize
-    requires { ⌜ Inside (now rows) lo hi ⌝ }
+    requires { ⌜ RunIn (now rows) lo hi ⌝ }
     ensures { λ r. ⌜ Bound (now (ptext .entry)) (now (ptable .entry)) (now (rows .entry)) lo hi parts (decode (now (name .entry))) past r ⌝ }
 {
     let mut a = lo;

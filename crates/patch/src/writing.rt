@@ -25,7 +25,7 @@ ghost use mathlib.Core.Path.{_≡_};
 ghost use mathlib.Core.Bool.{Bool};
 ghost use Prim.Native.Nat.{_+_, _≤_};
 ghost use lib.ListN.{length};
-ghost use Rattle.laws.specs.Lists.{Inside};
+ghost use Rattle.laws.specs.Lists.{RunIn};
 ghost use Rattle.text.specs.Tree.{Forest};
 ghost use Rattle.text.specs.Doc.{seek, isThere};
 ghost use Rattle.json.specs.Cursors.{rest};
@@ -191,7 +191,7 @@ fn put_additions(
     out: &mut [u8],
     from: Pen,
 ) -> usize
-    requires { ⌜ Inside (now rows) (run .lo) (run .hi) ⌝ }
+    requires { ⌜ RunIn (now rows) (run .lo) (run .hi) ⌝ }
     ensures { λ r. ⌜ PutAdditions (now (text .entry)) (now (table .entry)) row leave (now (ptext .entry)) (now (ptable .entry)) (now (rows .entry)) (run .lo) (run .hi) (run .parts) (now (out .entry)) from (now (out .exit)) r ⌝ }
 {
     let parts = run.parts;
@@ -226,7 +226,7 @@ fn ends_first(
     hi: usize,
     parts: usize,
 ) -> bool
-    requires { ⌜ Inside (now rows) lo hi ⌝ }
+    requires { ⌜ RunIn (now rows) lo hi ⌝ }
     ensures { λ r. ⌜ Ending (now (ptext .entry)) (now (ptable .entry)) (now (rows .entry)) lo hi parts r ⌝ }
 {
     if hi <= lo {

@@ -141,7 +141,7 @@ fn glyph_at(part: bool, key: &[u8], at: usize) -> Glyph
 }
 
 // The order of a part and another part, or a name, decoded from their cursors on; `is_part` says which.
-fn order_from(key: &[u8], from: Cursor, is_part: bool, name: &[u8], name_from: Cursor) -> Order
+fn decoded_order(key: &[u8], from: Cursor, is_part: bool, name: &[u8], name_from: Cursor) -> Order
     ensures { λ r. ⌜ r ≡ orderOf (partLeft (rest (now (key .entry)) from)) (nameLeft «is_part» (now (name .entry)) «name_from») ⌝ }
 {
     let mut x = from;
@@ -185,10 +185,10 @@ fn written_order(key: &[u8], from: usize, is_part: bool, name: &[u8], name_from:
         let x = p.value;
         let y = q.value;
         if x == CODED {
-            return order_from(key, cursor_at(i), is_part, name, cursor_at(j));
+            return decoded_order(key, cursor_at(i), is_part, name, cursor_at(j));
         }
         if y == CODED {
-            return order_from(key, cursor_at(i), is_part, name, cursor_at(j));
+            return decoded_order(key, cursor_at(i), is_part, name, cursor_at(j));
         }
         if x != y {
             return order_at(x, y);
@@ -206,10 +206,10 @@ pub fn part_order(key: &[u8], from: Cursor, is_part: bool, name: &[u8], name_fro
     ensures { λ r. ⌜ r ≡ orderOf (partLeft (rest (now (key .entry)) from)) (nameLeft «is_part» (now (name .entry)) «name_from») ⌝ }
 {
     if from.left != 0 {
-        return order_from(key, from, is_part, name, name_from);
+        return decoded_order(key, from, is_part, name, name_from);
     }
     if name_from.left != 0 {
-        return order_from(key, from, is_part, name, name_from);
+        return decoded_order(key, from, is_part, name, name_from);
     }
     written_order(key, from.at, is_part, name, name_from.at)
 }

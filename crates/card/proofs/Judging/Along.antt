@@ -5,8 +5,8 @@ use mathlib.Core.Path.{_≡_, refl, _∙_}
 use mathlib.Core.List.{List}
 use Rattle.text.specs.Tree.{Forest, none}
 use Rattle.text.specs.Standing.{StandsTo}
-use Rattle.text.specs.Firsts.{belowAt, restAt}
-use Rattle.text.proofs.Promise.{first-row, after, within, some-at, none-at}
+use Rattle.text.specs.Firsts.{restAt}
+use Rattle.text.proofs.Promise.{first-row, after, some-at, none-at}
 use Rattle.json.specs.Rows.{belowIn}
 use Rattle.card.specs.Rows.{ValueAt}
 
@@ -22,13 +22,6 @@ module _ {A : Type 0} (t : List ℕ) (from end : ℕ) (F : Forest → A) where
   along vs s = (vs, s, refl)
 
   module _ (at : ℕ) (G : Forest → A) (g : Along at G) where
-    -- what stands where the walk is
-    pub along-here : (vs : Forest) → StandsTo t from end vs → at < end → (ws : Forest) × ValueAt t at ws × (at + 1 + belowAt ws ≤ end)
-    along-here vs s lt =
-        let (ws, h, q) = g vs s in
-        let v = first-at ws h lt in
-        (ws, v, within ws (v .some) h)
-
     -- over a value to the next one
     pub along-on : at < end → (H : Forest → A) → ((ws : Forest) → ValueAt t at ws → G ws ≡ H (restAt ws)) → (to : ℕ) → to ≡ at + 1 + belowIn t at
         → Along to H

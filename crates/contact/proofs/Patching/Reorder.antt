@@ -8,13 +8,12 @@ use Prim.Native.Nat.{ℕ}
 use Rattle.laws.proofs.Orders.{same-refl}
 use Rattle.text.specs.Doc.{Name, Doc, scalar, array, object, Members, empty, member, Property, property, seek}
 use Rattle.text.specs.Distinct.{Distinct, DistinctMembers}
-use Rattle.text.specs.Sameness.{MemberOrder, counted, free, Taken, Corresponds, scalars, arrays, objects, Matched, nothing, match, EqualToken, EqualLabel}
+use Rattle.text.specs.Sameness.{counted, free, Taken, scalars, arrays, objects, Matched, nothing, match, EqualToken, EqualLabel}
 use Rattle.text.proofs.Sameness.{matched-equal}
-use Rattle.text.proofs.Taken.{take-out, taken-other, taken-is, taken-same, taken-value, taken-rest}
+use Rattle.text.proofs.Taken.{take-out, taken-other, taken-same, taken-value, taken-rest}
 use Rattle.contact.specs.Pointer.{Pointer, last, down, within, find}
 use Rattle.contact.specs.Likeness.{Reordered}
 use Rattle.contact.proofs.Patching.Looking.{Shape, aScalar, anArray, anObject, shape, Look, absent, there, seen, look, SameDoc}
-use Rattle.contact.proofs.Patching.Same.{likeness-refl, Alike, neither, both, same-object, alike}
 use Rattle.contact.proofs.Patching.Names.{same-no, byName}
 
 -- ---- the theorem
@@ -86,22 +85,3 @@ mutual
       match x refl
       (same-reordered d e (h .1) (taken-value n x k) (record { root = y; below = λ p. (simp (same-refl n) at (s (down n p))) ∙ ap (λ (o : Option Property). seen (within (find p) o)) q }))
       (matched ms rest (h .2) (taken-rest n x k) (rest-look n t d e ms ns rest x (h .0) k s))
-
--- ---- and the other way round
-
-mutual
-  same-alike : {o : MemberOrder} {d e : Doc} → Corresponds EqualToken EqualLabel counted o d e → Distinct d → Distinct e → SameDoc d e
-  same-alike (scalars {kind′ = kind} {token′ = token} t) h k = rw (t .kinds, t .tokens) (likeness-refl (scalar kind token))
-  same-alike (arrays {ms = xs} {ns = ys} m) h k = rw (matched-equal xs ys .0 m) (likeness-refl (array ys))
-  same-alike (objects {ms = ms} {ns = ns} m) h k = same-object ms ns (λ n. matched-alike m h k n)
-
-  matched-alike : {o v : MemberOrder} {ms ns : Members} → Matched EqualToken EqualLabel counted o v ms ns → DistinctMembers ms → DistinctMembers ns
-      → (k : Name) → Alike (seek k ms) (seek k ns)
-  matched-alike nothing h k m = neither
-  matched-alike (match {n = n} {label = t} {label′ = u} {d = d} {e = e} x l r y) h k m =
-      byName n m
-      (λ q. rw (← q) (alike (simp (same-refl n)) (taken-is n x k) (both {s = property t d} {t = property u e} l (same-alike r (h .1) (taken-value n x k)))))
-      (λ ne. alike (simp (same-no ne)) (taken-other n m x ne) (matched-alike y (h .2) (taken-rest n x k) m))
-
-pub reordered-same : {d e : Doc} → Reordered d e → Distinct d → Distinct e → SameDoc d e
-reordered-same r = same-alike r

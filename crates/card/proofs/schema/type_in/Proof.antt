@@ -29,8 +29,8 @@ loop-holds c = left-starts _ _ _ _ _ _ _ _ (c .lines-of .ensures)
 inside : (c : tie.In-loop Inv-loop μ-loop) → c .before .loop .i < count
 inside c = omega (arith, c .before .before .lines-of .ensures .within, lines-length, c .loop-test .taken)
 
-is-named-requires : tie.Need-is-named-requires Inv-loop μ-loop
-is-named-requires c κs = (c .before .before .before .before .before .before .before .pre, inside c, c .before .before .before .peek .ensures .0)
+is-property-requires : tie.Need-is-property-requires Inv-loop μ-loop
+is-property-requires c κs = ((c .before .before .before .before .before .before .before .pre, inside c), c .before .before .before .peek .ensures .0)
 
 mul-code : tie.Need-mul-code Inv-loop μ-loop
 mul-code c = omega (arith, inside (c .before .before), c .before .before .before .before .before .before .before .before .before .pre .numbers-are .long)
@@ -42,11 +42,11 @@ returns : tie.Need-returns Inv-loop μ-loop
 returns c =
     let a = c .before .before .before .before .before .before .before .before .before .before .args in
     c .before .before .before .before .before .before .before .before .before .before .pre .numbers-are .code (c .before .before .before .before .loop .i) (inside (c .before .before .before)) .type
-    ∙ left-hit _ _ _ _ _ _ _ _ (c .before .before .before .before .before .lines-of .ensures) (c .before .before .before .before .loop .inv) (c .before .before .before .loop-test .taken) (sym (c .before .before .is-named .ensures) ∙ c .before .if1 .taken)
+    ∙ left-hit _ _ _ _ _ _ _ _ (c .before .before .before .before .before .lines-of .ensures) (c .before .before .before .before .loop .inv) (c .before .before .before .loop-test .taken) (sym (c .before .before .is-property .ensures) ∙ c .before .if1 .taken)
     ∙ type-first (nameOf (now (a .text)) (a .s) (a .e)) (properties (a .o))
 
 loop-again : tie.Need-loop-again Inv-loop μ-loop
-loop-again c = left-on _ _ _ _ _ _ _ _ (c .before .before .before .before .lines-of .ensures) (c .before .before .before .loop .inv) (c .before .before .loop-test .taken) (sym (c .before .is-named .ensures) ∙ c .if1 .left)
+loop-again c = left-on _ _ _ _ _ _ _ _ (c .before .before .before .before .lines-of .ensures) (c .before .before .before .loop .inv) (c .before .before .loop-test .taken) (sym (c .before .is-property .ensures) ∙ c .if1 .left)
 
 returns-2 : tie.Need-returns-2 Inv-loop μ-loop
 returns-2 c =
@@ -56,4 +56,4 @@ returns-2 c =
 pub type-in-spec : {M : Type 1} → statement M
 type-in-spec =
     tie.close
-    (tie.spec Inv-loop μ-loop (λ c κs. search needs) lines-of-requires loop-holds is-named-requires mul-code shared-slice-read-code returns (λ c. search needs) (λ c. search needs) loop-again returns-2)
+    (tie.spec Inv-loop μ-loop (λ c κs. search needs) lines-of-requires loop-holds is-property-requires mul-code shared-slice-read-code returns (λ c. search needs) (λ c. search needs) loop-again returns-2)

@@ -75,7 +75,7 @@ breach-at-returns t c =
     breach-free (typeAt (a .code)) (a .key) (a .row) (docOf (now (a .text)) f) (c .before .is-free .ensures) (c .if1 .taken)
 
 breach-at-row-number-requires : (t : ℕ) → breach-at-lts.Need-row-number-requires (given t) (breach-at-at t) breach-at.Post breach-at-Inv-loop breach-at-μ-loop
-breach-at-row-number-requires t c κs = c .before .before .before .before .before .before .pre .1
+breach-at-row-number-requires t c κs = let p = c .before .before .before .before .before .before .pre .1 in (p .0, (p .1 .0, p .1 .1))
 
 breach-at-returns-2 : (t : ℕ) → breach-at-lts.Need-returns-2 (given t) (breach-at-at t) breach-at.Post breach-at-Inv-loop breach-at-μ-loop
 breach-at-returns-2 t c =
@@ -115,7 +115,6 @@ breach-at-breach-at-requires t c κs =
 breach-at-returns-3 : (t : ℕ) → breach-at-lts.Need-returns-3 (given t) (breach-at-at t) breach-at.Post breach-at-Inv-loop breach-at-μ-loop
 breach-at-returns-3 t c =
     λ f v k.
-    let a = c .before .before .before .before .before .before .before .before .before .before .before .before .before .before .before .before .before .before .args in
     let h = ahead t (c .before .before .before .before .before .before .before) f v k in
     let lt = c .before .before .before .before .before .before .before .loop-test .taken in
     let name-start = c .before .before .before .before .before .before .name-start in
@@ -141,7 +140,6 @@ breach-at-loop-less t c = omega (arith, steps t c)
 breach-at-loop-again : (t : ℕ) → breach-at-lts.Need-loop-again (given t) (breach-at-at t) breach-at.Post breach-at-Inv-loop breach-at-μ-loop
 breach-at-loop-again t c = (
   (λ f v k.
-      let a = c .before .before .before .before .before .before .before .before .before .before .before .before .before .before .before .before .before .before .before .args in
       let h = ahead t (c .before .before .before .before .before .before .before .before) f v k in
       let lt = c .before .before .before .before .before .before .before .before .loop-test .taken in
       let name-start = c .before .before .before .before .before .before .before .name-start in

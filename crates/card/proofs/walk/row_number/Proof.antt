@@ -29,13 +29,13 @@ returns c =
 
 add-from : tie.Need-add-from
 add-from c =
-    let (f, v, _) = c .before .before .before .before .before .before .before .before .before .before .before .before .before .pre .1 in
+    let (f, v) = c .before .before .before .before .before .before .before .before .before .before .before .before .before .pre .1 in
     omega (arith, first-room f (v .some) (v .stands))
 
 object-number-requires : tie.Need-object-number-requires
 object-number-requires c κs =
     let a = c .before .before .before .before .before .before .before .before .before .before .before .before .before .args in
-    let (f, v, _) = c .before .before .before .before .before .before .before .before .before .before .before .before .before .pre .1 in
+    let (f, v) = c .before .before .before .before .before .before .before .before .before .before .before .before .before .pre .1 in
     (c .before .before .before .before .before .before .before .before .before .before .before .before .before .pre .0, (insideAt f, value-members (now (a .text)) f v (c .next-row .ensures) (omega (arith, value-room (now (a .text)) f v))))
 
 value-number-requires : tie.Need-value-number-requires

@@ -16,7 +16,7 @@ ended : (c : tie.After-to)
 ended c =
     token-span (c .before .before .before .before .before .before .args .text .now) (c .before .before .before .before .before .before .args .kind)
     (c .before .before .before .before .before .before .args .at) (c .to .given .0 .0)
-    (c .before .before .before .before .before .before .pre .0 .inside) (sym (c .before .before .token-end .ensures) ∙ c .to .given .1)
+    (c .before .before .before .before .before .before .pre .0 .0 .inside) (sym (c .before .before .token-end .ensures) ∙ c .to .given .1)
 
 returns : tie.Need-returns
 returns c =

@@ -21,12 +21,12 @@ abbrev μ-loop : tie.MeasureT-loop
 
 returns : tie.Need-returns Inv-loop μ-loop
 returns c =
-    c .order-from .ensures
+    c .decoded-order .ensures
     ∙ rw (c .before .before .cursor-at .ensures, c .before .cursor-at2 .ensures) (c .before .before .before .before .before .before .loop .inv)
 
 returns-2 : tie.Need-returns-2 Inv-loop μ-loop
 returns-2 c =
-    c .order-from2 .ensures
+    c .decoded-order2 .ensures
     ∙ rw (c .before .before .cursor-at3 .ensures, c .before .cursor-at4 .ensures) (c .before .before .before .before .before .before .before .loop .inv)
 
 returns-3 : tie.Need-returns-3 Inv-loop μ-loop

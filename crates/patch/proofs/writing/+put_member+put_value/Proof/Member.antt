@@ -13,7 +13,7 @@ use Rattle.text.specs.Doc.{Members, docOf}
 use Rattle.contact.specs.Patch.{under, applied}
 use Rattle.patch.specs.Entries.{stripped}
 use Rattle.json.specs.Lookup.{KnownAt}
-use Rattle.laws.specs.Lists.{Inside}
+use Rattle.laws.specs.Lists.{RunIn}
 use Rattle.patch.specs.Patched.{Said, OutAt}
 use Rattle.patch.proofs.Putting.Walks.{value-row}
 use Rattle.patch.proofs.Putting.Copies.{label-is}
@@ -68,7 +68,7 @@ module _ (t : ℕ) where
 
   in-rows : (c : lts.After-bound2 (given t) (member-at t) member.Post)
       → let a = c .before .before .before .before .before .before .before .before .before .before .args in
-      Inside (now (a .rows)) (c .before .bound .result) (c .bound2 .result)
+      RunIn (now (a .rows)) (c .before .bound .result) (c .bound2 .result)
   in-rows c =
       let p = c .before .before .before .before .before .before .before .before .before .before .pre in
       (c .bound2 .ensures .low, omega (arith, c .bound2 .ensures .high, p .1 .0 .1))

@@ -1,4 +1,4 @@
--- `pointers::parts::order_from` meets its contract. Assumes nothing.
+-- `pointers::parts::decoded_order` meets its contract. Assumes nothing.
 use Rattle.pointers.proofs.Laws.Parts.{taken}
 use mathlib.Core.Path.{_≡_, refl, ap}
 use native.Mathlib.Omega.{arith}
@@ -9,8 +9,8 @@ use Rattle.laws.specs.Order.{orderOf}
 use Rattle.laws.proofs.Picks.{picks}
 use Rattle.pointers.specs.Parts.{partLeft, nameLeft}
 use Rattle.json.specs.Cursors.{rest}
-use Rattle.pointers.proofs.parts.order_from.Statement.{statement}
-use Rattle.pointers.proofs.parts.order_from.Tie as tie
+use Rattle.pointers.proofs.parts.decoded_order.Statement.{statement}
+use Rattle.pointers.proofs.parts.decoded_order.Tie as tie
 
 abbrev Inv-loop : tie.InvT-loop
 Inv-loop key is-part name x₀ y₀ x y =
@@ -83,8 +83,8 @@ loop-again c =
     let q = c .before .before .before .q in
     rw (← loop .inv, ← part-byte .ensures .0, p .given .1, ← name-byte2 .ensures, q .given .1) (search picks)
 
-pub order-from-spec : {M : Type 1} → statement M
-order-from-spec =
+pub decoded-order-spec : {M : Type 1} → statement M
+decoded-order-spec =
     tie.close
     (tie.spec
     Inv-loop
