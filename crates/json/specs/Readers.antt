@@ -12,6 +12,7 @@ use Rattle.text.specs.Tree.{Bracket, square, curly, Forest, size, rowOf, rowsOf
 use Rattle.text.specs.Grammar.{closing}
 use Rattle.text.specs.Standing.{StandsTo}
 use Rattle.text.specs.Reader.{Read, good, bad, Reader, ItemReader, colonAt, memberOf, insideOf, valueAt, arrayAt, objectAt}
+use Rattle.text.specs.declared.Refusal.{Refusal}
 use Rattle.json.specs.Rows.{Word, Row}
 use Rattle.json.specs.declared.members.MemberName.{MemberName}
 use Rattle.json.specs.declared.members.MemberName.the-variants.{Value, Broken}
@@ -44,9 +45,13 @@ pub record NamePlaces (t : List ℕ) (ns ne : ℕ) : Type 0 where
 abbrev pub ValueAsks : (t table : List ℕ) (limit ns ne at n : ℕ) → Type 0
 ValueAsks t table limit ns ne at n = ItemAsks t table limit at n × NamePlaces t ns ne
 
--- and of that of a value of a kind
-abbrev pub KindAsks : (t table : List ℕ) (limit kind ns ne at n : ℕ) → Type 0
-KindAsks t table limit kind ns ne at n = ValueAsks t table limit ns ne at n × (kind < 8)
+-- and of that of one that holds no others: the text is short enough, the place is inside it or at its end, and its row has room in the table and fits
+abbrev pub ScalarAsks : (t table : List ℕ) (kind ns ne at n : ℕ) → Type 0
+ScalarAsks t table kind ns ne at n = Word (length t) × (at ≤ length t) × Row (length table) n kind ns ne at 0 0
+
+-- the refusal of a value, where there are as many as there may be
+abbrev pub Overfull : (t : List ℕ) (depth at : ℕ) → Refusal → Type 0
+Overfull t depth at r = (limit ns ne n : ℕ) → limit ≤ n → valueAt (upTo limit) t depth ns ne at n ≡ bad r
 
 -- ---- values ----
 

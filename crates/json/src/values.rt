@@ -16,13 +16,13 @@ use crate::tokens::token_end;
 use text::Refusal;
 use text::Token;
 ghost use mathlib.Core.Path.{_≡_};
-ghost use Prim.Native.Nat.{_+_};
+ghost use Prim.Native.Nat.{ℕ, _+_, _<_};
 ghost use Rattle.text.specs.Text.{byteAt};
 ghost use Rattle.text.specs.Tokens as tokens;
 ghost use Rattle.text.specs.Tree.{Forest};
 ghost use Rattle.text.specs.Standing.{StandsTo};
 ghost use Rattle.text.specs.Reader.{scalarAt, valueAt};
-ghost use Rattle.json.specs.Readers.{upTo, ItemAsks, ValueAsks, KindAsks, Took, CloseAsks, Closes, containerAt, itemsAt, itemOf};
+ghost use Rattle.json.specs.Readers.{upTo, ItemAsks, ValueAsks, ScalarAsks, Overfull, Took, CloseAsks, Closes, containerAt, itemsAt, itemOf};
 
 // What reading some of a text gives: the place after it and the number of values so far, or the refusal.
 pub enum Progress {
@@ -37,23 +37,36 @@ fn kind_at(text: &[u8], at: usize) -> usize
     kind_of(peek(text, at))
 }
 
+// The refusal of what stands at a place, where there are as many values as there may be.
+fn overfull(text: &[u8], depth: usize, at: usize) -> Refusal
+    ensures { λ r. ⌜ Overfull (now (text .entry)) depth at r ⌝ }
+{
+    let kind = kind_at(text, at);
+    if kind == 0 {
+        return Refusal::Grammar(at);
+    }
+    if kind < ARRAY {
+        return Refusal::Many(at);
+    }
+    if depth == 0 {
+        return Refusal::Deep(at);
+    }
+    Refusal::Many(at)
+}
+
 // A value that holds no others, whose first byte is at a place.
 fn read_scalar(
     text: &[u8],
     table: &mut [u32],
-    limit: usize,
     kind: usize,
     ns: usize,
     ne: usize,
     at: usize,
     count: usize,
 ) -> Progress
-    requires { ⌜ KindAsks (now text) (now table) limit kind ns ne at count ⌝ }
-    ensures { λ r. ⌜ Took (scalarAt (upTo limit) (now (text .entry)) kind ns ne at count) (now (text .entry)) limit at count (now (table .entry)) (now (table .exit)) r ⌝ }
+    requires { ⌜ ScalarAsks (now text) (now table) kind ns ne at count ⌝ }
+    ensures { λ r. ⌜ ((limit : ℕ) → count < limit → Took (scalarAt (upTo limit) (now (text .entry)) kind ns ne at count) (now (text .entry)) limit at count (now (table .entry)) (now (table .exit)) r) ⌝ }
 {
-    if limit <= count {
-        return Progress::Stop(Refusal::Many(at));
-    }
     match token_end(text, kind, at) {
         Token::End(to) => {
             put_row(table, count, kind, ns, ne, at, to, 0);
@@ -87,7 +100,8 @@ fn close(
     }
 }
 
-// The value at a place, as row `count`, where at most `depth` containers may be opened.
+// The value at a place, as row `count`, where at most `depth` containers may be opened. The limit is asked first and not between a value's first byte and its
+// token: so what the first byte says is asked once.
 pub(crate) fn read_value(
     text: &[u8],
     table: &mut [u32],
@@ -101,6 +115,9 @@ pub(crate) fn read_value(
     requires { ⌜ ValueAsks (now text) (now table) limit ns ne at count ⌝ }
     ensures { λ r. ⌜ Took (valueAt (upTo limit) (now (text .entry)) depth ns ne at count) (now (text .entry)) limit at count (now (table .entry)) (now (table .exit)) r ⌝ }
 {
+    if limit <= count {
+        return Progress::Stop(overfull(text, depth, at));
+    }
     let kind = kind_at(text, at);
     if kind == 0 {
         return Progress::Stop(Refusal::Grammar(at));
@@ -109,7 +126,7 @@ pub(crate) fn read_value(
         let of = container_of(kind);
         return read_container(text, table, limit, depth, of, ns, ne, at, count);
     }
-    read_scalar(text, table, limit, kind, ns, ne, at, count)
+    read_scalar(text, table, kind, ns, ne, at, count)
 }
 
 // The array or object whose bracket is at a place. One function for both: with two, a deep text costs twice the time.
@@ -124,14 +141,11 @@ fn read_container(
     at: usize,
     count: usize,
 ) -> Progress
-    requires { ⌜ ValueAsks (now text) (now table) limit ns ne (at + 1) count ⌝ }
+    requires { ⌜ ValueAsks (now text) (now table) limit ns ne (at + 1) (count + 1) ⌝ }
     ensures { λ r. ⌜ Took (containerAt of (upTo limit) (now (text .entry)) depth ns ne at count) (now (text .entry)) limit at count (now (table .entry)) (now (table .exit)) r ⌝ }
 {
     if depth == 0 {
         return Progress::Stop(Refusal::Deep(at));
-    }
-    if limit <= count {
-        return Progress::Stop(Refusal::Many(at));
     }
     let inside = read_items(text, table, limit, depth - 1, of, at + 1, count + 1);
     close(table, inside, kind_in(of), ns, ne, at, count)
@@ -166,11 +180,11 @@ fn read_items(
         };
         let x = skip(text, to);
         let b = peek(text, x);
+        if b == z {
+            let next = x + 1;
+            return Progress::Next(next, after);
+        }
         if b != COMMA {
-            if b == z {
-                let next = x + 1;
-                return Progress::Next(next, after);
-            }
             return Progress::Stop(Refusal::Grammar(x));
         }
         at = skip(text, x + 1);

@@ -6,41 +6,36 @@ use borrow.Author.Needs.{needs}
 use Rattle.text.specs.Tree.{none, leaf, size, rowsOf}
 use Rattle.text.proofs.TokenEnds.{Span, token-span}
 use Rattle.json.specs.Readers.{upTo}
-use Rattle.json.proofs.Ways.{scalar-many, scalar-end, scalar-no2, scalar-no3}
+use Rattle.json.proofs.Ways.{scalar-end, scalar-no2, scalar-no3}
 use Rattle.json.proofs.values.read_scalar.Statement.{statement}
 use Rattle.json.proofs.values.read_scalar.Tie as tie
 
 -- the place where a token has ended
 ended : (c : tie.After-to)
-    → Span (c .before .before .before .before .before .before .args .text .now) (c .before .before .before .before .before .before .args .at + 1) (c .to .given .0 .0)
+    → Span (c .before .before .before .before .before .args .text .now) (c .before .before .before .before .before .args .at + 1) (c .to .given .0 .0)
 ended c =
-    token-span (c .before .before .before .before .before .before .args .text .now) (c .before .before .before .before .before .before .args .kind)
-    (c .before .before .before .before .before .before .args .at) (c .to .given .0 .0)
-    (c .before .before .before .before .before .before .pre .0 .0 .inside) (sym (c .before .before .token-end .ensures) ∙ c .to .given .1)
-
-returns : tie.Need-returns
-returns c =
-    let a = c .before .before .before .args in
-    scalar-many (upTo (a .limit)) (a .text .now) (a .kind) (a .ns) (a .ne) (a .at) (a .count) (c .if1 .taken)
+    token-span (c .before .before .before .before .before .args .text .now) (c .before .before .before .before .before .args .kind)
+    (c .before .before .before .before .before .args .at) (c .to .given .0 .0)
+    (c .before .before .before .before .before .pre .1) (sym (c .before .before .token-end .ensures) ∙ c .to .given .1)
 
 put-row-requires : tie.Need-put-row-requires
 put-row-requires c κs =
     let s = ended (c .before .before) in
-    let p = c .before .before .before .before .before .before .before .before .pre in
+    let p = c .before .before .before .before .before .before .before .pre in
     omega arith
 
-returns-2 : tie.Need-returns-2
+returns : tie.Need-returns
 unfolding size rowsOf
-returns-2 c =
-    let a = c .before .before .before .before .before .before .before .before .before .before .before .args in
+returns c =
+    λ limit less.
+    let a = c .before .before .before .before .before .before .before .before .before .before .args in
     let e = c .before .before .before .before .before in
     let to = e .to .given .0 .0 in
     let s = ended e in
-    let less = c .before .before .before .before .before .before .before .before .if1 .left in
     let token = sym (e .before .before .token-end .ensures) ∙ e .to .given .1 in
     record {
       trees = leaf (a .kind) (a .ns) (a .ne) (a .at) to none;
-      is = scalar-end (upTo (a .limit)) (a .text .now) (a .kind) (a .ns) (a .ne) (a .at) (a .count) less to token;
+      is = scalar-end (upTo limit) (a .text .now) (a .kind) (a .ns) (a .ne) (a .at) (a .count) less to token;
       count = omega arith;
       table = c .before .before .put-row .ensures;
       later = omega arith;
@@ -48,20 +43,22 @@ returns-2 c =
       few = omega arith;
     }
 
-returns-3 : tie.Need-returns-3
-returns-3 c =
-    let a = c .before .before .before .before .before .before .before .args in
-    scalar-no2 (upTo (a .limit)) (a .text .now) (a .kind) (a .ns) (a .ne) (a .at) (a .count) (c .before .before .before .before .if1 .left)
+returns-2 : tie.Need-returns-2
+returns-2 c =
+    λ limit less.
+    let a = c .before .before .before .before .before .before .args in
+    scalar-no2 (upTo limit) (a .text .now) (a .kind) (a .ns) (a .ne) (a .at) (a .count) less
     (c .before .p .given .0 .0) (sym (c .before .before .before .token-end .ensures) ∙ c .before .p .given .1)
 
-returns-4 : tie.Need-returns-4
-returns-4 c =
-    let a = c .before .before .before .before .before .before .before .args in
-    scalar-no3 (upTo (a .limit)) (a .text .now) (a .kind) (a .ns) (a .ne) (a .at) (a .count) (c .before .before .before .before .if1 .left)
+returns-3 : tie.Need-returns-3
+returns-3 c =
+    λ limit less.
+    let a = c .before .before .before .before .before .before .args in
+    scalar-no3 (upTo limit) (a .text .now) (a .kind) (a .ns) (a .ne) (a .at) (a .count) less
     (c .before .p2 .given .0 .0) (sym (c .before .before .before .token-end .ensures) ∙ c .before .p2 .given .1)
 
 pub read-scalar-spec : {M : Type 1} → statement M
 read-scalar-spec =
     tie.close
-    (tie.spec returns (λ c κs. search needs) (λ c. search needs) put-row-requires (λ c. search needs) (λ c. search needs) (λ c. search needs)
-    (λ c. search needs) returns-2 returns-3 returns-4)
+    (tie.spec (λ c κs. search needs) (λ c. search needs) put-row-requires (λ c. search needs) (λ c. search needs) (λ c. search needs)
+    (λ c. search needs) returns returns-2 returns-3)

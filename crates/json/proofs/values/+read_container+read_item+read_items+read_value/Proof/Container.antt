@@ -2,7 +2,7 @@
 use native.Mathlib.Omega.{arith}
 use Prim.Native.Nat.{ℕ, _+_, _-_}
 use Rattle.json.specs.Readers.{upTo, bracketOf, itemsAt}
-use Rattle.json.proofs.Ways.{container-deep, container-many, container-open}
+use Rattle.json.proofs.Ways.{container-deep, container-open}
 use Rattle.json.proofs.Closing.{kind-fits, closable, closed}
 use Rattle.json.proofs.values.read_container.Reads as container
 use Rattle.json.proofs.values.read_items.Reads as items
@@ -21,15 +21,10 @@ module _ (t : ℕ) where
       let a = c .before .before .before .args in
       container-deep (upTo (a .limit)) (a .text .now) (a .ns) (a .ne) (a .at) (a .count) (a .of) (a .depth) (c .if1 .taken)
 
-  pub returns-2 : lts.Need-returns-2 (calls t) (at of-container t) container.Post
-  returns-2 c =
-      let a = c .before .before .before .before .args in
-      container-many (upTo (a .limit)) (a .text .now) (a .ns) (a .ne) (a .at) (a .count) (a .of) (a .depth) (c .before .if1 .left) (c .if2 .taken)
-
   pub close-requires : lts.Need-close-requires (calls t) (at of-container t) container.Post
   close-requires c κs =
       let e = c .before .before .before .before in
-      let s = e .before .before .before .before .before .before in
+      let s = e .before .before .before .before .before in
       let a = s .args in
       let p = s .pre .1 .0 in
       let k = e .read-items in
@@ -38,16 +33,16 @@ module _ (t : ℕ) where
         omega (arith, kind-fits (bracketOf (a .of)), c .kind-in .ensures, p .room, k .kept .1 .0),
       )
 
-  pub returns-3 : lts.Need-returns-3 (calls t) (at of-container t) container.Post
-  returns-3 c =
+  pub returns-2 : lts.Need-returns-2 (calls t) (at of-container t) container.Post
+  returns-2 c =
       let z = c .before .before .close in
       let e = c .before .before .before .before .before .before .before in
       let k = e .read-items in
       let o = e .before .before in
-      let a = o .before .before .before .before .args in
+      let a = o .before .before .before .args in
       let inner = itemsAt (a .of) (upTo (a .limit)) (a .text .now) (a .depth - 1) (a .at + 1) (a .count + 1) in
       let opened =
-      container-open (upTo (a .limit)) (a .text .now) (a .ns) (a .ne) (a .at) (a .count) (a .of) (a .depth) (o .before .if1 .left) (o .if2 .left) in
+      container-open (upTo (a .limit)) (a .text .now) (a .ns) (a .ne) (a .at) (a .count) (a .of) (a .depth) (o .if1 .left) (omega (arith, o .before .before .before .pre .1 .0 .few)) in
       rw opened
       (closed (bracketOf (a .of)) inner (a .ns) (a .ne) (a .at) (a .count) (a .text .now) (a .limit) (a .table .now) (k .last .1 .0) (z .last .0) (k .result)
       (z .result) (k .ensures) (rw (c .before .before .before .kind-in .ensures) at (z .ensures)))

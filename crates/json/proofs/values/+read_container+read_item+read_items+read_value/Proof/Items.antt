@@ -5,7 +5,6 @@ use mathlib.Core.Path.{_≡_, sym, _∙_}
 use lib.ListN.{length}
 use Rattle.laws.proofs.Places.{inside}
 use Rattle.text.specs.Text.{byteAt}
-use Rattle.text.specs.Tree.{Bracket, square, curly}
 use Rattle.text.specs.Grammar.{closing}
 use Rattle.text.specs.Reader.{ItemReader}
 use Rattle.text.proofs.TokenEnds.{skip-span}
@@ -19,11 +18,6 @@ use Rattle.json.proofs.containers.closing.Reads as closing-reads
 use Rattle.json.proofs.tokens.skip.Reads as skip-reads
 use Rattle.json.proofs.bytes.peek.Reads as peek-reads
 use Rattle.json.proofs.values.+read_container+read_item+read_items+read_value.Proof.Measures.{at, below, of-item, of-items}
-
--- a comma closes nothing
-comma-on : (b : Bracket) → closing b ≡ 44 → ⊥
-comma-on square e = omega arith
-comma-on curly e = omega arith
 
 abbrev pub Inv-loop : lts.InvT-loop
 Inv-loop text table₀ limit depth of from first z start b at₀ count₀ table at count =
@@ -99,11 +93,11 @@ module _ (t : ℕ) where
 
   -- the place where the closing byte stands after an item
   abbrev Last : Type 0
-  Last = lts.Then3 (calls t) (at of-items t) items.Post Inv-loop μ-loop
+  Last = lts.Then2 (calls t) (at of-items t) items.Post Inv-loop μ-loop
 
   last : (c : Last)
-      → let s = start (c .before .before .before .before .before) in byteAt (s .args .text .now) (c .before .before .before .skip2 .result) ≡ z s
-  last c = sym (c .before .before .peek2 .ensures .0) ∙ c .if3 .taken ∙ shut (c .before .before .before .before .before)
+      → let s = start (c .before .before .before .before) in byteAt (s .args .text .now) (c .before .before .skip2 .result) ≡ z s
+  last c = sym (c .before .peek2 .ensures .0) ∙ c .if2 .taken ∙ shut (c .before .before .before .before)
 
   pub add-next : lts.Need-add-next (calls t) (at of-items t) items.Post Inv-loop μ-loop
   add-next c =
@@ -148,17 +142,17 @@ module _ (t : ℕ) where
 
   pub add-next-2 : lts.Need-add-next-2 (calls t) (at of-items t) items.Post Inv-loop μ-loop
   add-next-2 c =
-      let a = start (c .before .before .before .before .before) .args in
+      let a = start (c .before .before .before .before) .args in
       let k = byte-closing (bracketOf (a .of)) in
-      let i = inside (a .text .now) (c .before .before .before .skip2 .result) (omega (arith, last c)) in omega arith
+      let i = inside (a .text .now) (c .before .before .skip2 .result) (omega (arith, last c)) in omega arith
 
   pub same-length-2 : lts.Need-same-length-2 (calls t) (at of-items t) items.Post Inv-loop μ-loop
-  same-length-2 c = kept (c .before .before .before .before .before)
+  same-length-2 c = kept (c .before .before .before .before)
 
   pub returns-3 : lts.Need-returns-3 (calls t) (at of-items t) items.Post Inv-loop μ-loop
   returns-3 c =
-      let v = c .before .before .before .before .before in
-      let x = c .before .before .before .skip2 in
+      let v = c .before .before .before .before in
+      let x = c .before .before .skip2 in
       upto-done (loop v .loop .inv) (gone v) (x .result) (x .ensures) (opening (opened v))
       (start v .pre .1 .inside) (last c) (byte-closing (bracketOf (start v .args .of)))
 
@@ -171,25 +165,25 @@ module _ (t : ℕ) where
       let x = c .before .before .before .skip2 in
       let b = c .before .before .peek2 in
       upto-bad (loop v .loop .inv) (gone v) (x .result) (x .ensures) (opening (opened v))
-      (λ q. c .if3 .left (b .ensures .0 ∙ q ∙ sym (shut v)))
-      (λ q. c .before .if2 .taken (b .ensures .0 ∙ q))
+      (λ q. c .before .if2 .left (b .ensures .0 ∙ q ∙ sym (shut v)))
+      (λ q. c .if3 .taken (b .ensures .0 ∙ q))
 
   pub add-skip : lts.Need-add-skip (calls t) (at of-items t) items.Post Inv-loop μ-loop
   add-skip c =
-      let i = inside (start (c .before .before .before .before) .args .text .now) (c .before .before .skip2 .result) (omega arith) in
+      let i = inside (start (c .before .before .before .before .before) .args .text .now) (c .before .before .before .skip2 .result) (omega arith) in
       omega arith
 
   pub loop-less : lts.Need-loop-less (calls t) (at of-items t) items.Post Inv-loop μ-loop
   loop-less c =
-      let v = c .before .before .before .before .before in
-      let x = c .before .before .before .skip2 in
+      let v = c .before .before .before .before .before .before in
+      let x = c .before .before .before .before .skip2 in
       let m = more-later (loop v .loop .inv) (gone v) (x .result) (x .ensures) (omega arith) (c .skip3 .result) (c .skip3 .ensures) in
       omega arith
 
   pub loop-again : lts.Need-loop-again (calls t) (at of-items t) items.Post Inv-loop μ-loop
   loop-again c =
-      let v = c .before .before .before .before .before in
-      let x = c .before .before .before .skip2 in
-      upto-more (loop v .loop .inv) (gone v) (x .result) (x .ensures) (λ q. comma-on (bracketOf (start v .args .of)) (sym q ∙ sym (c .before .before .peek2 .ensures .0) ∙ c .before .if2 .left))
-      (omega arith)
+      let v = c .before .before .before .before .before .before in
+      let x = c .before .before .before .before .skip2 in
+      upto-more (loop v .loop .inv) (gone v) (x .result) (x .ensures)
+      (λ q. c .before .before .if2 .left (c .before .before .before .peek2 .ensures .0 ∙ q ∙ sym (shut v))) (omega arith)
       (c .skip3 .result) (c .skip3 .ensures)
