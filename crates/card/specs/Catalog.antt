@@ -209,6 +209,5 @@ TriesWord words numbers i j = Lent words numbers × (i < ruleCount) × (j < each
 
 -- of rule i on an object
 pub record TriesRule (words numbers table : List ℕ) (object : Object) (i : ℕ) : Type 0 where
-  pub lent : Lent words numbers
-  pub members : (f : Forest) × MembersAt table object f
+  pub on : OnObject words numbers table object
   pub rule : i < ruleCount

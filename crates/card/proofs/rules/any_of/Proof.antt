@@ -26,10 +26,10 @@ loop-holds : tie.Need-loop-holds Inv-loop μ-loop
 loop-holds c = λ f s. refl
 
 rule-word-requires : tie.Need-rule-word-requires Inv-loop μ-loop
-rule-word-requires c κs = let p = c .before .before .before .before .before .before .pre in (p .lent, p .rule, c .loop-test .taken)
+rule-word-requires c κs = let p = c .before .before .before .before .before .before .pre in (p .on .0, p .rule, c .loop-test .taken)
 
 counts-requires : tie.Need-counts-requires Inv-loop μ-loop
-counts-requires c κs = c .before .before .before .before .before .before .before .pre .lent
+counts-requires c κs = c .before .before .before .before .before .before .before .pre .on .0
 
 returns : tie.Need-returns Inv-loop μ-loop
 returns c =

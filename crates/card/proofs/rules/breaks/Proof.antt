@@ -32,7 +32,7 @@ breaks-rule-requires : tie.Need-breaks-rule-requires Inv-loop μ-loop
 breaks-rule-requires c κs =
     let p = c .before .before .before .before .before .before .before .pre in
     let s = c .before .before .rules-of .ensures in
-    record { lent = p .0; members = p .1; rule = omega (arith, s .within, rules-length, c .loop-test .taken) }
+    record { on = p; rule = omega (arith, s .within, rules-length, c .loop-test .taken) }
 
 returns : tie.Need-returns Inv-loop μ-loop
 returns c =

@@ -15,7 +15,7 @@ returns c =
     λ f s.
     let a = c .before .before .before .before .before .before .args in
     let p = c .before .before .before .before .before .before .pre in
-    c .breaks-shape .ensures f s ∙ rw (p .lent .numbers-are .shape (a .i) (p .rule)) (rule-told (a .object .of) (membersOf (now (a .text)) f) (a .i))
+    c .breaks-shape .ensures f s ∙ rw (p .on .0 .numbers-are .shape (a .i) (p .rule)) (rule-told (a .object .of) (membersOf (now (a .text)) f) (a .i))
 
 pub breaks-rule-spec : {M : Type 1} → statement M
 breaks-rule-spec = tie.close (tie.spec (λ c. search needs) (λ c. search needs) (λ c. search needs) (λ c. search needs) breaks-shape-requires returns)

@@ -10,10 +10,10 @@ use Rattle.card.proofs.rules.breaks_separators.Statement.{statement}
 use Rattle.card.proofs.rules.breaks_separators.Tie as tie
 
 rule-word-requires : tie.Need-rule-word-requires
-rule-word-requires c κs = let p = c .before .before .before .before .pre in (p .lent, p .rule, omega arith)
+rule-word-requires c κs = let p = c .before .before .before .before .pre in (p .on .0, p .rule, omega arith)
 
 tally-in-requires : tie.Need-tally-in-requires
-tally-in-requires c κs = let p = c .before .before .before .before .before .pre in (p .lent, p .members)
+tally-in-requires c κs = c .before .before .before .before .before .pre .on
 
 returns : tie.Need-returns
 returns c =
@@ -25,10 +25,10 @@ returns c =
     (no-separator (m .result) (marks (present (a .object .of) (now (first .result)) (membersOf (now (a .text)) f))) (m .ensures f s) _ (denied (m .result .any) (c .if1 .taken)))
 
 rule-word-requires-2 : tie.Need-rule-word-requires-2
-rule-word-requires-2 c κs = let p = c .before .before .before .before .before .before .before .before .pre in (p .lent, p .rule, omega arith)
+rule-word-requires-2 c κs = let p = c .before .before .before .before .before .before .before .before .pre in (p .on .0, p .rule, omega arith)
 
 is-true-requires : tie.Need-is-true-requires
-is-true-requires c κs = c .before .before .before .before .before .before .before .before .before .pre .lent
+is-true-requires c κs = c .before .before .before .before .before .before .before .before .before .pre .on .0
 
 returns-2 : tie.Need-returns-2
 returns-2 c =

@@ -25,10 +25,10 @@ returns-2 c =
     c .breaks-separators .ensures f s ∙ rw (ne-eqb (a .shape) 0 (c .before .before .if1 .left), eq-eqb (a .shape) 4 (c .before .if2 .taken))
 
 rule-word-requires : tie.Need-rule-word-requires
-rule-word-requires c κs = let p = c .before .before .before .before .before .before .pre in (p .lent, p .rule, omega arith)
+rule-word-requires c κs = let p = c .before .before .before .before .before .before .pre in (p .on .0, p .rule, omega arith)
 
 counts-requires : tie.Need-counts-requires
-counts-requires c κs = c .before .before .before .before .before .before .before .pre .lent
+counts-requires c κs = c .before .before .before .before .before .before .before .pre .on .0
 
 returns-3 : tie.Need-returns-3
 unfolding byShape

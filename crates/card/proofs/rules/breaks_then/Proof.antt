@@ -17,25 +17,25 @@ any-of-requires : tie.Need-any-of-requires
 any-of-requires c κs = c .before .before .before .before .before .pre
 
 rule-word-requires : tie.Need-rule-word-requires
-rule-word-requires c κs = let p = c .before .before .before .before .before .pre in (p .lent, p .rule, omega arith)
+rule-word-requires c κs = let p = c .before .before .before .before .before .pre in (p .on .0, p .rule, omega arith)
 
 rule-word-requires-2 : tie.Need-rule-word-requires-2
-rule-word-requires-2 c κs = let p = c .before .before .before .before .before .before .pre in (p .lent, p .rule, omega arith)
+rule-word-requires-2 c κs = let p = c .before .before .before .before .before .before .pre in (p .on .0, p .rule, omega arith)
 
 is-this-string-requires : tie.Need-is-this-string-requires
-is-this-string-requires c κs = c .before .before .before .before .before .before .before .pre .lent
+is-this-string-requires c κs = c .before .before .before .before .before .before .before .pre .on .0
 
 rule-word-requires-3 : tie.Need-rule-word-requires-3
-rule-word-requires-3 c κs = let p = c .before .before .before .before .before .pre in (p .lent, p .rule, omega arith)
+rule-word-requires-3 c κs = let p = c .before .before .before .before .before .pre in (p .on .0, p .rule, omega arith)
 
 is-true-requires : tie.Need-is-true-requires
-is-true-requires c κs = c .before .before .before .before .before .before .pre .lent
+is-true-requires c κs = c .before .before .before .before .before .before .pre .on .0
 
 rule-word-requires-4 : tie.Need-rule-word-requires-4
-rule-word-requires-4 c κs = let p = c .before .before .before .before .before .pre in (p .lent, p .rule, omega arith)
+rule-word-requires-4 c κs = let p = c .before .before .before .before .before .pre in (p .on .0, p .rule, omega arith)
 
 tally-in-requires : tie.Need-tally-in-requires
-tally-in-requires c κs = let p = c .before .before .before .before .before .before .pre in (p .lent, p .members)
+tally-in-requires c κs = c .before .before .before .before .before .before .pre .on
 
 returns : tie.Need-returns
 unfolding thenBroken
