@@ -50,12 +50,12 @@ extern "C" {
 #define BEZINKOL_TABLE_WORDS (BEZINKOL_ROW_WORDS * BEZINKOL_MAX_VALUES)
 #define BEZINKOL_ANSWER_WORDS 3
 
-/* The bytes of stack that a call needs, with a margin of 19 KiB or more. Measured on x86-64 with this kit (rattle-kit-5b): 59 KiB for reading, 61 KiB for
- * judging, 69 KiB for localizing, by calls that nest as deep as the limits let them; by the frames of the machine code no call takes more. tests/c
- * measures both again (stack.c, frames.py) and fails where it is more than is said here; another kit may write other machine code. */
-#define BEZINKOL_READ_STACK 81920
-#define BEZINKOL_JUDGE_STACK 81920
-#define BEZINKOL_LOCALIZE_STACK 98304
+/* The bytes of stack that a call needs, with a margin of 26 KiB or more. By the frames of the machine code for x86-64 of this kit (rattle-kit-5b) no call
+ * takes more than 36 KiB for reading, 38 KiB for judging, 46 KiB for localizing. tests/c counts them again (frames.py), measures calls that nest as deep as
+ * the limits let them (stack.c), and fails where it is more than is said here; another kit may write other machine code. */
+#define BEZINKOL_READ_STACK 65536
+#define BEZINKOL_JUDGE_STACK 65536
+#define BEZINKOL_LOCALIZE_STACK 73728
 
 /* The words of a row. There is one row a value, parents before children, in the order of the text. Places count bytes from 0, from the start of the
  * text that was read (of the output, after localizing); ends are exclusive. The root and the elements of arrays have the name 0, 0. */

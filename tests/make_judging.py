@@ -211,6 +211,17 @@ def sets():
     yield card(b'"kind":"group","members":{' + b",".join(b'"m%d":true' % i for i in range(400)) + b',"last":false}')
 
 
+def repeated():
+    """Names that stand twice in a card of many members: in a group, in the card, and beside a fault of the card."""
+    for last in (b"m20", b"m0", b"m11", b"\\u006d5"):
+        names = [b"m%d" % (i * 7 % 20) for i in range(20)] + [last]
+        yield card(b'"kind":"group","members":{' + b",".join(b'"%s":true' % name for name in names) + b"}")
+    others = b",".join(b'"%c":{"uid":0}' % letter for letter in b"jbhdgcfeia")
+    for last in (b'"k":0', b'"uid":"u2"', b'"\\u0075id":"u2"', b'"e":{"uid":0}', b'"a":{"b":0,"b":0}', b'"a":{"b":x}'):
+        yield card(others, last)
+        yield card(b'"kind":5', others, last)
+
+
 def pairs():
     """Two faults in one card, in both orders; and a fault of the text beside one of the card."""
     faults = [
@@ -317,7 +328,7 @@ def groups():
     """The cases, by the base text that they share."""
     asked = ((min(case["words"], MOST_WORDS), case["text"]) for case in ASKED if case["service"] == "judge")
     texts = itertools.chain(
-        properties(), types(), mandatory(), between(), keys(), times(), numbers(), sets(), pairs(), figures(), chance(500))
+        properties(), types(), mandatory(), between(), keys(), times(), numbers(), sets(), repeated(), pairs(), figures(), chance(500))
     damage = itertools.chain([RICH], damaged())
     for base, cases in ((b"", buffers()), (card(), itertools.chain(asked, map(sized, texts))), (RICH, map(sized, damage))):
         yield base, (Case("judging", words, text) for words, text in cases)

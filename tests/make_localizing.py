@@ -63,6 +63,10 @@ def unread():
         for patch in (b"", CONDITIONS[22]):
             yield lent(patched(patch, own))
             yield lent(patched(patch, own), words=0, room=0)
+    entries = [b'"z%d":%d' % (i * 7 % 11, i) for i in range(11)]
+    for more in (b'"z11":0', b'"z3":0', b'"\\u007a4":0', b'"~":0,"z5":0', b'"z6":x'):  # a name twice in an object of many, which the patch is
+        yield lent(patched(b",".join(entries + [more])))
+        yield lent(patched(b'"k/z":1', b'"k":{' + b",".join(entries + [more]) + b"}"))
     for text in (b"", b" ", b"5", b"null", b"[]", b'"de"', patched(b"")[:-1], patched(b"") + b"}"):
         yield lent(text)
         yield lent(text, room=30)

@@ -1,7 +1,9 @@
 """The cases of reading: texts with the words of the lent table."""
 import itertools
 
+import make_names
 import make_strings
+from make_names import sized
 from store import Case
 
 import intake
@@ -11,12 +13,6 @@ from reading import MOST_WORDS
 RICH = (
     b' {"a" : [1, -2.5e+3,\t0.25E-1,-0, 1e9 ],\n"b":{"\\u0061":null,"\xc3\xa9\\n":true , "":false},\r\n"c\\"\\/":"x\\ud83d\\uDE00\xe2\x82\xac\\u00e9 \x7f",'
     b'"d":[[],{},[{"k":{"k":[[0]]}}],"",{"a":"a","A":"\\\\"}],"\xf0\x9f\x98\x80":[ ] ,"last":{ }} ')
-
-
-def sized(text, spare=13):
-    """A text with a table that has some words more than it needs; at most two hundred where it is refused."""
-    number, rows, _ = intake.read(text, MOST_WORDS)
-    return (6 * rows + spare if number == 0 else 200), text
 
 
 def rulings():
@@ -48,18 +44,6 @@ def counts():
         yield MOST_WORDS, b"[" + b'{"a":0},' * ((values - 1) // 2) + b'"x"' * (values % 2 == 0) + b"]"
     for first in (b"1", b'"', b"t", b"[", b"{", b"-", b"]", b",", b":", b"", b"x", b"+"):
         yield MOST_WORDS, b"[" + b"0," * 2047 + first
-
-
-MANY = b"{" + b",".join(b'"n%d":0' % i for i in range(2046))
-
-
-def members():
-    """Objects of very many members: their number, and a repeated name among them."""
-    for more in (b"}", b',"m":0}', b',"m":0,"l":0}', b',"m":0,"m":0}', b',"m":0,"n0":0}', b',"m":0,"n2045":0}', b',"m":0,"l" 0}',
-        b',"n1000":0}', b',"\\u006e1":0}', b',"m":0'):
-        yield MOST_WORDS, MANY + more
-    yield 6 * 100, MANY + b',"n1000":0}'
-    yield 6 * 2047 - 1, MANY + b"}"
 
 
 def lengths():
@@ -153,5 +137,5 @@ def groups():
     """The cases, by the base text that they share."""
     assert intake.read(RICH, 313)[0] == 0 and len(RICH) < 313
     plain = itertools.chain(rulings(), depths(), counts(), lengths(), tables(), names(), short(), strings())
-    for base, cases in ((b"", plain), (MANY, members()), (RICH, damaged(RICH))):
+    for base, cases in ((b"", plain), (RICH, damaged(RICH)), *make_names.groups()):
         yield base, (Case("reading", words, text) for words, text in cases)

@@ -1,6 +1,7 @@
 """Stored cases: their notation, their form on a line, what the second implementation answers, and the two files of crates/cases_run. All that is
 written in Python reads and writes them here; crates/cases_run/src and tests/c/cases.h do the same in their languages."""
 import collections
+import functools
 import os
 import platform
 import re
@@ -14,6 +15,7 @@ from localizing import told
 from reading import read
 
 FAR = 24  # a run, or a part of the base text, at least so long is written shorter
+LONG = 300  # of a text that is so long, or whose base text is, any part may be a copy
 SHOWN = 400  # a shorter localized card is in the answer itself
 SERVICES = ("reading", "judging", "localizing")
 
@@ -29,19 +31,53 @@ def plain(text):
     return "".join(chr(b) if 32 <= b < 127 and b != 37 else "%%%02x" % b for b in text)
 
 
-def runs(text):
-    """A text with its long runs (`0,0,0,0,..`) as repeats of what stands before."""
-    said, start, at = [], 0, 0
+def alike(one, at, other, start):
+    """How many bytes are the same from two places on; in one text the second is the earlier, and what is copied may run into the copy."""
+    size = 0
+    while at + size < len(one) and start + size < len(other) and one[at + size] == other[start + size]:
+        size += 1
+    return size
+
+
+@functools.lru_cache(maxsize=4)
+def parts(text):
+    """The parts of FAR bytes that a text has, and where the first of each stands."""
+    found = {}
+    for at in range(len(text) - FAR + 1):
+        found.setdefault(text[at:at + FAR], at)
+    return found
+
+
+def copied(text, at, base, seen):
+    """What stands at a place as a copy of an earlier part, or of a part of the base text: its size and its notation."""
+    back, there = at - seen.get(text[at:at + FAR], at), parts(base).get(text[at:at + FAR])
+    size = alike(text, at, text, at - back) if back else 0
+    more = alike(text, at, base, there) if there is not None else 0
+    if more > size:
+        return more, "%%=%d,%d;" % (there, there + more)
+    return size, "%%*%d,%d;" % (size, back)
+
+
+def runs(text, base=b""):
+    """A text with its long runs (`0,0,0,0,..`) as repeats of what stands before, and where texts are long, with copies of any part."""
+    said, start, at, seen, old = [], 0, 0, {}, 0
     while at < len(text):
         for back in (1, 2, 5, 6, 8):
-            size = 0
-            while back <= at and at + size < len(text) and text[at + size] == text[at + size - back]:
-                size += 1
+            size = alike(text, at, text, at - back) if back <= at else 0
             if size >= FAR:
-                said += [plain(text[start:at]), "%%*%d,%d;" % (size, back)]
-                at += size
-                start = at
+                copy = "%%*%d,%d;" % (size, back)
                 break
+        else:
+            size = 0
+            if max(len(text), len(base)) >= LONG:
+                while old < at:
+                    seen[text[old:old + FAR]] = old
+                    old += 1
+                size, copy = copied(text, at, base, seen)
+        if size >= FAR:
+            said += [plain(text[start:at]), copy]
+            at += size
+            start = at
         else:
             at += 1
     return "".join(said) + plain(text[start:])
@@ -54,7 +90,7 @@ def noted(text, base=b""):
     head, tail = (n if n >= FAR else 0 for n in (head, tail))
     first = "%%=0,%d;" % head if head else ""
     last = "%%=%d,%d;" % (len(base) - tail, len(base)) if tail else ""
-    line = first + runs(text[head:len(text) - tail]) + last
+    line = first + runs(text[head:len(text) - tail], base) + last
     assert unpacked(line, base) == text
     return "%21" + line[1:] if line.startswith("!") else line
 

@@ -9,6 +9,11 @@ OTHER = "other contents"
 GIVEN = b'"name":{"full":"A","components":[{"kind":"given","value":"A"}]}'
 
 
+def named(names, more=b""):
+    """An object whose names have one letter each."""
+    return b"{" + b",".join(b'"%c":0' % name for name in names) + more + b"}"
+
+
 def patch(entries, own=b""):
     return b"{.." + own + b',"localizations":{"de":{' + entries + b"}}}"
 
@@ -37,6 +42,21 @@ DUDS = [
     ("pointers/prefix_by_bytes contact/prefix_by_bytes", localize(
         patch(b'"emails/e1":null,"emails/e10":null', b',"emails":{"e1":{"address":"a"},"e10":{"address":"b"}}'), b'{..,"emails":{}}'), (24, 0)),
     ("answers/output_left_dirty laws/first_word_left", localize(patch(b'"uid":null'), (28, 12), room=100), OTHER),
+    # repeated names: objects of few members, whose names are compared in pairs, and of more than sixteen, whose names are sorted
+    ("json/hash_compared", read(named(b"a!"), OK), (4, 7)),
+    ("json/hash_compared", read(named(b"iabcdefgh!"), OK), (4, 55)),
+    ("json/last_of_three laws/last_repeat", read(named(b"aabcdeafghijklmnopq"), (4, 7)), (4, 37)),
+    ("json/neighbours_in_text laws/sorted_by_place", read(named(b"abcdefghijklmnopqa"), (4, 103)), OK),
+    ("json/neighbours_in_text", read(named(b"qponmlkjihgfedcbaq"), (4, 103)), OK),
+    ("json/last_of_two_names", read(named(b"aa"), (4, 7)), OK),
+    ("json/names_undecoded", read(named(b"a", rb',"\u0061":0'), (4, 7)), OK),
+    ("json/names_undecoded", read(named(b"abcdefghi", rb',"\u0061":0'), (4, 55)), OK),
+    ("json/names_undecoded", read(named(b"abcdefghijklmnopq", rb',"\u0061":0'), (4, 103)), OK),
+    ("json/names_undecoded", read(rb'{"\u0061":0,"b":0,"c":0,"d":0,"e":0,"f":0,"g":0,"h":0,"a":0}', (4, 54)), OK),
+    ("repeats/fault_wins", read(b'{"a":1,"a":x}', (4, 7)), (2, 11)),
+    ("repeats/fault_wins", read(named(b"abcdefghia", b',"j"'), (4, 55)), (2, 65)),
+    ("repeats/unclosed_counts", read(b'{"a":1,"a', (2, 9)), (4, 7)),
+    ("repeats/colon_awaited", read(b'{"a":1,"a"x', (4, 7)), (2, 10)),
     # reading
     ("text/refuses_all", read(b"1", OK), (2, 1)),
     ("unicode/lone_surrogate text/lone_low_taken", read(rb'"\uDC00"', (3, 1)), OK),

@@ -1,25 +1,23 @@
--- Laws of two strings that are compared as written up to a place:
+-- Laws of a string that is compared with a literal as written up to a place:
 --     decode-over, decode-byte       decoding where no backslash stands
 --     common-start, common-more      from the start, and one byte further
 --     order-heads                    the order of two runs by their first bytes
---     order-differs, same-differs    where neither goes on with a backslash, the bytes there decide
---     literal-differs                the same of a string and a literal
+--     literal-differs                where the string doesn't go on with a backslash, the bytes there decide
 -- Assumes nothing.
 use Prim.Native.Nat.{ℕ, _+_, _≤_, _<_}
-use mathlib.Core.Path.{_≡_, refl, sym, ap, _∙_}
+use mathlib.Core.Path.{_≡_, refl, sym, _∙_}
 use mathlib.Core.List.{List, [], _∷_}
-use mathlib.Core.Bool.{false}
 use native.Mathlib.Decide.{decLe}
 use native.Mathlib.Omega.{arith}
 use lib.ListN.{length, getD, drop-of-length-le, List·getD-eq-default}
 use lib.Dec.{eqb}
 use borrow.Author.Tests.{eq-eqb, ne-eqb, eqb-true, eqb-false}
-use Rattle.laws.specs.Order.{orderOf, isSame, same}
+use Rattle.laws.specs.Order.{orderOf, same}
 use Rattle.laws.specs.declared.Order.{Order}
 use Rattle.laws.proofs.Bools.{byTest}
 use Rattle.laws.proofs.Branches.{if-equal, if-less}
 use Rattle.laws.proofs.Places.{inside, ended, drop-byte}
-use Rattle.laws.proofs.Orders.{order-less, order-more, order-on, agree, absent}
+use Rattle.laws.proofs.Orders.{order-less, order-more, agree, absent}
 use Rattle.text.specs.Text.{byteAt}
 use Rattle.text.specs.Strings.{stop, piece, pieceBy, decodeFrom, decode}
 use Rattle.text.proofs.Walks.{decode-at}
@@ -38,7 +36,7 @@ decode-byte t i s e = decode-at t i (piece (byteAt t i ∷ []) 1) (rw (ne-eqb _ 
 -- ---- what is in common
 
 pub common-start : (a b : List ℕ) → Common a b 0
-common-start a b = record { ordered = refl; literal = refl; within = omega arith }
+common-start a b = record { literal = refl; within = omega arith }
 
 pub common-more : (a b : List ℕ) (i : ℕ) → Common a b i → (byteAt a i ≡ 92 → ⊥) → byteAt a i < 256 → byteAt a i ≡ byteAt b i → Common a b (i + 1)
 common-more a b i c s h e =
@@ -46,16 +44,14 @@ common-more a b i c s h e =
     let y = byteAt b i in
     let k = inside b i (omega arith) in
     let d = decode-byte a i s (λ z. omega arith) in
-    let f = decode-byte b i (λ z. s (e ∙ z)) (λ z. omega arith) in
     record {
-      ordered = sym (rw (d, f) (order-on x y _ _ (omega arith) (omega arith))) ∙ c .ordered;
       literal = sym (rw (d, drop-byte b i k) (agree x y _ _ e)) ∙ c .literal;
       within = omega arith;
     }
 
 -- ---- at the first difference
 
-byNumber : {G : Type 0} (a b : ℕ) → (a ≡ b → G) → ((a ≡ b → ⊥) → G) → G
+pub byNumber : {G : Type 0} (a b : ℕ) → (a ≡ b → G) → ((a ≡ b → ⊥) → G) → G
 byNumber a b f g = byTest (eqb a b) (λ e. f (eqb-true a b e)) (λ e. g (eqb-false a b e))
 
 apart : (x y : ℕ) → y ≤ x → (x ≡ y → ⊥) → y < x
@@ -80,23 +76,7 @@ order-heads p q xs ys {xs'} {ys'} ends heads ends' heads' stops =
     (λ z. if-less P p q (λ l. rw (heads o, heads' z) (sym (order-less p q xs' ys' l)))
     (λ l. rw (heads o, heads' z) (sym (order-more p q xs' ys' (apart p q l e)))))))
 
-same-at : (p q : ℕ) → isSame (orderAt p q) ≡ eqb p q
-unfolding orderAt
-same-at p q =
-    byNumber p q (λ e. rw (eq-eqb p q e))
-    (λ e. rw (ne-eqb p q e) (if-equal (λ (o : Order). isSame o ≡ false) p 256 (λ o. refl)
-    (λ o. if-equal (λ (o : Order). isSame o ≡ false) q 256 (λ z. refl) (λ z. if-less (λ (o : Order). isSame o ≡ false) p q (λ l. refl) (λ l. refl)))))
-
 module _ (a b : List ℕ) (i : ℕ) (h : Alike a b i) (s : byteAt a i ≡ 92 → ⊥) where
-  pub order-differs : (byteAt b i ≡ 92 → ⊥) → orderAt (byteAt a i) (byteAt b i) ≡ orderOf (decode a) (decode b)
-  order-differs z =
-      order-heads (byteAt a i) (byteAt b i) (decodeFrom a i) (decodeFrom b i) (decode-over a i) (decode-byte a i s) (decode-over b i) (decode-byte b i z)
-      (λ e. h .stops e s)
-      ∙ h .common .ordered
-
-  pub same-differs : (byteAt b i ≡ 92 → ⊥) → eqb (byteAt a i) (byteAt b i) ≡ same (decode a) (decode b)
-  same-differs z = sym (same-at (byteAt a i) (byteAt b i)) ∙ ap isSame (order-differs z)
-
   -- small: the literal has bytes only
   pub literal-differs : getD b i 0 < 256 → eqb (byteAt a i) (byteAt b i) ≡ same (decode a) b
   unfolding orderOf

@@ -64,7 +64,7 @@ module _ (f : Forest) (old : List ℕ) (room : rowWords * size f ≤ length old)
 module _ {t old : List ℕ} where
   pub kept-rows : {n : ℕ} {new : List ℕ} → Ended (wholeOf base (length old) t) old new (Rows n) → ReadsRows base t old (Rows n) new
   unfolding paper sheetOf
-  kept-rows s = record { answered = rw (s .is, s .count); left = rw (s .is) (s .table) }
+  kept-rows (s, few) = record { answered = rw (s .is, s .count); left = rw (s .is) (s .table) }
 
   pub kept-none : (mid : List ℕ) {r : Refusal} {new : List ℕ} → Ended (wholeOf base (length old) t) old mid (Refused r) → length mid ≡ length old
       → new ≡ replicate (length mid) 0 → ReadsRows base t old (Refused r) new
@@ -76,12 +76,13 @@ module _ {t old : List ℕ} where
   as-read h = record { answered = h .answered; left = refl }
 
   module _ {n : ℕ} {new : List ℕ} (h : ReadsRows base t old (Rows n) new) where
-    pub rows-there : (s : Stored (wholeOf base (length old) t) old new n) × Filled base t new n (s .trees)
+    pub rows-there : (s : Stored (wholeOf base (length old) t) old new n) × (n * rowWords ≤ length old) × Filled base t new n (s .trees)
     rows-there =
         let a = rows-tree base (length old) t _ n (as-read h) in
         let is : new ≡ sets old 0 (rowsOf (a .tree)) = h .left ∙ ap (keptOf old) (a .whole) in
         let stay = rows-stay (a .tree) old (omega (arith, a .room, a .count)) is in (
-          record { trees = a .tree; to = a .end; is = a .whole; count = sym (a .count); table = is; room = omega (arith, a .room) },
+          record { trees = a .tree; to = a .end; is = a .whole; count = sym (a .count); table = is },
+          omega (arith, a .room),
           record { promised = a .filled-by .promised; stands = rw (a .count) at stay },
         )
 
@@ -89,10 +90,10 @@ module _ {t old : List ℕ} where
         → Reads base (length old) t (Rows n) (putMid (n * rowWords) (length new - n * rowWords) new rest)
     unfolding tableOf
     read-cleared clear =
-        let s = rows-there .0 in
+        let (s, room, filled) = rows-there in
         record {
           answered = h .answered;
-          left = tail-cleared (s .trees) old (omega (arith, s .room, s .count)) (s .table) n (s .count) clear ∙ rw (s .is);
+          left = tail-cleared (s .trees) old (omega (arith, s .count)) (s .table) n (s .count) clear ∙ rw (s .is);
         }
 
   module _ {r : Refusal} {new : List ℕ} (h : ReadsRows base t old (Refused r) new) where

@@ -1,6 +1,6 @@
 -- Laws of the definitions of a value and of a member, one for each way that the code goes. Assumes nothing.
 use mathlib.Core.Path.{_≡_, refl, ap, _∙_}
-use mathlib.Core.List.{List}
+use mathlib.Core.List.{List, [], _∷_}
 use mathlib.Core.Bool.{Bool, true, false, cond}
 use Prim.Native.Nat.{ℕ, zero, suc, _+_, _-_, _≤_, _<_}
 use native.Mathlib.Omega.{arith}
@@ -9,16 +9,24 @@ use native.Mathlib.Decide.{decLe}
 use lib.ListN.{length, List·getD-eq-default}
 use lib.Dec.{eqb}
 use borrow.Author.Tests.{le-leb, lt-leb, eq-eqb, ne-eqb}
-use Rattle.text.specs.Limits.{Limits}
+use borrow.Author.Needs.{needs}
+use Rattle.laws.specs.Earliest.{firstRepeat}
+use Rattle.text.specs.Limits.{Limits, base}
 use Rattle.text.specs.Text.{byteAt}
-use Rattle.text.specs.Strings.{nameOf, stringEnd}
+use Rattle.text.specs.Strings.{stringEnd}
 use Rattle.text.specs.Tokens.{skip, isDigit, kindBy, tokenAt}
-use Rattle.text.specs.Tree.{Forest, none, leaf}
-use Rattle.text.specs.Reader.{good, bad, Reader, scalarWith, scalarAt, closeOf, container, deep, valueWith, named, colonAt, memberWith, memberOf, valueAt, elementsAt, membersAt, arrayAt, objectAt}
+use Rattle.text.specs.Tree.{Bracket, curly, Forest, none, leaf, size}
+use Rattle.text.specs.Grammar.{closing}
+use Rattle.text.specs.Reader.{Read, good, bad, Reader, scalarWith, scalarAt, closeOf, container, deep, valueWith, insideOf, colonAt, memberWith, memberOf, valueAt, elementsAt, membersAt, arrayAt, objectAt}
+use Rattle.text.specs.declared.Token.{Token}
 use Rattle.text.specs.declared.Token.the-variants.{End, No2, No3}
-use Rattle.text.specs.declared.Refusal.the-variants.{Grammar, Character, Repeated, Deep, Many}
+use Rattle.text.specs.declared.Refusal.the-variants.{Grammar, Character, Deep, Many}
 use Rattle.text.proofs.Laws.{value-parts}
-use Rattle.json.specs.Readers.{containerOf, bracketOf, containerAt, itemsAt}
+use Rattle.repeats.specs.Quoted.{tailAt}
+use Rattle.repeats.specs.Closed.{loose, strictItem, ownName, settle}
+use Rattle.repeats.proofs.Gathering.{container-law}
+use Rattle.repeats.proofs.Fair.{value-fair}
+use Rattle.json.specs.Readers.{containerOf, bracketOf, containerAt, itemsAt, namesAt}
 use Rattle.json.specs.declared.containers.Container.{Container}
 use Rattle.json.specs.declared.containers.Container.the-variants.{Array, Object}
 
@@ -96,28 +104,34 @@ module _ (L : Limits) (t : List ℕ) (ns ne at n depth : ℕ) where
 
 -- ---- containers ----
 
-module _ (L : Limits) (t : List ℕ) (ns ne at n : ℕ) where
-  pub container-deep : (of : Container) (depth : ℕ) → depth ≡ 0 → containerAt of L t depth ns ne at n ≡ bad (Deep at)
+module _ (t : List ℕ) (ns ne at n : ℕ) where
+  pub container-deep : (of : Container) (depth : ℕ) → depth ≡ 0 → containerAt of base t depth ns ne at n ≡ bad (Deep at)
   unfolding arrayAt objectAt deep
   container-deep Array depth h = rw h
   container-deep Object depth h = rw h
 
   -- where one may be opened, the two go the same way
-  opened : (of : Container) (depth : ℕ) → containerAt of L t (suc depth) ns ne at n ≡ container L (bracketOf of) (itemsAt of L t depth) ns ne at n
+  opened : (of : Container) (depth : ℕ)
+      → containerAt of base t (suc depth) ns ne at n ≡ container base (bracketOf of) (insideOf t (strictItem base t (valueAt base t depth) (bracketOf of)) (closing (bracketOf of))) ns ne at n
   unfolding arrayAt objectAt elementsAt membersAt
   opened Array depth = refl
   opened Object depth = refl
 
-  pub container-many : (of : Container) (depth : ℕ) → (depth ≡ 0 → ⊥) → L .values ≤ n → containerAt of L t depth ns ne at n ≡ bad (Many at)
+  pub container-many : (of : Container) (depth : ℕ) → (depth ≡ 0 → ⊥) → base .values ≤ n → containerAt of base t depth ns ne at n ≡ bad (Many at)
   unfolding container
   container-many of zero h m = absurd (h refl)
   container-many of (suc depth) h m = opened of depth ∙ rw (le-leb _ _ m)
 
-  pub container-open : (of : Container) (depth : ℕ) → (depth ≡ 0 → ⊥) → n < L .values
-      → containerAt of L t depth ns ne at n ≡ closeOf (bracketOf of) ns ne at (itemsAt of L t (depth - 1) (at + 1) (n + 1))
+  -- its items are read without comparing names, and then its names are looked through
+  pub container-open : (of : Container) (depth : ℕ) → (depth ≡ 0 → ⊥) → n < base .values
+      → containerAt of base t depth ns ne at n
+      ≡ closeOf (bracketOf of) ns ne at (settle (firstRepeat (tailAt t 1) (namesAt of t (depth - 1) (at + 1) (n + 1))) (itemsAt of t (depth - 1) (at + 1) (n + 1)))
   unfolding container
   container-open of zero h m = absurd (h refl)
-  container-open of (suc depth) h m = rw sub-one (opened of depth ∙ rw (lt-leb _ _ m))
+  container-open of (suc depth) h m =
+      rw sub-one
+      (opened of depth
+      ∙ rw (lt-leb _ _ m) (ap (closeOf (bracketOf of) ns ne at) (container-law base refl t (valueAt base t depth) (value-fair base t depth) (bracketOf of) (at + 1) (n + 1))))
 
 -- ---- a member's name and colon ----
 
@@ -130,25 +144,71 @@ module _ (t : List ℕ) (value : Reader) (at end n x : ℕ) (e : x ≡ skip t en
   unfolding colonAt
   colon-there h = rw (← e, eq-eqb _ _ h)
 
-module _ (L : Limits) (t : List ℕ) (value : Reader) (done : Forest) (at n : ℕ) where
-  pub member-none : (byteAt t at ≡ 34 → ⊥) → memberOf L t value done at n ≡ bad (Grammar at)
+module _ (t : List ℕ) (value : Reader) (done : Forest) (at n : ℕ) where
+  pub member-none : (byteAt t at ≡ 34 → ⊥) → memberOf (loose base) t value done at n ≡ bad (Grammar at)
   unfolding memberOf
   member-none h = rw (ne-eqb _ _ h)
 
   module _ (h : byteAt t at ≡ 34) where
-    pub member-no2 : (p : ℕ) → stringEnd t (at + 1) ≡ No2 p → memberOf L t value done at n ≡ bad (Grammar p)
+    pub member-no2 : (p : ℕ) → stringEnd t (at + 1) ≡ No2 p → memberOf (loose base) t value done at n ≡ bad (Grammar p)
     unfolding memberOf memberWith
     member-no2 p e = rw (eq-eqb _ _ h, e)
 
-    pub member-no3 : (p : ℕ) → stringEnd t (at + 1) ≡ No3 p → memberOf L t value done at n ≡ bad (Character p)
+    pub member-no3 : (p : ℕ) → stringEnd t (at + 1) ≡ No3 p → memberOf (loose base) t value done at n ≡ bad (Character p)
     unfolding memberOf memberWith
     member-no3 p e = rw (eq-eqb _ _ h, e)
 
-    module _ (u : L .unique ≡ true) (end : ℕ) (e : stringEnd t (at + 1) ≡ End end) where
-      pub member-known : named t (nameOf t (at + 1) (end - 1)) done ≡ true → memberOf L t value done at n ≡ bad (Repeated at)
-      unfolding memberOf memberWith
-      member-known k = rw (eq-eqb _ _ h, e, u, k)
+    pub member-closed : (end : ℕ) → stringEnd t (at + 1) ≡ End end → memberOf (loose base) t value done at n ≡ colonAt t value at end n
+    unfolding memberOf memberWith
+    member-closed end e = rw (eq-eqb _ _ h, e)
 
-      pub member-new : named t (nameOf t (at + 1) (end - 1)) done ≡ false → memberOf L t value done at n ≡ colonAt t value at end n
-      unfolding memberOf memberWith
-      member-new k = rw (eq-eqb _ _ h, e, u, k)
+-- and the name that it closes
+module _ (t : List ℕ) (at : ℕ) where
+  pub own-none : (byteAt t at ≡ 34 → ⊥) → ownName t curly at ≡ []
+  own-none h = rw (ne-eqb _ _ h)
+
+  module _ (h : byteAt t at ≡ 34) where
+    pub own-no2 : (p : ℕ) → stringEnd t (at + 1) ≡ No2 p → ownName t curly at ≡ []
+    own-no2 p e = rw (eq-eqb _ _ h, e)
+
+    pub own-no3 : (p : ℕ) → stringEnd t (at + 1) ≡ No3 p → ownName t curly at ≡ []
+    own-no3 p e = rw (eq-eqb _ _ h, e)
+
+    pub own-closed : (end : ℕ) → stringEnd t (at + 1) ≡ End end → ownName t curly at ≡ at ∷ []
+    own-closed end e = rw (eq-eqb _ _ h, e)
+
+-- ---- a value that is accepted is one row or more ----
+
+abbrev pub Some : Read → Type 0
+Some (good f to) = 0 < size f
+Some (bad r) = Prim.Unit {0}
+
+some-cond : (b : Bool) (x y : Read) → Some x → Some y → Some (cond b x y)
+some-cond true x y p q = p
+some-cond false x y p q = q
+
+scalar-some : (kind ns ne at : ℕ) (k : Token) → Some (scalarWith kind ns ne at k)
+unfolding scalarWith size
+scalar-some kind ns ne at (End to) = omega arith
+scalar-some kind ns ne at (No2 p) = tt
+scalar-some kind ns ne at (No3 p) = tt
+
+close-some : (b : Bracket) (ns ne at : ℕ) (R : Read) → Some (closeOf b ns ne at R)
+unfolding closeOf size
+close-some b ns ne at (good f to) = omega arith
+close-some b ns ne at (bad r) = tt
+
+module _ (L : Limits) (t : List ℕ) (ns ne at n : ℕ) where
+  array-some : (depth : ℕ) → Some (arrayAt L t depth ns ne at n)
+  unfolding arrayAt deep container
+  array-some zero = tt
+  array-some (suc depth) = search (needs, some-cond, close-some, tt) depth 9
+
+  object-some : (depth : ℕ) → Some (objectAt L t depth ns ne at n)
+  unfolding objectAt deep container
+  object-some zero = tt
+  object-some (suc depth) = search (needs, some-cond, close-some, tt) depth 9
+
+  pub value-some : (depth : ℕ) → Some (valueAt L t depth ns ne at n)
+  unfolding valueWith scalarAt
+  value-some depth = rw (value-parts L t depth ns ne at n) (search (needs, some-cond, array-some, object-some, scalar-some, tt) depth 9)

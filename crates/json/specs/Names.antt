@@ -1,20 +1,19 @@
--- Two strings compared as written, as far as that goes. Assumes nothing: these are definitions.
+-- A string compared with a byte string as written, as far as that goes, and the order at a difference. Assumes nothing: these are definitions.
 use Prim.Native.Nat.{ℕ, _≤_}
 use mathlib.Core.Path.{_≡_}
 use mathlib.Core.List.{List}
 use mathlib.Core.Bool.{cond}
 use lib.ListN.{length, drop}
 use lib.Dec.{ltb, eqb}
-use Rattle.laws.specs.Order.{orderOf, same}
+use Rattle.laws.specs.Order.{same}
 use Rattle.laws.specs.declared.Order.{Order}
 use Rattle.laws.specs.declared.Order.the-variants.{Less, Same, More}
 use Rattle.text.specs.Text.{byteAt}
 use Rattle.text.specs.Strings.{decodeFrom, decode}
 
--- What two strings have in common up to a place decides nothing: decoded from there on they compare as from their start, and so does the first,
--- decoded, with the second as it is.
+-- What two strings have in common up to a place decides nothing: the first, decoded from there on, compares with the second as it is from there on as from
+-- their start.
 pub record Common (a b : List ℕ) (i : ℕ) : Type 0 where
-  pub ordered : orderOf (decodeFrom a i) (decodeFrom b i) ≡ orderOf (decode a) (decode b)
   pub literal : same (decodeFrom a i) (drop i b) ≡ same (decode a) b
   pub within : i ≤ length b
 

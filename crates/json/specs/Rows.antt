@@ -1,5 +1,5 @@
 -- The words of a row, and what a row that is stored asks. Assumes nothing: these are definitions.
-use Prim.Native.Nat.{ℕ, _+_, _*_, _<_, _≤_}
+use Prim.Native.Nat.{ℕ, _+_, _*_, _<_}
 use mathlib.Core.List.{List}
 use lib.ListN.{getD}
 use Rattle.text.specs.Limits.{rowWords}
@@ -40,9 +40,9 @@ belowIn table k = wordOf table k 5
 abbrev pub Word : ℕ → Type 0
 Word x = x < 4294967296
 
--- a row has room in a table of so many words, and its own words fit
-pub record Row (words row kind ns ne from to below : ℕ) : Type 0 where
-  pub room : row * rowWords + rowWords ≤ words
+-- a row's number and its own words fit
+pub record Row (row kind ns ne from to below : ℕ) : Type 0 where
+  pub row-fits : Word row
   pub kind-fits : Word kind
   pub ns-fits : Word ns
   pub ne-fits : Word ne

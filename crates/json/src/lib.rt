@@ -6,10 +6,13 @@
 //   strings     where a string ends
 //   decode      a string's decoded bytes, one at a time
 //   names       names compared decoded
+//   quoted      names told by the places of their quotes, compared up to their closing ones
+//   sort        the places of names, sorted by name and place
+//   repeated    the earliest repeated name
 //   tokens      white space, literals and numbers
 //   rows        the words of a row, stored and read
 //   lookup      rows found from other rows: the next one beside a value, and the member of a name
-//   members     the names of an object's members
+//   members     how an item begins: a member's name and colon
 //   containers  the two containers, and how their items begin
 //   values      values, arrays and objects
 //   read        whole texts
@@ -22,8 +25,11 @@ pub mod lookup;
 mod members;
 pub mod names;
 mod plain;
+mod quoted;
 pub mod read;
+mod repeated;
 pub mod rows;
+mod sort;
 mod strings;
 mod tokens;
 mod values;

@@ -1,82 +1,51 @@
-// An object's members: their names, and whether a name is there already (docs/RULES.md, 3.5).
+// How an item of a container begins (docs/RULES.md, 3.2): a member's name, which counts as soon as it is closed (3.5), its colon, and the place of its value.
 use crate::bytes::COLON;
 use crate::bytes::QUOTE;
 use crate::bytes::peek;
-use crate::lookup::next_row;
-use crate::names::same_name;
-use crate::rows::name_end;
-use crate::rows::name_start;
 use crate::strings::string_end;
 use crate::tokens::skip;
 use text::Refusal;
 use text::Token;
-ghost use mathlib.Core.Path.{_≡_};
 ghost use Prim.Native.Nat.{_<_, _≤_};
 ghost use lib.ListN.{length};
-ghost use Rattle.text.specs.Tree.{Forest};
-ghost use Rattle.text.specs.Standing.{StandsTo};
-ghost use Rattle.text.specs.Strings.{nameOf};
-ghost use Rattle.text.specs.Reader as reader;
-ghost use Rattle.json.specs.Readers.{Colon, KeyRead};
+ghost use Rattle.json.specs.Readers.{Coloned, NameAsks, ItemRead};
+ghost use Rattle.json.specs.declared.containers.Container.the-variants.{Object};
 
-// A member's name: where it ends and where the value is; or the refusal.
-pub enum MemberName {
-    Value(usize, usize),
-    Broken(Refusal),
+// How an item begins: the places of its name, 0 and 0 where it has none, and the place of its value; or the refusal. Last, where the names end that were
+// put aside.
+pub enum ItemStart {
+    At(usize, usize, usize, usize),
+    Wrong(Refusal, usize),
 }
 
-// Is a name among those of the values that stand from row `first` up to row `end`, not looking inside them?
-fn named(text: &[u8], table: &[u32], first: usize, end: usize, ns: usize, ne: usize) -> bool
-    ensures { λ r. ⌜ ((done : Forest) → StandsTo (now (table .entry)) first end done → r ≡ reader.named (now (text .entry)) (nameOf (now (text .entry)) ns ne) done) ⌝ }
+// The colon after a name from `start` on, whose token ends at `to`, and the place of the value. The name is the last of those up to `end`.
+fn colon(text: &[u8], start: usize, to: usize, end: usize) -> ItemStart
+    requires { ⌜ (0 < to) × (to ≤ length (now text)) ⌝ }
+    ensures { λ r. ⌜ Coloned (now (text .entry)) start to end r ⌝ }
 {
-    let mut row = first;
-    while row < end {
-        let s = name_start(table, row);
-        let e = name_end(table, row);
-        if same_name(text, s, e, ns, ne) {
-            return true;
-        }
-        row = next_row(table, row);
-    }
-    false
-}
-
-// The colon after a name whose token ends at `end`, and the place of the value.
-fn colon(text: &[u8], end: usize) -> MemberName
-    requires { ⌜ (0 < end) × (end ≤ length (now text)) ⌝ }
-    ensures { λ r. ⌜ Colon (now (text .entry)) end r ⌝ }
-{
-    let at = skip(text, end);
+    let at = skip(text, to);
     if peek(text, at) != COLON {
-        return MemberName::Broken(Refusal::Grammar(at));
+        return ItemStart::Wrong(Refusal::Grammar(at), end);
     }
     let from = skip(text, at + 1);
-    let ne = end - 1;
-    MemberName::Value(ne, from)
+    let ne = to - 1;
+    ItemStart::At(start, ne, from, end)
 }
 
-// The name at a place, of a member of the object whose members so far stand from row `first` up to row `end`.
-pub(crate) fn read_key(
-    text: &[u8],
-    table: &[u32],
-    first: usize,
-    end: usize,
-    at: usize,
-) -> MemberName
-    requires { ⌜ at ≤ length (now text) ⌝ }
-    ensures { λ r. ⌜ KeyRead (now (text .entry)) (now (table .entry)) first end at r ⌝ }
+// The name at a place, put behind the names up to `end` once it is closed, whatever follows it.
+pub(crate) fn read_key(text: &[u8], names: &mut [u32], end: usize, at: usize) -> ItemStart
+    requires { ⌜ NameAsks (now text) (now names) end at ⌝ }
+    ensures { λ r. ⌜ ItemRead Object (now (text .entry)) end at (now (names .entry)) (now (names .exit)) r ⌝ }
 {
     if peek(text, at) != QUOTE {
-        return MemberName::Broken(Refusal::Grammar(at));
+        return ItemStart::Wrong(Refusal::Grammar(at), end);
     }
     match string_end(text, at + 1) {
-        Token::No2(p) => MemberName::Broken(Refusal::Grammar(p)),
-        Token::No3(p) => MemberName::Broken(Refusal::Character(p)),
+        Token::No2(p) => ItemStart::Wrong(Refusal::Grammar(p), end),
+        Token::No3(p) => ItemStart::Wrong(Refusal::Character(p), end),
         Token::End(to) => {
-            if named(text, table, first, end, at + 1, to - 1) {
-                return MemberName::Broken(Refusal::Repeated(at));
-            }
-            colon(text, to)
+            names[end] = at as u32;
+            colon(text, at + 1, to, end + 1)
         }
     }
 }

@@ -1,5 +1,5 @@
-// Names compared decoded (docs/RULES.md, 3.5): with each other and with a byte string. They are compared as written up to a backslash, and decoded from there on; a
-// comparison stops at the first difference.
+// Names compared decoded with a byte string (docs/RULES.md, 3.5): as written up to a backslash, and decoded from there on. A comparison stops at the first
+// difference.
 use crate::bytes::BACKSLASH;
 use crate::bytes::OVER;
 use crate::bytes::peek;
@@ -11,7 +11,7 @@ ghost use mathlib.Core.Path.{_≡_};
 ghost use Prim.Native.Nat.{_≤_};
 ghost use lib.ListN.{length, drop};
 ghost use Rattle.laws.specs.Lists.{partOf};
-ghost use Rattle.laws.specs.Order.{orderOf, isSame, same};
+ghost use Rattle.laws.specs.Order.{isSame, isLess, same};
 ghost use Rattle.text.specs.Strings.{decodeFrom, decode, nameOf};
 ghost use Rattle.json.specs.Names.{Alike, orderAt};
 
@@ -36,39 +36,6 @@ fn alike(a: &[u8], b: &[u8]) -> usize
     }
 }
 
-// The order of two strings' inner bytes, decoded, from a place on that is the same in both.
-fn order_from(a: &[u8], b: &[u8], from: usize) -> Order
-    ensures { λ r. ⌜ r ≡ orderOf (decodeFrom (now (a .entry)) from) (decodeFrom (now (b .entry)) from) ⌝ }
-{
-    let mut x = cursor_at(from);
-    let mut y = x;
-    loop {
-        match next_byte(a, x) {
-            Next::Over => {
-                return match next_byte(b, y) {
-                    Next::Over => Order::Same,
-                    Next::Byte(_, _) => Order::Less,
-                };
-            }
-            Next::Byte(p, x2) => match next_byte(b, y) {
-                Next::Over => {
-                    return Order::More;
-                }
-                Next::Byte(q, y2) => {
-                    if p < q {
-                        return Order::Less;
-                    }
-                    if q < p {
-                        return Order::More;
-                    }
-                    x = x2;
-                    y = y2;
-                }
-            },
-        }
-    }
-}
-
 // The order by the bytes at the first difference, 256 where a string is over.
 pub fn order_at(p: u16, q: u16) -> Order
     ensures { λ r. ⌜ r ≡ orderAt p q ⌝ }
@@ -85,22 +52,6 @@ pub fn order_at(p: u16, q: u16) -> Order
     if p < q { Order::Less } else { Order::More }
 }
 
-// The order of two strings' inner bytes, decoded.
-fn order_of(a: &[u8], b: &[u8]) -> Order
-    ensures { λ r. ⌜ r ≡ orderOf (decode (now (a .entry))) (decode (now (b .entry))) ⌝ }
-{
-    let i = alike(a, b);
-    let p = peek(a, i);
-    if p == BACKSLASH {
-        return order_from(a, b, i);
-    }
-    let q = peek(b, i);
-    if q == BACKSLASH {
-        return order_from(a, b, i);
-    }
-    order_at(p, q)
-}
-
 // Is the order that of two that are the same?
 pub fn is_same(o: Order) -> bool
     ensures { λ r. ⌜ r ≡ isSame o ⌝ }
@@ -112,20 +63,15 @@ pub fn is_same(o: Order) -> bool
     }
 }
 
-// Are two strings' inner bytes the same, decoded?
-fn same_slices(a: &[u8], b: &[u8]) -> bool
-    ensures { λ r. ⌜ r ≡ same (decode (now (a .entry))) (decode (now (b .entry))) ⌝ }
+// Is it that of one that comes before the other?
+pub(crate) fn is_less(o: Order) -> bool
+    ensures { λ r. ⌜ r ≡ isLess o ⌝ }
 {
-    let i = alike(a, b);
-    let p = peek(a, i);
-    if p == BACKSLASH {
-        return is_same(order_from(a, b, i));
+    match o {
+        Order::Less => true,
+        Order::Same => false,
+        Order::More => false,
     }
-    let q = peek(b, i);
-    if q == BACKSLASH {
-        return is_same(order_from(a, b, i));
-    }
-    p == q
 }
 
 // Do a string's inner bytes, decoded from a place on, go on as the literal does from there?
@@ -174,20 +120,6 @@ pub fn slice(text: &[u8], s: usize, e: usize) -> &[u8]
     } else {
         &text[..0]
     }
-}
-
-// The order of two names of a text, by their decoded bytes. A name is given by its places, without the quotes.
-pub fn name_order(text: &[u8], s1: usize, e1: usize, s2: usize, e2: usize) -> Order
-    ensures { λ r. ⌜ r ≡ orderOf (nameOf (now (text .entry)) s1 e1) (nameOf (now (text .entry)) s2 e2) ⌝ }
-{
-    order_of(slice(text, s1, e1), slice(text, s2, e2))
-}
-
-// Are two names of a text the same, decoded?
-pub(crate) fn same_name(text: &[u8], s1: usize, e1: usize, s2: usize, e2: usize) -> bool
-    ensures { λ r. ⌜ r ≡ same (nameOf (now (text .entry)) s1 e1) (nameOf (now (text .entry)) s2 e2) ⌝ }
-{
-    same_slices(slice(text, s1, e1), slice(text, s2, e2))
 }
 
 // Is a name of a text, decoded, the literal, as b"uid"?

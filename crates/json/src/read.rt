@@ -12,10 +12,20 @@ use text::Refusal;
 ghost use mathlib.Core.Path.{_≡_};
 ghost use Prim.Native.Nat.{_*_, _≤_};
 ghost use lib.ListN.{length};
-ghost use Rattle.text.specs.Limits.{rowWords, base};
+ghost use Rattle.text.specs.Limits.{base};
 ghost use Rattle.text.specs.Whole.{readOf, wholeOf, Reads};
-ghost use Rattle.json.specs.Readers.{upTo};
-ghost use Rattle.json.specs.Answers.{ReadsRows, Room, Ended, isMany, againOf};
+ghost use Rattle.json.specs.Readers.{TextAsks};
+ghost use Rattle.json.specs.Answers.{ReadsRows, Ended};
+
+// The bytes that a name takes at least, up to its value's first byte and with the bracket or comma before it; and the names of short texts, fourfold each
+// time: what is cleared for a text of more than 256 bytes is then no more than four times what it could use.
+const NAME_BYTES: usize = 4;
+
+const SMALL_NAMES: usize = 64;
+
+const SHORT_NAMES: usize = 256;
+
+const MIDDLE_NAMES: usize = 1024;
 
 // Reads a text: its rows and zeros after them, or the refusal and zeros alone.
 pub fn read(text: &[u8], table: &mut [u32]) -> Reading
@@ -42,83 +52,84 @@ pub fn read_rows(text: &[u8], table: &mut [u32]) -> Reading
     }
 }
 
-// The answer, and the rows in the table, which may hold anything after a refusal. A table without a row is too small for any text.
+// The answer, and the rows in the table, which may hold anything after a refusal. That the table is too small is said last: the text is read all the same,
+// and what has no room isn't stored.
 fn read_over(text: &[u8], table: &mut [u32]) -> Reading
     ensures { λ r. ⌜ Ended (wholeOf base (length (now (table .entry))) (now (text .entry))) (now (table .entry)) (now (table .exit)) r ⌝ }
 {
-    if table.len() < ROW_WORDS {
-        return read_again(text);
-    }
-    read_lent(text, table)
-}
-
-// The same, by a reading that takes as many values as the table has rows; where these are too few, the text is read again, for its other faults and
-// for the number of its values.
-fn read_lent(text: &[u8], table: &mut [u32]) -> Reading
-    ensures { λ r. ⌜ Ended (wholeOf base (length (now (table .entry))) (now (text .entry))) (now (table .entry)) (now (table .exit)) r ⌝ }
-{
-    let limit = values_in(table.len());
-    let answer = read_whole(text, table, limit);
-    match answer {
-        Reading::Rows(n) => Reading::Rows(n),
-        Reading::Refused(r) => {
-            if limit == VALUES {
-                return Reading::Refused(r);
+    match read_sized(text, table) {
+        Reading::Rows(n) => {
+            if table.len() < ROW_WORDS * n {
+                return Reading::Refused(Refusal::Small(n));
             }
-            if is_many(r) {
-                return read_again(text);
-            }
-            Reading::Refused(r)
+            Reading::Rows(n)
         }
-    }
-}
-
-// How many values a table of so many words takes.
-fn values_in(words: usize) -> usize
-    ensures { λ r. ⌜ Room words r ⌝ }
-{
-    let rows = words / ROW_WORDS;
-    if rows < VALUES { rows } else { VALUES }
-}
-
-// Is it the refusal of one value too many?
-fn is_many(r: Refusal) -> bool
-    ensures { λ b. ⌜ b ≡ isMany r ⌝ }
-{
-    match r {
-        Refusal::TooLong => false,
-        Refusal::Grammar(_) => false,
-        Refusal::Character(_) => false,
-        Refusal::Repeated(_) => false,
-        Refusal::Deep(_) => false,
-        Refusal::Many(_) => true,
-        Refusal::Small(_) => false,
-    }
-}
-
-// A text that has more values than the lent table has rows, read on rows of our own: another refusal, or the rows that it needs.
-// Two functions call it: a function with one caller becomes part of it, and then each call of `read` would pay for these rows.
-fn read_again(text: &[u8]) -> Reading
-    ensures { λ r. ⌜ r ≡ againOf (readOf base (now (text .entry))) ⌝ }
-{
-    let mut own = [0u32; VALUES * ROW_WORDS];
-    let answer = read_whole(text, &mut own, VALUES);
-    match answer {
-        Reading::Rows(n) => Reading::Refused(Refusal::Small(n)),
         Reading::Refused(r) => Reading::Refused(r),
     }
 }
 
-// A text within the limit of bytes: a value with white space around it, of at most `limit` values.
-fn read_whole(text: &[u8], table: &mut [u32], limit: usize) -> Reading
-    requires { ⌜ (limit ≤ base .values) × (limit * rowWords ≤ length (now table)) ⌝ }
-    ensures { λ r. ⌜ Ended (readOf (upTo limit) (now (text .entry))) (now (table .entry)) (now (table .exit)) r ⌝ }
+// The same for a table of any size: read with a store of names that is sized by the text, since the store is cleared at each call.
+fn read_sized(text: &[u8], table: &mut [u32]) -> Reading
+    ensures { λ r. ⌜ Ended (readOf base (now (text .entry))) (now (table .entry)) (now (table .exit)) r ⌝ }
 {
+    if text.len() <= NAME_BYTES * SMALL_NAMES {
+        return read_small(text, table);
+    }
+    if text.len() <= NAME_BYTES * SHORT_NAMES {
+        return read_short(text, table);
+    }
+    if text.len() <= NAME_BYTES * MIDDLE_NAMES {
+        return read_middle(text, table);
+    }
     if BYTES < text.len() {
         return Reading::Refused(Refusal::TooLong);
     }
+    read_long(text, table)
+}
+
+// A text with room for the names of a small card.
+fn read_small(text: &[u8], table: &mut [u32]) -> Reading
+    requires { ⌜ length (now text) ≤ 4 * 64 ⌝ }
+    ensures { λ r. ⌜ Ended (readOf base (now (text .entry))) (now (table .entry)) (now (table .exit)) r ⌝ }
+{
+    let mut names = [0u32; SMALL_NAMES];
+    read_whole(text, table, &mut names)
+}
+
+// One with room for some more.
+fn read_short(text: &[u8], table: &mut [u32]) -> Reading
+    requires { ⌜ length (now text) ≤ 4 * 256 ⌝ }
+    ensures { λ r. ⌜ Ended (readOf base (now (text .entry))) (now (table .entry)) (now (table .exit)) r ⌝ }
+{
+    let mut names = [0u32; SHORT_NAMES];
+    read_whole(text, table, &mut names)
+}
+
+// And for those of a rich card.
+fn read_middle(text: &[u8], table: &mut [u32]) -> Reading
+    requires { ⌜ length (now text) ≤ 4 * 1024 ⌝ }
+    ensures { λ r. ⌜ Ended (readOf base (now (text .entry))) (now (table .entry)) (now (table .exit)) r ⌝ }
+{
+    let mut names = [0u32; MIDDLE_NAMES];
+    read_whole(text, table, &mut names)
+}
+
+// One that may have as many as there are values.
+fn read_long(text: &[u8], table: &mut [u32]) -> Reading
+    requires { ⌜ length (now text) ≤ base .bytes ⌝ }
+    ensures { λ r. ⌜ Ended (readOf base (now (text .entry))) (now (table .entry)) (now (table .exit)) r ⌝ }
+{
+    let mut names = [0u32; VALUES];
+    read_whole(text, table, &mut names)
+}
+
+// A text within the limit of bytes: a value with white space around it.
+fn read_whole(text: &[u8], table: &mut [u32], names: &mut [u32]) -> Reading
+    requires { ⌜ TextAsks (now text) (now names) ⌝ }
+    ensures { λ r. ⌜ Ended (readOf base (now (text .entry))) (now (table .entry)) (now (table .exit)) r ⌝ }
+{
     let from = skip(text, 0);
-    let v = read_value(text, table, limit, DEPTH, 0, 0, from, 0);
+    let v = read_value(text, table, names, DEPTH, 0, 0, 0, from, 0);
     match v {
         Progress::Stop(r) => Reading::Refused(r),
         Progress::Next(to, count) => {

@@ -2,11 +2,11 @@
 use crate::limits::ROW_WORDS;
 ghost use mathlib.Core.Path.{_≡_};
 ghost use Prim.Native.Nat.{_*_, _<_};
-ghost use lib.ListN.{length};
+ghost use lib.ListN.{set};
 ghost use lib.Seq.{sets};
 ghost use Rattle.text.specs.Limits.{rowWords};
 ghost use Rattle.text.specs.Tree.{rowOf};
-ghost use Rattle.json.specs.Rows.{Row, wordOf, kindIn, nameStartIn, nameEndIn, startIn, endIn, belowIn};
+ghost use Rattle.json.specs.Rows.{Word, Row, wordOf, kindIn, nameStartIn, nameEndIn, startIn, endIn, belowIn};
 
 // The kinds of a row, NULL to OBJECT.
 pub const NULL: usize = 1;
@@ -23,7 +23,40 @@ pub const ARRAY: usize = 6;
 
 pub const OBJECT: usize = 7;
 
-// Stores a row.
+// Stores a word, where the table has it.
+fn put_word(table: &mut [u32], at: usize, word: usize)
+    requires { ⌜ Word word ⌝ }
+    ensures { λ _. ⌜ now (table .exit) ≡ set (now (table .entry)) at word ⌝ }
+{
+    if at < table.len() {
+        table[at] = word as u32;
+    }
+}
+
+// Stores as much of a row as the table has room for: a table that is too small is said so once the text is read (docs/RULES.md, 3.6).
+fn put_some(
+    table: &mut [u32],
+    row: usize,
+    kind: usize,
+    ns: usize,
+    ne: usize,
+    from: usize,
+    to: usize,
+    below: usize,
+)
+    requires { ⌜ Row row kind ns ne from to below ⌝ }
+    ensures { λ _. ⌜ now (table .exit) ≡ sets (now (table .entry)) (row * rowWords) (rowOf kind ns ne from to below) ⌝ }
+{
+    let at = row * ROW_WORDS;
+    put_word(table, at, kind);
+    put_word(table, at + 1, ns);
+    put_word(table, at + 2, ne);
+    put_word(table, at + 3, from);
+    put_word(table, at + 4, to);
+    put_word(table, at + 5, below);
+}
+
+// Stores a row. Where it fits, one test is enough for all of it.
 pub(crate) fn put_row(
     table: &mut [u32],
     row: usize,
@@ -34,10 +67,13 @@ pub(crate) fn put_row(
     to: usize,
     below: usize,
 )
-    requires { ⌜ Row (length (now table)) row kind ns ne from to below ⌝ }
+    requires { ⌜ Row row kind ns ne from to below ⌝ }
     ensures { λ _. ⌜ now (table .exit) ≡ sets (now (table .entry)) (row * rowWords) (rowOf kind ns ne from to below) ⌝ }
 {
     let at = row * ROW_WORDS;
+    if table.len() < at + ROW_WORDS {
+        return put_some(table, row, kind, ns, ne, from, to, below);
+    }
     table[at] = kind as u32;
     table[at + 1] = ns as u32;
     table[at + 2] = ne as u32;

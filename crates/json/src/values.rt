@@ -1,13 +1,19 @@
 // Values, and the arrays and objects that hold some (docs/RULES.md, 3.2), whose readers call each other. Each call has one container less to open, or
 // stands further on in the text.
+//
+// Members are read without comparing their names. The places of the names that were closed stand in `names`, those of the object at hand from `top` on
+// behind those of the objects around it, and are looked through once the object ends or a refusal ends it (crate `repeats`).
 use crate::bytes::COMMA;
 use crate::bytes::peek;
 use crate::containers::Container;
-use crate::containers::ItemStart;
 use crate::containers::closing;
 use crate::containers::container_of;
 use crate::containers::item_at;
 use crate::containers::kind_in;
+use crate::limits::VALUES;
+use crate::members::ItemStart;
+use crate::repeated::NONE;
+use crate::repeated::first_repeat;
 use crate::rows::ARRAY;
 use crate::rows::put_row;
 use crate::tokens::kind_of;
@@ -16,18 +22,22 @@ use crate::tokens::token_end;
 use text::Refusal;
 use text::Token;
 ghost use mathlib.Core.Path.{_≡_};
-ghost use Prim.Native.Nat.{ℕ, _+_, _<_};
+ghost use Rattle.text.specs.Limits.{base};
 ghost use Rattle.text.specs.Text.{byteAt};
 ghost use Rattle.text.specs.Tokens as tokens;
-ghost use Rattle.text.specs.Tree.{Forest};
-ghost use Rattle.text.specs.Standing.{StandsTo};
 ghost use Rattle.text.specs.Reader.{scalarAt, valueAt};
-ghost use Rattle.json.specs.Readers.{upTo, ItemAsks, ValueAsks, ScalarAsks, Overfull, Took, CloseAsks, Closes, containerAt, itemsAt, itemOf};
+ghost use Rattle.json.specs.Readers.{ItemAsks, ValueAsks, ContainerAsks, ScalarAsks, Overfull, Took, TookIn, CloseAsks, Closes, containerAt, SettleAsks, Settles, ItemTook, ItemsTook};
 
 // What reading some of a text gives: the place after it and the number of values so far, or the refusal.
 pub enum Progress {
     Next(usize, usize),
     Stop(Refusal),
+}
+
+// What reading items gives, and where the names end that they and the items before them closed.
+pub struct Gathered {
+    pub read: Progress,
+    pub end: usize,
 }
 
 // The kind that the byte at a place begins, or 0.
@@ -64,8 +74,8 @@ fn read_scalar(
     at: usize,
     count: usize,
 ) -> Progress
-    requires { ⌜ ScalarAsks (now text) (now table) kind ns ne at count ⌝ }
-    ensures { λ r. ⌜ ((limit : ℕ) → count < limit → Took (scalarAt (upTo limit) (now (text .entry)) kind ns ne at count) (now (text .entry)) limit at count (now (table .entry)) (now (table .exit)) r) ⌝ }
+    requires { ⌜ ScalarAsks (now text) kind ns ne at count ⌝ }
+    ensures { λ r. ⌜ Took (scalarAt base (now (text .entry)) kind ns ne at count) (now (text .entry)) at count (now (table .entry)) (now (table .exit)) r ⌝ }
 {
     match token_end(text, kind, at) {
         Token::End(to) => {
@@ -88,7 +98,7 @@ fn close(
     at: usize,
     count: usize,
 ) -> Progress
-    requires { ⌜ CloseAsks (now table) kind ns ne at count inside ⌝ }
+    requires { ⌜ CloseAsks kind ns ne at count inside ⌝ }
     ensures { λ r. ⌜ Closes kind ns ne at count inside (now (table .entry)) (now (table .exit)) r ⌝ }
 {
     match inside {
@@ -100,22 +110,40 @@ fn close(
     }
 }
 
+// What reading a container's items gives once its names are looked through: a repeated one stands before whatever ended the reading.
+fn settle(text: &[u8], names: &mut [u32], top: usize, items: Gathered) -> Progress
+    requires { ⌜ SettleAsks (now text) (now names) top (items .end) ⌝ }
+    ensures { λ r. ⌜ Settles (now (text .entry)) top items (now (names .entry)) (now (names .exit)) r ⌝ }
+{
+    let read = items.read;
+    let end = items.end;
+    if end - top < 2 {
+        return read;
+    }
+    let place = first_repeat(text, &mut names[top..end]);
+    if place == NONE {
+        return read;
+    }
+    Progress::Stop(Refusal::Repeated(place))
+}
+
 // The value at a place, as row `count`, where at most `depth` containers may be opened. The limit is asked first and not between a value's first byte and its
 // token: so what the first byte says is asked once.
 pub(crate) fn read_value(
     text: &[u8],
     table: &mut [u32],
-    limit: usize,
+    names: &mut [u32],
     depth: usize,
+    top: usize,
     ns: usize,
     ne: usize,
     at: usize,
     count: usize,
 ) -> Progress
-    requires { ⌜ ValueAsks (now text) (now table) limit ns ne at count ⌝ }
-    ensures { λ r. ⌜ Took (valueAt (upTo limit) (now (text .entry)) depth ns ne at count) (now (text .entry)) limit at count (now (table .entry)) (now (table .exit)) r ⌝ }
+    requires { ⌜ ValueAsks (now text) (now names) top ns ne at count ⌝ }
+    ensures { λ r. ⌜ TookIn (valueAt base (now (text .entry)) depth ns ne at count) (now (text .entry)) at count (now (table .entry)) (now (table .exit)) top (now (names .entry)) (now (names .exit)) r ⌝ }
 {
-    if limit <= count {
+    if VALUES <= count {
         return Progress::Stop(overfull(text, depth, at));
     }
     let kind = kind_at(text, at);
@@ -124,7 +152,7 @@ pub(crate) fn read_value(
     }
     if ARRAY <= kind {
         let of = container_of(kind);
-        return read_container(text, table, limit, depth, of, ns, ne, at, count);
+        return read_container(text, table, names, depth, top, of, ns, ne, at, count);
     }
     read_scalar(text, table, kind, ns, ne, at, count)
 }
@@ -133,83 +161,96 @@ pub(crate) fn read_value(
 fn read_container(
     text: &[u8],
     table: &mut [u32],
-    limit: usize,
+    names: &mut [u32],
     depth: usize,
+    top: usize,
     of: Container,
     ns: usize,
     ne: usize,
     at: usize,
     count: usize,
 ) -> Progress
-    requires { ⌜ ValueAsks (now text) (now table) limit ns ne (at + 1) (count + 1) ⌝ }
-    ensures { λ r. ⌜ Took (containerAt of (upTo limit) (now (text .entry)) depth ns ne at count) (now (text .entry)) limit at count (now (table .entry)) (now (table .exit)) r ⌝ }
+    requires { ⌜ ContainerAsks (now text) (now names) top ns ne at count ⌝ }
+    ensures { λ r. ⌜ TookIn (containerAt of base (now (text .entry)) depth ns ne at count) (now (text .entry)) at count (now (table .entry)) (now (table .exit)) top (now (names .entry)) (now (names .exit)) r ⌝ }
 {
     if depth == 0 {
         return Progress::Stop(Refusal::Deep(at));
     }
-    let inside = read_items(text, table, limit, depth - 1, of, at + 1, count + 1);
-    close(table, inside, kind_in(of), ns, ne, at, count)
+    let items = read_items(text, table, names, depth - 1, top, of, at + 1, count + 1);
+    let settled = settle(text, names, top, items);
+    close(table, settled, kind_in(of), ns, ne, at, count)
 }
 
-// What stands in a container, from after its bracket to after its closing byte.
+// What stands in a container, from after its bracket to after its closing byte; its names are put aside from `top` on.
 fn read_items(
     text: &[u8],
     table: &mut [u32],
-    limit: usize,
+    names: &mut [u32],
     depth: usize,
+    top: usize,
     of: Container,
     from: usize,
     first: usize,
-) -> Progress
-    requires { ⌜ ItemAsks (now text) (now table) limit from first ⌝ }
-    ensures { λ r. ⌜ Took (itemsAt of (upTo limit) (now (text .entry)) depth from first) (now (text .entry)) limit from first (now (table .entry)) (now (table .exit)) r ⌝ }
+) -> Gathered
+    requires { ⌜ ItemAsks (now text) (now names) top from first ⌝ }
+    ensures { λ r. ⌜ ItemsTook of (now (text .entry)) depth top from first (now (table .entry)) (now (table .exit)) (now (names .entry)) (now (names .exit)) r ⌝ }
 {
     let z = closing(of);
     let start = skip(text, from);
     let b = peek(text, start);
     if b == z {
         let next = start + 1;
-        return Progress::Next(next, first);
+        let read = Progress::Next(next, first);
+        return Gathered { read, end: top };
     }
     let mut at = start;
     let mut count = first;
+    let mut end = top;
     loop {
-        let v = read_item(text, table, limit, depth, of, first, at, count);
-        let Progress::Next(to, after) = v else {
-            return v;
+        let item = read_item(text, table, names, depth, of, end, at, count);
+        end = item.end;
+        let read = item.read;
+        let Progress::Next(to, after) = read else {
+            return Gathered { read, end };
         };
         let x = skip(text, to);
         let b = peek(text, x);
         if b == z {
             let next = x + 1;
-            return Progress::Next(next, after);
+            let read = Progress::Next(next, after);
+            return Gathered { read, end };
         }
         if b != COMMA {
-            return Progress::Stop(Refusal::Grammar(x));
+            let read = Progress::Stop(Refusal::Grammar(x));
+            return Gathered { read, end };
         }
         at = skip(text, x + 1);
         count = after;
     }
 }
 
-// One item of the container whose items so far stand from row `first` up to row `count`.
+// One item of a container; its name goes behind the others, which end at `end`.
 fn read_item(
     text: &[u8],
     table: &mut [u32],
-    limit: usize,
+    names: &mut [u32],
     depth: usize,
     of: Container,
-    first: usize,
+    end: usize,
     at: usize,
     count: usize,
-) -> Progress
-    requires { ⌜ ItemAsks (now text) (now table) limit at count ⌝ }
-    ensures { λ r. ⌜ ((done : Forest) → StandsTo (now (table .entry)) first count done → Took (itemOf of (upTo limit) (now (text .entry)) depth done at count) (now (text .entry)) limit at count (now (table .entry)) (now (table .exit)) r) ⌝ }
+) -> Gathered
+    requires { ⌜ ItemAsks (now text) (now names) end at count ⌝ }
+    ensures { λ r. ⌜ ItemTook of (now (text .entry)) depth end at count (now (table .entry)) (now (table .exit)) (now (names .entry)) (now (names .exit)) r ⌝ }
 {
-    match item_at(text, table, of, first, count, at) {
-        ItemStart::At(ns, ne, from) => {
-            read_value(text, table, limit, depth, ns, ne, from, count)
+    match item_at(text, names, of, end, at) {
+        ItemStart::At(ns, ne, from, last) => {
+            let read = read_value(text, table, names, depth, last, ns, ne, from, count);
+            Gathered { read, end: last }
         }
-        ItemStart::Wrong(r) => Progress::Stop(r),
+        ItemStart::Wrong(r, last) => {
+            let read = Progress::Stop(r);
+            Gathered { read, end: last }
+        }
     }
 }

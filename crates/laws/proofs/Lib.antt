@@ -1,5 +1,5 @@
 -- Facts that speak of no format: walks, places and parts of a list, runs, the outcomes of a test, the order of two runs of bytes, rules of a table, buffers
--- being cleared, and sorting.
+-- being cleared, sorting, and the earliest of places that repeats a label.
 pub mod Scans
 pub mod Places
 pub mod Bounds
@@ -19,3 +19,5 @@ pub mod Sorting
 pub mod Slices
 pub mod Merging
 pub mod Halving
+pub mod Earliest
+pub mod Searching

@@ -1,11 +1,11 @@
 -- Runs of stores, `sets l i vs`: one run after another, a run before another, a run past the end, and a run from the start of a cleared list. Assumes nothing.
 use mathlib.Core.Path.{_≡_, refl, ap, _∙_}
-use mathlib.Core.List.{List, [], _∷_, _++_, append-assoc}
+use mathlib.Core.List.{List, [], _∷_, _++_}
 use Prim.Native.Nat.{ℕ, zero, suc, _+_, _-_, _≤_, _<_}
 use native.Mathlib.Omega.{arith}
 use native.Mathlib.Nat.{add-zero, add-suc, suc-add, sub-zero, zero-sub, suc-sub-suc}
-use lib.ListN.{length, set, take, drop, replicate}
-use lib.Seq.{sets, set-out, set-comm, sets-eq, drop-at, length-take-le}
+use lib.ListN.{length, set, drop, replicate}
+use lib.Seq.{sets, set-out, set-comm}
 
 -- a run of stores in two parts
 pub sets-append : (xs ys l : List ℕ) (i : ℕ) → sets l i (xs ++ ys) ≡ sets (sets l i xs) (i + length xs) ys
@@ -30,11 +30,6 @@ sets-before [] ys l i j h = refl
 sets-before (x ∷ xs) ys l i j h =
     ap (λ (m : List ℕ). sets m (suc i) xs) (set-sets ys l i x j (omega arith))
     ∙ sets-before xs ys (set l i x) (suc i) j (omega arith)
-
--- what was stored stands there, and what followed it follows it
-pub drop-sets : (vs l : List ℕ) (i : ℕ) → i + length vs ≤ length l → drop i (sets l i vs) ≡ vs ++ drop (i + length vs) l
-drop-sets vs l i h =
-    rw (sets-eq vs l i h, append-assoc) (drop-at (take i l) (vs ++ drop (i + length vs) l) i (length-take-le i l (omega arith)))
 
 drop-replicate : (n m a : ℕ) → drop m (replicate n a) ≡ replicate (n - m) a
 drop-replicate n zero a = rw sub-zero

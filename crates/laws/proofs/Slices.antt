@@ -3,6 +3,7 @@
 --     slice-split                two parts that meet
 --     slice-set                  a store behind a part makes it longer
 --     slice-agree                lists that agree from the one place to the other
+--     slice-all                  the whole list
 -- Assumes nothing.
 use mathlib.Core.Path.{_≡_, ap, sym, _∙_}
 use mathlib.Core.List.{List, [], _∷_, _++_}
@@ -10,7 +11,7 @@ use Prim.Native.Nat.{ℕ, _+_, _≤_, _<_}
 use native.Mathlib.Omega.{arith}
 use native.Mathlib.Numerals.{add-one}
 use lib.ListN.{length, getD, set, take, drop, take-append-drop}
-use lib.Seq.{slice, slice-cons, slice-empty, length-slice, length-take-le, take-take, take-suc-set, drop-append-le, getD-drop, getD-take, ext-getD}
+use lib.Seq.{slice, take-length, slice-cons, slice-empty, length-slice, length-take-le, take-take, take-suc-set, drop-append-le, getD-drop, getD-take, ext-getD}
 
 pub slice-more : (lo hi : ℕ) (l : List ℕ) → lo < hi → hi ≤ length l → slice lo hi l ≡ getD l lo 0 ∷ slice (lo + 1) hi l
 slice-more lo hi l h k = rw add-one (slice-cons lo hi l 0 h k)
@@ -37,3 +38,6 @@ slice-agree lo hi l m p q same =
     let b = length-slice lo hi m q in
     ext-getD 0 (slice lo hi l) (slice lo hi m) (omega arith)
     (λ i h. slice-at lo hi l i (omega arith) ∙ same (lo + i) (omega arith) (omega arith) ∙ sym (slice-at lo hi m i (omega arith)))
+
+pub slice-all : (l : List ℕ) → slice 0 (length l) l ≡ l
+slice-all l = take-length l

@@ -1,19 +1,19 @@
 -- Reading with fewer values: what a reading that may take v values answers, against one that may take w of them, v ≤ w.
---     value-fewer, read-fewer          they answer the same, or the first says that there is one value too many
+--     value-fewer                      they answer the same, or the first says that there is one value too many
 --     value-fits                       accepted values are no more than the limit
--- The answer for a table of so many words, from a reading with as many values as it has rows, v ≤ 2,048:
---     first-good, first-size           what is accepted stands, and has room
---     first-bad                        what is refused for another reason than one value too many stands
---     many-small, whole-bad            one value too many: the limit of values decides, by a refusal that stands, or by 7
+-- A text over the limit, and the answer for a table of so many words:
+--     long-text                        1 comes first
+--     whole-bad                        what is refused is refused whatever the table
+--     good-whole, small-whole          what is accepted has room, or is refused by 7
 -- Assumes nothing.
 use Prim.Native.Nat.{ℕ, zero, suc, _+_, _-_, _*_, _≤_, _<_}
-use mathlib.Core.Path.{_≡_, sym, subst, _∙_}
+use mathlib.Core.Path.{_≡_, sym}
 use mathlib.Core.List.{List}
 use mathlib.Core.Bool.{Bool, true, false, cond}
 use native.Mathlib.Decide.{decLe}
 use native.Mathlib.Omega.{arith}
 use lib.ListN.{length}
-use lib.Dec.{ltb, leb, eqb}
+use lib.Dec.{leb, eqb}
 use borrow.Author.Tests.{lt-ltb, le-ltb, le-leb, lt-leb}
 use Rattle.text.specs.Limits.{Limits, rowWords, base}
 use Rattle.text.specs.Fewer.{withValues}
@@ -23,7 +23,7 @@ use Rattle.text.specs.Tokens.{skip, kindBy, tokenAt}
 use Rattle.text.specs.Tree.{Bracket, square, curly, Forest, none, leaf, node, size, join}
 use Rattle.text.specs.Grammar.{closing}
 use Rattle.text.specs.Reader.{Read, good, bad, Reader, ItemReader, scalarWith, scalarAt, closeOf, container, deep, valueWith, afterItem, itemsFrom, insideOf, named, colonAt, memberWith, memberOf, valueAt}
-use Rattle.text.specs.Whole.{endOf, readOf, fitOf, wholeOf}
+use Rattle.text.specs.Whole.{readOf, fitOf, wholeOf}
 use Rattle.text.specs.declared.Token.{Token}
 use Rattle.text.specs.declared.Token.the-variants.{End, No2, No3}
 use Rattle.text.specs.declared.Refusal.{Refusal}
@@ -237,16 +237,6 @@ module _ (L : Limits) (t : List ℕ) (v w : ℕ) (le : v ≤ w) where
 
 -- ---- what follows of two answers that compare ----
 
--- not a refusal for one value too many
-abbrev pub NotMany : Refusal → Type 0
-NotMany TooLong = Prim.Unit {0}
-NotMany (Grammar p) = Prim.Unit {0}
-NotMany (Character p) = Prim.Unit {0}
-NotMany (Repeated p) = Prim.Unit {0}
-NotMany (Deep p) = Prim.Unit {0}
-NotMany (Many p) = ⊥
-NotMany (Small n) = Prim.Unit {0}
-
 different : {A : Type 0} (f : Forest) (to : ℕ) (r : Refusal) → good f to ≡ bad r → A
 different f to r e = let z : _≡_ {A = ℕ} 0 1 = cc in absurd (omega arith)
 
@@ -255,22 +245,6 @@ fits {v} {n} f to (both g h) e = let same : g ≡ f = cc in rw (← same) h
 fits f to (neither {r} i) e = different f to r (sym e)
 fits f to (cut {p} o) e = different f to (Many p) (sym e)
 
-good-too : {v n : ℕ} {a b : Read} (f : Forest) (to : ℕ) → Fewer v n a b → a ≡ good f to → b ≡ good f to
-good-too f to (both g h) e = e
-good-too f to (neither i) e = e
-good-too f to (cut {p} o) e = different f to (Many p) (sym e)
-
-bad-too : {v n : ℕ} {a b : Read} (r : Refusal) → NotMany r → Fewer v n a b → a ≡ bad r → b ≡ bad r
-bad-too r m (both f h) e = e
-bad-too r m (neither i) e = e
-bad-too r m (cut {p} o) e = let same : Many p ≡ r = cc in absurd (subst NotMany (sym same) m)
-
-cut-good : {v n : ℕ} {a b : Read} (p : ℕ) (f : Forest) (to : ℕ) → Fewer v n a b → a ≡ bad (Many p) → b ≡ good f to → v < n + size f
-cut-good p f to (both g {to = u} h) e q = different g u (Many p) e
-cut-good p f to (neither {r} i) e q = different f to r (sym q)
-cut-good p f to (cut (more g h)) e q = let same : g ≡ f = cc in rw (← same) h
-cut-good p f to (cut (refuses {r} i)) e q = different f to r (sym q)
-
 -- ---- values and texts ----
 
 -- what is accepted after n values is no more than the limit in all
@@ -278,33 +252,17 @@ module _ (L : Limits) (t : List ℕ) (depth ns ne at n : ℕ) where
   pub value-fits : (f : Forest) (to : ℕ) → valueAt L t depth ns ne at n ≡ good f to → n + size f ≤ L .values
   value-fits f to e = fits f to (value-fewer L t (L .values) (L .values) (omega arith) depth ns ne at n) e
 
-end-over : (t : List ℕ) {v n : ℕ} {b : Read} → Over v n b → Over v n (endOf t b)
-unfolding endOf
-end-over t (more f {to} h) = over-cond (ltb (skip t to) (length t)) (refuses tt) (more f h)
-end-over t (refuses i) = refuses i
-
-end-fewer : (t : List ℕ) {v n : ℕ} {a b : Read} → Fewer v n a b → Fewer v n (endOf t a) (endOf t b)
-unfolding endOf
-end-fewer t (both f {to} h) = fewer-cond (ltb (skip t to) (length t)) (neither tt) (both f h)
-end-fewer t (neither i) = neither i
-end-fewer t (cut o) = cut (end-over t o)
-
 module _ (L : Limits) (t : List ℕ) where
   pub long-text : L .bytes < length t → readOf L t ≡ bad TooLong
   unfolding readOf
   long-text h = rw (lt-ltb (L .bytes) (length t) h)
-
-  -- a text that isn't too long
-  pub read-fewer : (v w : ℕ) → v ≤ w → length t ≤ L .bytes → Fewer v 0 (readOf (withValues L v) t) (readOf (withValues L w) t)
-  unfolding readOf
-  read-fewer v w le h = rw (le-ltb (L .bytes) (length t) h) (end-fewer t (value-fewer L t v w le (L .depth) 0 0 (skip t 0) 0))
 
 -- what reading refuses is refused so whatever the table's room: 7 comes after all others
 pub whole-bad : (L : Limits) (words : ℕ) (t : List ℕ) (r : Refusal) → readOf L t ≡ bad r → wholeOf L words t ≡ bad r
 unfolding wholeOf fitOf
 whole-bad L words t r e = rw e
 
--- ---- a table of so many words: from a reading with v values to the whole answer, for the limits `base` ----
+-- ---- a table of so many words, for the limits `base` ----
 
 module _ (words : ℕ) (t : List ℕ) where
   pub good-whole : (f : Forest) (to : ℕ) → rowWords * size f ≤ words → readOf base t ≡ good f to → wholeOf base words t ≡ good f to
@@ -314,32 +272,3 @@ module _ (words : ℕ) (t : List ℕ) where
   pub small-whole : (f : Forest) (to : ℕ) → words < rowWords * size f → readOf base t ≡ good f to → wholeOf base words t ≡ bad (Small (size f))
   unfolding wholeOf fitOf
   small-whole f to h e = rw (e, lt-ltb words (rowWords * size f) h)
-
-  module _ (v : ℕ) (few : v ≤ base .values) where
-    -- the table has that many rows: what is accepted stands, and it has room
-    pub first-size : (f : Forest) (to : ℕ) → readOf (withValues base v) t ≡ good f to → size f ≤ v
-    first-size f to e = elim (decLe (length t) (base .bytes)) [
-      | yes h ↦ omega (arith, fits f to (read-fewer base t v (base .values) few h) e)
-      | no h ↦ different f to TooLong (sym e ∙ long-text (withValues base v) t (omega arith))
-    ]
-
-    pub first-good : rowWords * v ≤ words → (f : Forest) (to : ℕ) → readOf (withValues base v) t ≡ good f to → wholeOf base words t ≡ good f to
-    first-good room f to e = elim (decLe (length t) (base .bytes)) [
-      | yes h ↦ good-whole f to (omega (arith, first-size f to e)) (good-too f to (read-fewer base t v (base .values) few h) e)
-      | no h ↦ different f to TooLong (sym e ∙ long-text (withValues base v) t (omega arith))
-    ]
-
-    -- what is refused for any reason but one value too many stands, whatever the table
-    pub first-bad : (r : Refusal) → NotMany r → readOf (withValues base v) t ≡ bad r → wholeOf base words t ≡ bad r
-    first-bad r m e = elim (decLe (length t) (base .bytes)) [
-      | yes h ↦ whole-bad base words t r (bad-too r m (read-fewer base t v (base .values) few h) e)
-      | no h ↦ whole-bad base words t r (long-text base t (omega arith) ∙ sym (long-text (withValues base v) t (omega arith)) ∙ e)
-    ]
-
-    -- one value too many: the reading with the limit's number of values decides; what it refuses stands (whole-bad), what it accepts does not fit
-    pub many-small : words < rowWords * suc v → (p : ℕ) (f : Forest) (to : ℕ) → readOf (withValues base v) t ≡ bad (Many p) → readOf base t ≡ good f to
-        → wholeOf base words t ≡ bad (Small (size f))
-    many-small room p f to e g = elim (decLe (length t) (base .bytes)) [
-      | yes h ↦ small-whole f to (omega (arith, cut-good p f to (read-fewer base t v (base .values) few h) e g)) g
-      | no h ↦ different f to TooLong (sym g ∙ long-text base t (omega arith))
-    ]

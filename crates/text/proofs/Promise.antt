@@ -17,7 +17,6 @@
 --     start-at              the start of each value, by its row
 --     stands-unique         a table has one tree only
 --     rows-length           six words to a value
---     Going .., Keeping ..  walks along the values between two rows
 --
 -- The same values in the text:
 --     spot                  its name's places, that it is not empty and inside the text; its first byte begins its kind
@@ -70,19 +69,6 @@ pub use Rattle.text.proofs.Standing.{
   filled-stands,
   table-stands,
   start-at,
-  Going,
-  started,
-  here,
-  go-on,
-  hit,
-  hit-any,
-  ended,
-  Keeping,
-  keeps-here,
-  keeps-on,
-  keeps-hit,
-  keeps-any,
-  keeps-ended,
 }
 pub use Rattle.text.proofs.Placing.{
   token-kind,

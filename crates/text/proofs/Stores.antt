@@ -2,19 +2,17 @@
 --     size-join, rows-join      the values of one forest and then those of another
 --     rows-close                the rows of what is inside a container, and then the container's own row
 --     rows-then                 the rows of some values, and then those of the values after them
---     stored-stands             values whose rows were stored stand in the table
 -- Assumes nothing.
 use mathlib.Core.Path.{_≡_, refl, sym, ap, _∙_}
 use mathlib.Core.List.{List, _++_, append-assoc, append-nil}
-use Prim.Native.Nat.{ℕ, _+_, _*_, _≤_}
+use Prim.Native.Nat.{ℕ, _+_, _*_}
 use native.Mathlib.Omega.{arith}
-use lib.ListN.{length, drop}
-use lib.Seq.{sets, length-sets}
-use Rattle.laws.proofs.Sets.{sets-append, sets-before, drop-sets}
+use lib.ListN.{length}
+use lib.Seq.{sets}
+use Rattle.laws.proofs.Sets.{sets-append, sets-before}
 use Rattle.text.specs.Limits.{rowWords}
 use Rattle.text.specs.Tree.{Bracket, bracketKind, Forest, none, leaf, node, size, rowOf, rowsOf, join}
-use Rattle.text.specs.Standing.{StandsTo}
-use Rattle.text.proofs.Standing.{rows-length, rows-stand}
+use Rattle.text.proofs.Standing.{rows-length}
 
 pub size-join : (f g : Forest) → size (join f g) ≡ size f + size g
 unfolding size join
@@ -45,13 +43,3 @@ pub rows-then : (f g : Forest) (t : List ℕ) (n m : ℕ) → m ≡ n + size f
 rows-then f g t n m h =
     let e : m * rowWords ≡ n * rowWords + length (rowsOf f) = omega (arith, rows-length f) in
     rw (e, rows-join) (sym (sets-append (rowsOf f) (rowsOf g) t (n * rowWords)))
-
-pub stored-stands : (f : Forest) (t : List ℕ) (n m : ℕ) → m ≡ n + size f → m * rowWords ≤ length t → StandsTo (sets t (n * rowWords) (rowsOf f)) n m f
-stored-stands f t n m h room =
-    let l = length-sets t (n * rowWords) (rowsOf f) in
-    record {
-      stands =
-          rows-stand (sets t (n * rowWords) (rowsOf f)) n f (drop (n * rowWords + length (rowsOf f)) t) (omega arith)
-          (drop-sets (rowsOf f) t (n * rowWords) (omega (arith, rows-length f)));
-      ends = sym h;
-    }

@@ -55,7 +55,7 @@ module _ {t table : List ℕ} {n : ℕ} {f : Forest} (h : ReadInto t table n f) 
 pub read-into : (t lent table : List ℕ) (n : ℕ) → length table ≡ length lent → ReadsRows base t lent (Rows n) table
     → (f : Forest) × ReadInto t table n f × (table ≡ sets lent 0 (treeRows f))
 read-into t lent table n l h =
-    let (s, filled) = rows-there h in
+    let (s, room, filled) = rows-there h in
     (s .trees, record { filled = filled; count = sym (s .count); end = s .to; whole = rw l (s .is) }, s .table)
 
 -- ---- the verdict ----

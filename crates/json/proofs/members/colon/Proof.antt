@@ -12,8 +12,8 @@ use Rattle.json.proofs.members.colon.Tie as tie
 
 returns : tie.Need-returns
 returns c =
-    λ value at n. colon-none (c .before .before .before .before .args .text .now) value at (c .before .before .before .before .args .end) n
-    (c .before .before .skip .result) (c .before .before .skip .ensures) (λ q. c .if1 .taken (c .before .peek .ensures .0 ∙ q))
+    let a = c .before .before .before .before .args in
+    (refl, λ value at n. colon-none (a .text .now) value at (a .to) n (c .before .before .skip .result) (c .before .before .skip .ensures) (λ q. c .if1 .taken (c .before .peek .ensures .0 ∙ q)))
 
 add-skip : tie.Need-add-skip
 add-skip c = let i = inside (c .before .before .before .before .args .text .now) (c .before .before .skip .result) (omega arith) in omega arith
@@ -25,13 +25,15 @@ returns-2 c =
     let x = c .before .before .before .skip .result in
     let h : byteAt t x ≡ 58 = omega arith in
     let i = inside t x (omega arith) in
-    let s = skip-span t (a .end) (c .before .before .before .before .before .pre .1) in
+    let s = skip-span t (a .to) (c .before .before .before .before .before .pre .1) in
     let s₂ = skip-span t (x + 1) (omega arith) in
     record {
+      starts = refl;
       ends = refl;
       later = omega (arith, c .before .before .before .skip .ensures, c .skip2 .ensures);
       inside = omega (arith, c .skip2 .ensures);
-      is = λ value at n. rw (c .skip2 .ensures) (colon-there t value at (a .end) n x (c .before .before .before .skip .ensures) h);
+      stays = refl;
+      is = λ value at n. rw (c .skip2 .ensures) (colon-there t value at (a .to) n x (c .before .before .before .skip .ensures) h);
     }
 
 pub colon-spec : {M : Type 1} → statement M

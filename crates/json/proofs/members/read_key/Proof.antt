@@ -1,104 +1,107 @@
--- `json::members::read_key` meets its contract: one law of `memberOf` for each return. Assumes nothing.
-use Prim.Native.Nat.{ℕ, _+_, _-_}
-use mathlib.Core.Path.{_≡_, refl, sym, _∙_}
-use mathlib.Core.List.{List}
-use mathlib.Core.Bool.{false}
+-- `json::members::read_key` meets its contract: one law of `memberOf` for each return, and the name is in the store once it is closed. Assumes nothing.
+use Prim.Native.Nat.{ℕ, _+_}
+use mathlib.Core.Path.{_≡_, sym, _∙_}
+use mathlib.Core.List.{List, []}
 use native.Mathlib.Omega.{arith}
+use lib.ListN.{set}
 use borrow.Author.Needs.{needs}
-use Rattle.laws.proofs.Places.{inside}
+use Rattle.text.specs.Limits.{base}
 use Rattle.text.specs.Text.{byteAt}
-use Rattle.text.specs.Strings.{nameOf, stringEnd}
-use Rattle.text.specs.Tree.{Forest}
-use Rattle.text.specs.Standing.{StandsTo}
-use Rattle.text.specs.Reader.{named}
+use Rattle.text.specs.Strings.{stringEnd}
+use Rattle.text.specs.Tree.{curly}
+use Rattle.text.specs.Reader.{valueAt}
 use Rattle.text.specs.declared.Token.the-variants.{End}
+use Rattle.text.specs.declared.Refusal.{Refusal}
 use Rattle.text.proofs.Laws.{EndInside, end-inside}
-use Rattle.json.specs.Readers.{upTo, Colon, KeyRead}
-use Rattle.json.specs.declared.members.MemberName.{MemberName}
-use Rattle.json.specs.declared.members.MemberName.the-variants.{Value, Broken}
-use Rattle.json.proofs.Ways.{member-none, member-no2, member-no3, member-known, member-new}
+use Rattle.repeats.specs.Closed.{ownName}
+use Rattle.json.specs.Readers.{NameAsks, Begun, Coloned, ItemRead}
+use Rattle.json.specs.declared.containers.Container.the-variants.{Object}
+use Rattle.json.specs.declared.members.ItemStart.{ItemStart}
+use Rattle.json.specs.declared.members.ItemStart.the-variants.{At, Wrong}
+use Rattle.json.proofs.Ways.{member-none, member-no2, member-no3, member-closed, own-none, own-no2, own-no3, own-closed}
+use Rattle.json.proofs.Store.{added-none, added-one}
 use Rattle.json.proofs.members.read_key.Statement.{statement}
 use Rattle.json.proofs.members.read_key.Tie as tie
 
--- a name that is new, and what follows it
-new : (t table : List ℕ) (first last at to : ℕ) (r : MemberName) → byteAt t at ≡ 34 → stringEnd t (at + 1) ≡ End to → EndInside t (at + 1) to
-    → ((done : Forest) → StandsTo table first last done → false ≡ named t (nameOf t (at + 1) (to - 1)) done) → Colon t to r → KeyRead t table first last
-    at r
-new t table first last at to (Value ne from) h e l k p =
-    record {
-      inside = (omega arith, (omega arith, p .inside));
-      is = λ done s limit value n. member-new (upTo limit) t value done at n h refl to e (sym (k done s)) ∙ p .is value at n;
-    }
-new t table first last at to (Broken r) h e l k p =
-    record { inside = tt; is = λ done s limit value n. member-new (upTo limit) t value done at n h refl to e (sym (k done s)) ∙ p value at n }
+module _ (t names : List ℕ) (end at : ℕ) (asks : NameAsks t names end at) where
+  -- no name is closed
+  unclosed : (r : Refusal) → ownName t curly at ≡ [] → Begun Object t at (Wrong r end) → ItemRead Object t end at names names (Wrong r end)
+  unclosed r e is = record { inside = tt; is = is; added = rw e (added-none end names (omega arith)) }
+
+  -- a name is closed, and what follows it
+  closed : (to : ℕ) (r : ItemStart) → byteAt t at ≡ 34 → stringEnd t (at + 1) ≡ End to → Coloned t (at + 1) to (end + 1) r
+      → ItemRead Object t end at names (set names end at) r
+  closed to (At ns ne from top) h e p =
+      let i = end-inside t (at + 1) to e in
+      rw (p .stays, p .starts)
+      (record {
+        inside =
+            record {
+              places = record { starts = omega (arith, p .inside, p .later); ends = omega (arith, p .inside, p .later, p .ends) };
+              later = omega (arith, p .later);
+              inside = p .inside;
+              one = omega arith;
+              spread = omega (arith, p .later);
+            };
+        is = λ depth n done. member-closed t (valueAt base t depth) done at n h to e ∙ p .is (valueAt base t depth) at n;
+        added = rw (own-closed t at h to e) (added-one end names at (asks .room));
+      })
+  closed to (Wrong r top) h e p =
+      rw (p .0)
+      (record {
+        inside = tt;
+        is = λ depth n done. member-closed t (valueAt base t depth) done at n h to e ∙ p .1 (valueAt base t depth) at n;
+        added = rw (own-closed t at h to e) (added-one end names at (asks .room));
+      })
 
 -- the place where a name has ended
-ended : (c : tie.After-to)
-    → EndInside (c .before .before .before .before .before .before .before .args .text .now) (c .before .before .before .before .before .before .before .args .at + 1) (c .to .given .0 .0)
+ended : (c : tie.After-to) → EndInside (c .before .before .before .before .before .before .before .args .text .now) (c .before .before .before .before .before .before .before .args .at + 1) (c .to .given .0 .0)
 ended c =
-    end-inside (c .before .before .before .before .before .before .before .args .text .now)
-    (c .before .before .before .before .before .before .before .args .at + 1) (c .to .given .0 .0)
+    end-inside (c .before .before .before .before .before .before .before .args .text .now) (c .before .before .before .before .before .before .before .args .at + 1) (c .to .given .0 .0)
     (sym (c .before .before .string-end .ensures) ∙ c .to .given .1)
 
 returns : tie.Need-returns
 returns c =
-    let a = c .before .before .before .before .args in
-    record {
-      inside = tt;
-      is =
-          λ done s limit value n. member-none (upTo limit) (a .text .now) value done (a .at) n (λ q. c .if1 .taken (c .before .peek .ensures .0 ∙ q));
-    }
-
-sub-named : tie.Need-sub-named
-sub-named c = omega (arith, ended (c .before))
+    let s = c .before .before .before .before in
+    let a = s .args in
+    let h : byteAt (a .text .now) (a .at) ≡ 34 → ⊥ = λ q. c .if1 .taken (c .before .peek .ensures .0 ∙ q) in
+    unclosed (a .text .now) (a .names .now) (a .end) (a .at) (s .pre) _ (own-none (a .text .now) (a .at) h)
+    (λ depth n done. member-none (a .text .now) (valueAt base (a .text .now) depth) done (a .at) n h)
 
 returns-2 : tie.Need-returns-2
 returns-2 c =
-    let a = c .before .before .before .before .before .before .before .before .before .before .args in
+    let s = c .before .before .before .before .before .before .before .before in
+    let a = s .args in
     let h : byteAt (a .text .now) (a .at) ≡ 34 = omega arith in
-    record {
-      inside = tt;
-      is =
-          λ done s limit value n. member-known (upTo limit) (a .text .now) value done (a .at) n h refl (c .before .before .before .to .given .0 .0)
-          (sym (c .before .before .before .before .before .string-end .ensures) ∙ c .before .before .before .to .given .1)
-          (sym (c .before .named .ensures done s) ∙ c .if2 .taken);
-    }
-
-colon-requires : tie.Need-colon-requires
-colon-requires c κs = omega (arith, ended (c .before .before .before))
+    let p = c .before .p .given .0 .0 in
+    let e = sym (c .before .before .before .string-end .ensures) ∙ c .before .p .given .1 in
+    unclosed (a .text .now) (a .names .now) (a .end) (a .at) (s .pre) _ (own-no2 (a .text .now) (a .at) h p e)
+    (λ depth n done. member-no2 (a .text .now) (valueAt base (a .text .now) depth) done (a .at) n h p e)
 
 returns-3 : tie.Need-returns-3
 returns-3 c =
-    let a = c .before .before .before .before .before .before .before .before .args in
+    let s = c .before .before .before .before .before .before .before .before in
+    let a = s .args in
     let h : byteAt (a .text .now) (a .at) ≡ 34 = omega arith in
-    record {
-      inside = tt;
-      is =
-          λ done s limit value n. member-no2 (upTo limit) (a .text .now) value done (a .at) n h (c .before .p .given .0 .0)
-          (sym (c .before .before .before .string-end .ensures) ∙ c .before .p .given .1);
-    }
+    let p = c .before .p2 .given .0 .0 in
+    let e = sym (c .before .before .before .string-end .ensures) ∙ c .before .p2 .given .1 in
+    unclosed (a .text .now) (a .names .now) (a .end) (a .at) (s .pre) _ (own-no3 (a .text .now) (a .at) h p e)
+    (λ depth n done. member-no3 (a .text .now) (valueAt base (a .text .now) depth) done (a .at) n h p e)
+
+colon-requires : tie.Need-colon-requires
+colon-requires c κs = omega (arith, ended (c .before))
 
 returns-4 : tie.Need-returns-4
 returns-4 c =
-    let a = c .before .before .before .before .before .before .before .before .args in
+    let s = c .before .before .before .before .before .before .before .before .before in
+    let a = s .args in
     let h : byteAt (a .text .now) (a .at) ≡ 34 = omega arith in
-    record {
-      inside = tt;
-      is =
-          λ done s limit value n. member-no3 (upTo limit) (a .text .now) value done (a .at) n h (c .before .p2 .given .0 .0)
-          (sym (c .before .before .before .string-end .ensures) ∙ c .before .p2 .given .1);
-    }
-
-returns-5 : tie.Need-returns-5
-returns-5 c =
-    let a = c .before .before .before .before .before .before .before .before .before .before .before .args in
-    let h : byteAt (a .text .now) (a .at) ≡ 34 = omega arith in
-    new (a .text .now) (a .table .now) (a .first) (a .end) (a .at) (c .before .before .before .before .to .given .0 .0) (c .colon .result) h
-    (sym (c .before .before .before .before .before .before .string-end .ensures) ∙ c .before .before .before .before .to .given .1)
-    (ended (c .before .before .before .before)) (λ done s. sym (c .before .if2 .left) ∙ c .before .before .named .ensures done s) (c .colon .ensures)
+    closed (a .text .now) (a .names .now) (a .end) (a .at) (s .pre) (c .before .before .to .given .0 .0) (c .colon .result) h
+    (sym (c .before .before .before .before .string-end .ensures) ∙ c .before .before .to .given .1) (c .colon .ensures)
 
 pub read-key-spec : {M : Type 1} → statement M
 read-key-spec =
     tie.close
     (tie.spec (λ c κs. search needs) returns (λ c. search needs) (λ c κs. search needs) (λ c. search needs) (λ c. search needs) (λ c. search needs)
-    (λ c. search needs) sub-named (λ c κs. search needs) returns-2 colon-requires returns-3 returns-4 returns-5)
+    (λ c. search needs) (λ c. search needs) (λ c. search needs) (λ c. search needs) (λ c. search needs) colon-requires returns-2 returns-3
+    (λ c. search needs) returns-4)

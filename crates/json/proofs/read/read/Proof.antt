@@ -12,7 +12,7 @@ use Rattle.json.proofs.read.read.Tie as tie
 fit : (c : tie.After-known-told) → c .before .answer .given .0 .0 * rowWords ≤ length (c .before .before .before .before .before .read-rows .last .1 .0)
 fit c =
     let rows = c .before .before .before .before .before .read-rows in
-    omega (arith, rows-there (rw (c .before .answer .given .1) at (rows .ensures)) .0 .room, rows .kept .1 .0)
+    omega (arith, rows-there (rw (c .before .answer .given .1) at (rows .ensures)) .1, rows .kept .1 .0)
 
 returns : tie.Need-returns
 returns c =

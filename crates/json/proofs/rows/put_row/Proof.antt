@@ -6,6 +6,9 @@ use borrow.Author.Needs.{needs}
 use Rattle.json.proofs.rows.put_row.Statement.{statement}
 use Rattle.json.proofs.rows.put_row.Tie as tie
 
+returns : tie.Need-returns
+returns c = c .before .before .put-some .ensures
+
 slice-write-table-2 : tie.Need-slice-write-table-2
 slice-write-table-2 c = simp length-set (omega arith)
 
@@ -21,13 +24,14 @@ slice-write-table-5 c = simp length-set (omega arith)
 slice-write-table-6 : tie.Need-slice-write-table-6
 slice-write-table-6 c = simp length-set (omega arith)
 
-returns : tie.Need-returns
-returns c = simp towards-suc
+returns-2 : tie.Need-returns-2
+returns-2 c = simp towards-suc
 
 pub put-row-spec : {M : Type 1} → statement M
 put-row-spec =
     tie.close
-    (tie.spec (λ c. search needs) (λ c. search needs) (λ c. search needs) (λ c. search needs) (λ c. search needs) (λ c. search needs)
-    (λ c. search needs) slice-write-table-2 (λ c. search needs) (λ c. search needs) (λ c. search needs) slice-write-table-3 (λ c. search needs)
-    (λ c. search needs) (λ c. search needs) slice-write-table-4 (λ c. search needs) (λ c. search needs) (λ c. search needs) slice-write-table-5
-    (λ c. search needs) (λ c. search needs) (λ c. search needs) slice-write-table-6 (λ c. search needs) returns)
+    (tie.spec (λ c. search needs) (λ c. search needs) (λ c κs. search needs) (λ c. search needs) returns (λ c. search needs) (λ c. search needs)
+    (λ c. search needs) (λ c. search needs) (λ c. search needs) (λ c. search needs) slice-write-table-2 (λ c. search needs) (λ c. search needs)
+    (λ c. search needs) slice-write-table-3 (λ c. search needs) (λ c. search needs) (λ c. search needs) slice-write-table-4 (λ c. search needs)
+    (λ c. search needs) (λ c. search needs) slice-write-table-5 (λ c. search needs) (λ c. search needs) (λ c. search needs) slice-write-table-6
+    (λ c. search needs) returns-2)

@@ -23,7 +23,7 @@ put-row-requires c κs =
     let p = c .before .before .before .before .before .pre .1 in
     let o = opened c in
     record {
-      room = p .room;
+      row-fits = p .row-fits;
       kind-fits = p .kind-fits;
       ns-fits = p .ns-fits;
       ne-fits = p .ne-fits;

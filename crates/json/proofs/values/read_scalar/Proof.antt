@@ -3,9 +3,9 @@ use Prim.Native.Nat.{_+_}
 use mathlib.Core.Path.{sym, _∙_}
 use native.Mathlib.Omega.{arith}
 use borrow.Author.Needs.{needs}
+use Rattle.text.specs.Limits.{base}
 use Rattle.text.specs.Tree.{none, leaf, size, rowsOf}
 use Rattle.text.proofs.TokenEnds.{Span, token-span}
-use Rattle.json.specs.Readers.{upTo}
 use Rattle.json.proofs.Ways.{scalar-end, scalar-no2, scalar-no3}
 use Rattle.json.proofs.values.read_scalar.Statement.{statement}
 use Rattle.json.proofs.values.read_scalar.Tie as tie
@@ -27,7 +27,6 @@ put-row-requires c κs =
 returns : tie.Need-returns
 unfolding size rowsOf
 returns c =
-    λ limit less.
     let a = c .before .before .before .before .before .before .before .before .before .before .args in
     let e = c .before .before .before .before .before in
     let to = e .to .given .0 .0 in
@@ -35,7 +34,7 @@ returns c =
     let token = sym (e .before .before .token-end .ensures) ∙ e .to .given .1 in
     record {
       trees = leaf (a .kind) (a .ns) (a .ne) (a .at) to none;
-      is = scalar-end (upTo limit) (a .text .now) (a .kind) (a .ns) (a .ne) (a .at) (a .count) less to token;
+      is = scalar-end base (a .text .now) (a .kind) (a .ns) (a .ne) (a .at) (a .count) (omega arith) to token;
       count = omega arith;
       table = c .before .before .put-row .ensures;
       later = omega arith;
@@ -45,16 +44,14 @@ returns c =
 
 returns-2 : tie.Need-returns-2
 returns-2 c =
-    λ limit less.
     let a = c .before .before .before .before .before .before .args in
-    scalar-no2 (upTo limit) (a .text .now) (a .kind) (a .ns) (a .ne) (a .at) (a .count) less
+    scalar-no2 base (a .text .now) (a .kind) (a .ns) (a .ne) (a .at) (a .count) (omega arith)
     (c .before .p .given .0 .0) (sym (c .before .before .before .token-end .ensures) ∙ c .before .p .given .1)
 
 returns-3 : tie.Need-returns-3
 returns-3 c =
-    λ limit less.
     let a = c .before .before .before .before .before .before .args in
-    scalar-no3 (upTo limit) (a .text .now) (a .kind) (a .ns) (a .ne) (a .at) (a .count) less
+    scalar-no3 base (a .text .now) (a .kind) (a .ns) (a .ne) (a .at) (a .count) (omega arith)
     (c .before .p2 .given .0 .0) (sym (c .before .before .before .token-end .ensures) ∙ c .before .p2 .given .1)
 
 pub read-scalar-spec : {M : Type 1} → statement M

@@ -1,16 +1,21 @@
 -- The needs of `read_items`. Assumes nothing.
 use native.Mathlib.Omega.{arith}
-use Prim.Native.Nat.{ℕ, _-_}
+use Prim.Native.Nat.{ℕ, _-_, _<_}
 use mathlib.Core.Path.{_≡_, sym, _∙_}
+use mathlib.Core.List.{List}
 use lib.ListN.{length}
 use Rattle.laws.proofs.Places.{inside}
 use Rattle.text.specs.Text.{byteAt}
 use Rattle.text.specs.Grammar.{closing}
 use Rattle.text.specs.Reader.{ItemReader}
 use Rattle.text.proofs.TokenEnds.{skip-span}
-use Rattle.json.specs.Readers.{upTo, Gone, bracketOf, itemOf}
 use Rattle.text.proofs.Grammar.Sound.{byte-closing}
-use Rattle.json.proofs.Items.{Upto, Open, inside-none, upto-none, upto-length, upto-stands, upto-stop, upto-bad, upto-done, upto-more, more-later}
+use Rattle.repeats.specs.Closed.{ownName}
+use Rattle.json.specs.Readers.{Gone, Further, bracketOf, itemOf}
+use Rattle.json.specs.declared.values.Progress.the-variants.{Next}
+use Rattle.json.proofs.Store.{store-room, store-kept}
+use Rattle.json.proofs.Closing.{took-next, further-next}
+use Rattle.json.proofs.Items.{Upto, Open, inside-none, names-none, upto-none, upto-length, upto-stop, stop-names, upto-bad, bad-names, upto-done, done-names, upto-more, more-later}
 use Rattle.json.proofs.values.read_items.Reads as items
 use Rattle.json.proofs.values.read_item.Reads as item
 use Rattle.json.proofs.values.+read_container+read_item+read_items+read_value.Lts-read_items as lts
@@ -20,11 +25,11 @@ use Rattle.json.proofs.bytes.peek.Reads as peek-reads
 use Rattle.json.proofs.values.+read_container+read_item+read_items+read_value.Proof.Measures.{at, below, of-item, of-items}
 
 abbrev pub Inv-loop : lts.InvT-loop
-Inv-loop text table₀ limit depth of from first z start b at₀ count₀ table at count =
-    Upto text (itemOf of (upTo limit) text depth) (closing (bracketOf of)) start limit first table₀ at count table
+Inv-loop text table₀ names₀ depth top of from first z start b at₀ count₀ end₀ table names at count end =
+    Upto text (ownName text (bracketOf of)) (itemOf of text depth) (closing (bracketOf of)) start first top table₀ names₀ at count end table names
 
 abbrev pub μ-loop : lts.MeasureT-loop
-μ-loop text table₀ limit depth of from first z start b at₀ count₀ table at count = length text - at
+μ-loop text table₀ names₀ depth top of from first z start b at₀ count₀ end₀ table names at count end = length text - at
 
 -- what is known of the functions that it calls
 abbrev pub calls : ℕ → lts.Claims
@@ -35,9 +40,12 @@ module _ (t : ℕ) where
   abbrev Start : Type 0
   Start = lts.Start (calls t) (at of-items t) items.Post Inv-loop μ-loop
 
-  -- what reads one item, and the closing byte
+  -- what reads one item, the names of its own, and the closing byte
   abbrev item-of : Start → ItemReader
-  item-of c = itemOf (c .args .of) (upTo (c .args .limit)) (c .args .text .now) (c .args .depth)
+  item-of c = itemOf (c .args .of) (c .args .text .now) (c .args .depth)
+
+  abbrev own-of : Start → ℕ → List ℕ
+  own-of c = ownName (c .args .text .now) (bracketOf (c .args .of))
 
   abbrev z : Start → ℕ
   z c = closing (bracketOf (c .args .of))
@@ -46,9 +54,7 @@ module _ (t : ℕ) where
   abbrev Opened : Type 0
   Opened = lts.Else1 (calls t) (at of-items t) items.Post Inv-loop μ-loop
 
-  opening : (o : Opened)
-      → let s = o .before .before .before .before .before .before in
-      Open (s .args .text .now) (z s) (s .args .from) (o .before .before .skip .result)
+  opening : (o : Opened) → let s = o .before .before .before .before .before .before .before in Open (s .args .text .now) (z s) (s .args .from) (o .before .before .skip .result)
   opening o =
       let k = o .before .before .before .closing in
       record { is = o .before .before .skip .ensures; some = λ q. o .if1 .left (o .before .peek .ensures .0 ∙ q ∙ sym (k .ensures)) }
@@ -57,133 +63,193 @@ module _ (t : ℕ) where
   abbrev Empty : Type 0
   Empty = lts.Then1 (calls t) (at of-items t) items.Post Inv-loop μ-loop
 
-  empty : (c : Empty)
-      → let s = c .before .before .before .before .before .before in byteAt (s .args .text .now) (c .before .before .skip .result) ≡ z s
+  empty : (c : Empty) → let s = c .before .before .before .before .before .before .before in byteAt (s .args .text .now) (c .before .before .skip .result) ≡ z s
   empty c = sym (c .before .peek .ensures .0) ∙ c .if1 .taken ∙ c .before .before .before .closing .ensures
+
+  -- there is room for the names that are there
+  room : (s : Start) → s .args .top < length (s .args .names .now)
+  room s =
+      let p = s .pre .1 in
+      let a = s .args in
+      store-room (length (a .text .now)) (length (a .names .now)) (a .top) (a .from) (a .first) (p .store .enough) (p .few) (p .fewer) (p .inside) (p .spread)
 
   -- the place where an item has been read, and from there the places before it
   abbrev Item : Type 0
-  Item = lts.After-v (calls t) (at of-items t) items.Post Inv-loop μ-loop
+  Item = lts.After-read-item (calls t) (at of-items t) items.Post Inv-loop μ-loop
 
   abbrev loop : (v : Item) → lts.At-loop (calls t) (at of-items t) items.Post Inv-loop μ-loop
-  loop v = v .before .before .before .before .before .before
+  loop v = v .before .before .before
 
   abbrev opened : (v : Item) → Opened
   opened v = loop v .before
 
   abbrev start : (v : Item) → Start
-  start v = opened v .before .before .before .before .before .before
+  start v = opened v .before .before .before .before .before .before .before
 
   shut : (v : Item) → opened v .before .before .before .closing .result ≡ z (start v)
   shut v = opened v .before .before .before .closing .ensures
 
-  -- what the item's reader ensures there, by the case that was matched
-  gone : (v : Item)
-      → let a = start v .args in
-      let l = loop v .loop in
-      let R = item-of (start v) (l .inv .done) (l .at) (l .count) in
-      Gone R (a .text .now) (a .limit) (l .at) (l .count) (l .table) (v .before .before .before .before .read-item .last .1 .0) (v .v .given .0 .0)
-      (v .v .given .0 .1 .0)
-  gone v =
-      let u = loop v .loop .inv in
-      (rw (v .v .given .1) at (v .before .before .before .before .read-item .ensures)) (u .done) (upto-stands u (start v .pre .1 .room))
+  kept : (v : Item) → length (v .read-item .last .1 .0) ≡ length (start v .args .table .now)
+  kept v = v .read-item .kept .1 .0 ∙ upto-length (loop v .loop .inv)
 
-  kept : (v : Item) → length (v .before .before .before .before .read-item .last .1 .0) ≡ length (start v .args .table .now)
-  kept v = v .before .before .before .before .read-item .kept .1 .0 ∙ upto-length (loop v .loop .inv)
+  kept-names : (v : Item) → length (v .read-item .last .1 .1 .0) ≡ length (start v .args .names .now)
+  kept-names v = v .read-item .kept .1 .1 .0 ∙ loop v .loop .inv .added .long
+
+  -- what the item's reader ensures there, by the case that was matched
+  abbrev Read : Type 0
+  Read = lts.After-read (calls t) (at of-items t) items.Post Inv-loop μ-loop
+
+  abbrev item-at : Read → Item
+  item-at r = r .before .before .before .before .before .before
+
+  abbrev to : Read → ℕ
+  to r = r .read .given .0 .0
+
+  abbrev after : Read → ℕ
+  after r = r .read .given .0 .1 .0
+
+  gone : (r : Read)
+      → let v = item-at r in
+      let a = start v .args in
+      let l = loop v .loop in
+      Gone (item-of (start v) (l .inv .done) (l .at) (l .count)) (a .text .now) (l .at) (l .count) (l .table) (v .read-item .last .1 .0) (to r) (after r)
+  gone r =
+      let v = item-at r in
+      let a = start v .args in
+      let l = loop v .loop in
+      took-next (item-of (start v) (l .inv .done) (l .at) (l .count)) (a .text .now) (l .at) (l .count) (l .table) (v .read-item .last .1 .0)
+      (v .read-item .ensures .took (l .inv .done)) (r .read .given .1)
+
+  further : (r : Read) → Further (item-at r .read-item .result .end) (Next (to r) (after r))
+  further r = further-next (item-at r .read-item .result .end) (item-at r .read-item .ensures .further) (r .read .given .1)
 
   -- the place where the closing byte stands after an item
   abbrev Last : Type 0
   Last = lts.Then2 (calls t) (at of-items t) items.Post Inv-loop μ-loop
 
-  last : (c : Last)
-      → let s = start (c .before .before .before .before) in byteAt (s .args .text .now) (c .before .before .skip2 .result) ≡ z s
-  last c = sym (c .before .peek2 .ensures .0) ∙ c .if2 .taken ∙ shut (c .before .before .before .before)
+  last : (c : Last) → let s = start (item-at (c .before .before .before .before)) in byteAt (s .args .text .now) (c .before .before .skip2 .result) ≡ z s
+  last c = sym (c .before .peek2 .ensures .0) ∙ c .if2 .taken ∙ shut (item-at (c .before .before .before .before))
 
   pub add-next : lts.Need-add-next (calls t) (at of-items t) items.Post Inv-loop μ-loop
   add-next c =
-      let a = c .before .before .before .before .before .before .args in
+      let a = c .before .before .before .before .before .before .before .args in
       let k = byte-closing (bracketOf (a .of)) in
       let i = inside (a .text .now) (c .before .before .skip .result) (omega (arith, empty c)) in omega arith
 
   pub returns : lts.Need-returns (calls t) (at of-items t) items.Post Inv-loop μ-loop
   returns c =
-      let s = c .before .before .before .before .before .before in
+      let s = c .before .before .before .before .before .before .before in
       let a = s .args in
       let p = s .pre .1 in
-      inside-none (a .text .now) (item-of s) (bracketOf (a .of)) (a .from) (c .before .before .skip .result) (a .limit) (a .first) (a .table .now)
-      (c .before .before .skip .ensures) (empty c) (p .inside) (p .few)
+      let x = c .before .before .skip in
+      record {
+        took = inside-none (a .text .now) (own-of s) (item-of s) (bracketOf (a .of)) (a .from) (x .result) (a .first) (x .ensures) (empty c) (a .table .now) (p .inside) (p .few);
+        added = names-none (a .text .now) (own-of s) (item-of s) (bracketOf (a .of)) (a .from) (x .result) (a .first) (x .ensures) (empty c) (a .top) (a .names .now) (omega (arith, room s));
+      }
 
   pub loop-holds : lts.Need-loop-holds (calls t) (at of-items t) items.Post Inv-loop μ-loop
   loop-holds c =
-      let s = c .before .before .before .before .before .before in
+      let s = c .before .before .before .before .before .before .before in
       let a = s .args in
       let p = s .pre .1 in
-      upto-none (omega (arith, c .before .before .skip .ensures, skip-span (a .text .now) (a .from) (p .inside) .inside)) (p .few)
+      let x = c .before .before .skip in
+      let k = skip-span (a .text .now) (a .from) (p .inside) in
+      upto-none (omega (arith, x .ensures, k .inside)) (p .few) (omega (arith, room s)) (p .fewer) (omega (arith, x .ensures, p .spread))
 
   pub read-item-requires : lts.Need-read-item-requires (calls t) (at of-items t) items.Post Inv-loop μ-loop
   read-item-requires c κs =
-      let u = c .before .loop .inv in
-      let e = upto-length u in
-      let p = c .before .before .before .before .before .before .before .before .pre .1 in
-      omega arith
+      let l = c .before .before .loop in
+      let u = l .inv in
+      let s = c .before .before .before .before .before .before .before .before .before .before in
+      let p = s .pre .1 in (
+        omega arith,
+        record {
+          store = store-kept (p .store) (l .names) (u .added .long);
+          inside = u .within;
+          few = u .few;
+          fewer = u .fewer;
+          spread = u .spread;
+        },
+      )
 
   pub same-length : lts.Need-same-length (calls t) (at of-items t) items.Post Inv-loop μ-loop
-  same-length c =
-      c .before .before .before .before .read-item .kept .1 .0 ∙ upto-length (c .before .before .before .before .before .before .loop .inv)
+  same-length c = kept (c .before .before .before .before .before .before)
+
+  pub same-length-2 : lts.Need-same-length-2 (calls t) (at of-items t) items.Post Inv-loop μ-loop
+  same-length-2 c = kept-names (c .before .before .before .before .before .before)
 
   pub returns-2 : lts.Need-returns-2 (calls t) (at of-items t) items.Post Inv-loop μ-loop
   returns-2 c =
-      let l = c .before .before .before .before .before .before in
+      let v = c .before .before .before .before .before .before in
+      let u = loop v .loop .inv in
       let o = c .enum-told .given in
-      let e =
-      (rw (o .1) at (c .before .before .before .before .read-item .ensures)) (l .loop .inv .done)
-      (upto-stands (l .loop .inv) (l .before .before .before .before .before .before .before .pre .1 .room)) in
-      rw (o .1) (upto-stop (l .loop .inv) (opening (l .before)) e)
+      let e = (rw (o .1) at (v .read-item .ensures .took)) (u .done) in
+      record { took = rw (o .1) (upto-stop u (opening (opened v)) e); added = stop-names u (v .read-item .ensures .added) (opening (opened v)) e }
 
   pub add-next-2 : lts.Need-add-next-2 (calls t) (at of-items t) items.Post Inv-loop μ-loop
   add-next-2 c =
-      let a = start (c .before .before .before .before) .args in
+      let a = start (item-at (c .before .before .before .before)) .args in
       let k = byte-closing (bracketOf (a .of)) in
-      let i = inside (a .text .now) (c .before .before .skip2 .result) (omega (arith, last c)) in omega arith
+      let i = inside (a .text .now) (c .before .before .skip2 .result) (omega (arith, last c)) in omega (arith, start (item-at (c .before .before .before .before)) .pre .1 .store .short)
 
-  pub same-length-2 : lts.Need-same-length-2 (calls t) (at of-items t) items.Post Inv-loop μ-loop
-  same-length-2 c = kept (c .before .before .before .before)
+  pub same-length-3 : lts.Need-same-length-3 (calls t) (at of-items t) items.Post Inv-loop μ-loop
+  same-length-3 c = kept (item-at (c .before .before .before .before))
+
+  pub same-length-4 : lts.Need-same-length-4 (calls t) (at of-items t) items.Post Inv-loop μ-loop
+  same-length-4 c = kept-names (item-at (c .before .before .before .before))
 
   pub returns-3 : lts.Need-returns-3 (calls t) (at of-items t) items.Post Inv-loop μ-loop
   returns-3 c =
-      let v = c .before .before .before .before in
+      let r = c .before .before .before .before in
+      let v = item-at r in
+      let u = loop v .loop .inv in
       let x = c .before .before .skip2 in
-      upto-done (loop v .loop .inv) (gone v) (x .result) (x .ensures) (opening (opened v))
-      (start v .pre .1 .inside) (last c) (byte-closing (bracketOf (start v .args .of)))
+      record {
+        took = upto-done u (gone r) (x .result) (x .ensures) (opening (opened v)) (last c) (start v .pre .1 .inside) (byte-closing (bracketOf (start v .args .of)));
+        added = done-names u (gone r) (x .result) (x .ensures) (opening (opened v)) (last c) (v .read-item .ensures .added);
+      }
 
-  pub same-length-3 : lts.Need-same-length-3 (calls t) (at of-items t) items.Post Inv-loop μ-loop
-  same-length-3 c = kept (c .before .before .before .before .before)
+  pub same-length-5 : lts.Need-same-length-5 (calls t) (at of-items t) items.Post Inv-loop μ-loop
+  same-length-5 c = kept (item-at (c .before .before .before .before .before))
+
+  pub same-length-6 : lts.Need-same-length-6 (calls t) (at of-items t) items.Post Inv-loop μ-loop
+  same-length-6 c = kept-names (item-at (c .before .before .before .before .before))
 
   pub returns-4 : lts.Need-returns-4 (calls t) (at of-items t) items.Post Inv-loop μ-loop
   returns-4 c =
-      let v = c .before .before .before .before .before in
+      let r = c .before .before .before .before .before in
+      let v = item-at r in
+      let u = loop v .loop .inv in
       let x = c .before .before .before .skip2 in
       let b = c .before .before .peek2 in
-      upto-bad (loop v .loop .inv) (gone v) (x .result) (x .ensures) (opening (opened v))
-      (λ q. c .before .if2 .left (b .ensures .0 ∙ q ∙ sym (shut v)))
-      (λ q. c .if3 .taken (b .ensures .0 ∙ q))
+      let text = start v .args .text .now in
+      let no-end : byteAt text (x .result) ≡ z (start v) → ⊥ = λ q. c .before .if2 .left (b .ensures .0 ∙ q ∙ sym (shut v)) in
+      let no-comma : byteAt text (x .result) ≡ 44 → ⊥ = λ q. c .if3 .taken (b .ensures .0 ∙ q) in
+      record {
+        took = upto-bad u (gone r) (x .result) (x .ensures) (opening (opened v)) no-end no-comma;
+        added = bad-names u (gone r) (x .result) (x .ensures) (opening (opened v)) no-end no-comma (v .read-item .ensures .added);
+      }
 
   pub add-skip : lts.Need-add-skip (calls t) (at of-items t) items.Post Inv-loop μ-loop
-  add-skip c =
-      let i = inside (start (c .before .before .before .before .before) .args .text .now) (c .before .before .before .skip2 .result) (omega arith) in
-      omega arith
+  add-skip c = let i = inside (start (item-at (c .before .before .before .before .before)) .args .text .now) (c .before .before .before .skip2 .result) (omega arith) in omega (arith, start (item-at (c .before .before .before .before .before)) .pre .1 .store .short)
+
+  -- where a comma stands after an item
+  abbrev Comma : Type 0
+  Comma = lts.After-skip3 (calls t) (at of-items t) items.Post Inv-loop μ-loop
+
+  no-end : (c : Comma) → let s = start (item-at (c .before .before .before .before .before .before)) in byteAt (s .args .text .now) (c .before .before .before .before .skip2 .result) ≡ z s → ⊥
+  no-end c q = c .before .before .if2 .left (c .before .before .before .peek2 .ensures .0 ∙ q ∙ sym (shut (item-at (c .before .before .before .before .before .before))))
 
   pub loop-less : lts.Need-loop-less (calls t) (at of-items t) items.Post Inv-loop μ-loop
   loop-less c =
-      let v = c .before .before .before .before .before .before in
+      let r = c .before .before .before .before .before .before in
       let x = c .before .before .before .before .skip2 in
-      let m = more-later (loop v .loop .inv) (gone v) (x .result) (x .ensures) (omega arith) (c .skip3 .result) (c .skip3 .ensures) in
+      let m = more-later (loop (item-at r) .loop .inv) (gone r) (x .result) (x .ensures) (no-end c) (omega arith) (c .skip3 .result) (c .skip3 .ensures) in
       omega arith
 
   pub loop-again : lts.Need-loop-again (calls t) (at of-items t) items.Post Inv-loop μ-loop
   loop-again c =
-      let v = c .before .before .before .before .before .before in
+      let r = c .before .before .before .before .before .before in
+      let v = item-at r in
       let x = c .before .before .before .before .skip2 in
-      upto-more (loop v .loop .inv) (gone v) (x .result) (x .ensures)
-      (λ q. c .before .before .if2 .left (c .before .before .before .peek2 .ensures .0 ∙ q ∙ sym (shut v))) (omega arith)
-      (c .skip3 .result) (c .skip3 .ensures)
+      upto-more (loop v .loop .inv) (gone r) (x .result) (x .ensures) (no-end c) (omega arith) (c .skip3 .result) (c .skip3 .ensures) (v .read-item .ensures .added) (further r)

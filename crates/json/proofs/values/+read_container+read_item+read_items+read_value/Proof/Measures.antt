@@ -17,15 +17,15 @@ use Rattle.json.proofs.values.read_value.Kinds as value-kinds
 
 -- a member: the kinds of its parameters, its measure, and what it requires
 pub record Member : Type 3 where
-  pub ps : List (PK 2)
-  pub μ : Measures 2 ps ℕ
-  pub pre : In 2 ps
+  pub ps : List (PK 3)
+  pub μ : Measures 3 ps ℕ
+  pub pre : In 3 ps
 
-abbrev pub at : (m : Member) → ℕ → In 2 (m .ps)
-at m t = and 2 (m .ps) (is 2 (m .ps) (m .μ) t) (m .pre)
+abbrev pub at : (m : Member) → ℕ → In 3 (m .ps)
+at m t = and 3 (m .ps) (is 3 (m .ps) (m .μ) t) (m .pre)
 
-abbrev pub below : (m : Member) → ℕ → In 2 (m .ps)
-below m t = and 2 (m .ps) (falls 2 (m .ps) _<_ (m .μ) t) (m .pre)
+abbrev pub below : (m : Member) → ℕ → In 3 (m .ps)
+below m t = and 3 (m .ps) (falls 3 (m .ps) _<_ (m .μ) t) (m .pre)
 
 abbrev pub of-container : Member
 of-container = record { ps = container-kinds.ps; μ = λ κs a. 4 * a .1 .1 .1 .0 + 0; pre = container.Pre }

@@ -1,8 +1,9 @@
 -- The needs of `read_value`. Assumes nothing.
 use native.Mathlib.Omega.{arith}
 use Prim.Native.Nat.{ℕ}
+use mathlib.Core.Path.{refl}
+use Rattle.text.specs.Limits.{base}
 use Rattle.text.specs.Text.{byteAt}
-use Rattle.json.specs.Readers.{upTo}
 use Rattle.json.proofs.Ways.{kind-inside, kind-small, value-none, value-container, value-scalar}
 use Rattle.json.proofs.values.read_value.Reads as value
 use Rattle.json.proofs.values.read_container.Reads as container
@@ -21,45 +22,48 @@ calls t =
 module _ (t : ℕ) where
   pub returns : lts.Need-returns (calls t) (at of-value t) value.Post
   returns c =
-      let a = c .before .before .before .before .args in
-      c .overfull .ensures (a .limit) (a .ns) (a .ne) (a .count) (c .before .if1 .taken)
+      let a = c .before .before .before .before .before .args in
+      (c .overfull .ensures (a .ns) (a .ne) (a .count) (c .before .if1 .taken), λ j h. refl)
 
   pub returns-2 : lts.Need-returns-2 (calls t) (at of-value t) value.Post
   returns-2 c =
       let k = c .before in
-      let a = k .before .before .before .before .args in
-      value-none (upTo (a .limit)) (a .text .now) (a .ns) (a .ne) (a .at) (a .count) (a .depth) (k .kind-at .result) (k .kind-at .ensures)
-      (c .if2 .taken)
+      let a = k .before .before .before .before .before .args in (
+        value-none base (a .text .now) (a .ns) (a .ne) (a .at) (a .count) (a .depth) (k .kind-at .result) (k .kind-at .ensures) (c .if2 .taken),
+        λ j h. refl,
+      )
 
   pub read-container-requires : lts.Need-read-container-requires (calls t) (at of-value t) value.Post
   read-container-requires c κs =
-      let k = c .before .before .before .before in
-      let s = k .before .before .before .before in
-      let p = s .pre in
-      let i = kind-inside (s .args .text .now) (s .args .at) (k .kind-at .result) (k .kind-at .ensures) (c .before .before .before .if2 .left) in
-      omega arith
+      let k = c .before .before .before .before .before in
+      let s = k .before .before .before .before .before in
+      let p = s .pre .1 in
+      let i = kind-inside (s .args .text .now) (s .args .at) (k .kind-at .result) (k .kind-at .ensures) (c .before .before .before .before .if2 .left) in (
+        omega arith,
+        (record { store = p .store; inside = omega arith; few = omega arith; fewer = omega (arith, p .fewer); spread = omega (arith, p .spread) }, p .places),
+      )
 
   pub returns-3 : lts.Need-returns-3 (calls t) (at of-value t) value.Post
   returns-3 c =
-      let k = c .before .before .before .before .before .before .before in
-      let a = k .before .before .before .before .args in
+      let k = c .before .before .before .before .before .before .before .before .before .before in
+      let a = k .before .before .before .before .before .args in
       let is =
-      value-container (upTo (a .limit)) (a .text .now) (a .ns) (a .ne) (a .at) (a .count) (a .depth) (k .kind-at .result) (k .kind-at .ensures)
-      (c .before .before .before .before .before .if3 .taken) in
-      rw (is, ← c .before .before .before .before .container-of .ensures) (c .before .before .read-container .ensures)
+      value-container base (a .text .now) (a .ns) (a .ne) (a .at) (a .count) (a .depth) (k .kind-at .result) (k .kind-at .ensures)
+      (c .before .before .before .before .before .before .before .before .if3 .taken) in
+      rw (is, ← c .before .before .before .before .before .before .before .container-of .ensures) (c .before .before .before .before .read-container .ensures)
 
   pub read-scalar-requires : lts.Need-read-scalar-requires (calls t) (at of-value t) value.Post
   read-scalar-requires c κs =
-      let s = c .before .before .before .before .before .before .before in
-      let p = s .pre in
+      let s = c .before .before .before .before .before .before .before .before in
+      let p = s .pre .1 in
       let i = kind-small (byteAt (s .args .text .now) (s .args .at)) in
       omega (arith, c .before .before .before .kind-at .ensures)
 
   pub returns-4 : lts.Need-returns-4 (calls t) (at of-value t) value.Post
   returns-4 c =
       let k = c .before .before .before .before .before .before in
-      let a = k .before .before .before .before .args in
+      let a = k .before .before .before .before .before .args in
       let is =
-      value-scalar (upTo (a .limit)) (a .text .now) (a .ns) (a .ne) (a .at) (a .count) (a .depth) (k .kind-at .result) (k .kind-at .ensures)
+      value-scalar base (a .text .now) (a .ns) (a .ne) (a .at) (a .count) (a .depth) (k .kind-at .result) (k .kind-at .ensures)
       (c .before .before .before .before .before .if2 .left) (c .before .before .before .before .if3 .left) in
-      rw is (c .before .before .read-scalar .ensures (a .limit) (k .before .if1 .left))
+      rw is (c .before .before .read-scalar .ensures, λ j h. refl)
