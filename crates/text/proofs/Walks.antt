@@ -95,7 +95,7 @@ end-step t i =
     (λ k l j h. rw (past-end t j h))
     i
 
-abbrev LongPiece : Piece → Type 0
+abbrev pub LongPiece : Piece → Type 0
 LongPiece stop = Prim.Unit {0}
 LongPiece (piece bs n) = Length n
 
@@ -105,16 +105,16 @@ piece-of-long (Char code n) h = h
 piece-of-long (Bad2 p) h = tt
 piece-of-long (Bad3 p) h = tt
 
-piece-cond : (b : Bool) (x y : Piece) → LongPiece x → LongPiece y → LongPiece (cond b x y)
+pub piece-cond : (b : Bool) (x y : Piece) → LongPiece x → LongPiece y → LongPiece (cond b x y)
 piece-cond true x y p q = p
 piece-cond false x y p q = q
 
-piece-long : (t : List ℕ) (i b : ℕ) → LongPiece (pieceBy t i b)
+pub piece-long : (t : List ℕ) (i b : ℕ) → LongPiece (pieceBy t i b)
 unfolding pieceBy
 piece-long t i b =
     piece-cond (eqb b 256) _ _ tt (piece-cond (eqb b 92) _ _ (piece-of-long (escapeAt t i) (escape-long t i)) (omega arith))
 
-on-piece-later : (k l : ℕ → List ℕ) (i : ℕ) (p : Piece) → LongPiece p → ((j : ℕ) → i < j → k j ≡ l j) → onPiece k i p ≡ onPiece l i p
+pub on-piece-later : (k l : ℕ → List ℕ) (i : ℕ) (p : Piece) → LongPiece p → ((j : ℕ) → i < j → k j ≡ l j) → onPiece k i p ≡ onPiece l i p
 on-piece-later k l i stop h e = refl
 on-piece-later k l i (piece bs n) h e = rw (e (i + n) (omega arith))
 
