@@ -106,7 +106,7 @@ def hostile():
     yield "the same bytes, in any order", members(mixed(turned))
     yield "twice, first and last", members(names[:-1] + names[:1])
     yield "a fault at the end", members(names, end=b"")
-    yield "a value too many", members([b"%x" % (i * 40503 % 65536) for i in range(2048)])
+    yield "too many for the table", members([b"%x" % (i * 40503 % 65536) for i in range(2048)])
 
 
 def inputs():

@@ -10,7 +10,7 @@
  *   overlap   What is written (`table`, `out`, `answer`) shares no byte with any other buffer. `text` and `language` are only read: the language
  *             may lie inside the text.
  *   threads   While a call runs, no other thread writes what it reads, or uses what it writes.
- *   stack     There is as much as the constants below say. What a signal handler takes of the same stack comes on top.
+ *   stack     There is as much as the constants below say, which is less for a short text. What a signal handler takes of the same stack comes on top.
  *
  * Nothing else is asked. Any bytes and any lengths are answered, and nothing need be tested beforehand: a text that is too long, a table or an output
  * that is too small (of length 0 too) is a refusal like any other. What was lent as `text` isn't trusted, and isn't changed.
@@ -40,22 +40,28 @@ extern "C" {
 #endif
 
 /* The limits: the bytes of a text, the arrays and objects that stand one inside the other, the values of a text. */
-#define BEZINKOL_MAX_BYTES 65536
-#define BEZINKOL_MAX_DEPTH 32
-#define BEZINKOL_MAX_VALUES 2048
+#define BEZINKOL_MAX_BYTES 1048576
+#define BEZINKOL_MAX_DEPTH 64
+#define BEZINKOL_MAX_VALUES 32768
 
 /* How much to lend so that there always is room: a table of BEZINKOL_TABLE_WORDS words (then 7 isn't given), and an output as long as the card text,
- * so one of BEZINKOL_MAX_BYTES bytes for any text (then 27 isn't given). */
+ * so one of BEZINKOL_MAX_BYTES bytes for any text (then 27 isn't given). For a text of n bytes (n + 1) / 2 rows are enough. All that is lent is cleared or
+ * filled at each call, so for small texts small buffers are quicker: 768 KiB of table cost more than to judge a card. */
 #define BEZINKOL_ROW_WORDS 6
 #define BEZINKOL_TABLE_WORDS (BEZINKOL_ROW_WORDS * BEZINKOL_MAX_VALUES)
 #define BEZINKOL_ANSWER_WORDS 3
 
-/* The bytes of stack that a call needs, with a margin of 26 KiB or more. By the frames of the machine code for x86-64 of this kit (rattle-kit-5b) no call
- * takes more than 36 KiB for reading, 38 KiB for judging, 46 KiB for localizing. tests/c counts them again (frames.py), measures calls that nest as deep as
- * the limits let them (stack.c), and fails where it is more than is said here; another kit may write other machine code. */
-#define BEZINKOL_READ_STACK 65536
-#define BEZINKOL_JUDGE_STACK 65536
-#define BEZINKOL_LOCALIZE_STACK 73728
+/* The bytes of stack that a call needs, for any text and for one of at most BEZINKOL_SHORT_BYTES bytes. By the frames of the machine code for x86-64 of this
+ * kit (rattle-kit-5b) no call takes more than 287 KiB for reading and 289 KiB for judging and for localizing, and for a short text no more than 30, 45 and 61
+ * KiB: what is said here is more by 31 KiB, for short texts by 10, 11 and 3. tests/c counts them again (frames.py), measures calls at the limits (stack.c), and
+ * fails where it is more than is said here; another kit may write other machine code. */
+#define BEZINKOL_READ_STACK 327680
+#define BEZINKOL_JUDGE_STACK 327680
+#define BEZINKOL_LOCALIZE_STACK 327680
+#define BEZINKOL_SHORT_BYTES 4096
+#define BEZINKOL_READ_STACK_4K 40960
+#define BEZINKOL_JUDGE_STACK_4K 57344
+#define BEZINKOL_LOCALIZE_STACK_4K 65536
 
 /* The words of a row. There is one row a value, parents before children, in the order of the text. Places count bytes from 0, from the start of the
  * text that was read (of the output, after localizing); ends are exclusive. The root and the elements of arrays have the name 0, 0. */
@@ -79,17 +85,17 @@ enum {
     BEZINKOL_OBJECT = 7
 };
 
-/* The refusal sheet: what answer[0] says, and what answer[1] then is. There are no other numbers. Reading gives 1 to 7, judging 11 to 14 too,
- * localizing all. Which one comes first where several things are wrong: docs/REFUSALS.md. A name says its refusal's case in the sources (`Value`,
- * `Inner`), with a word more where that alone would say too little. */
+/* The refusal sheet: what answer[0] says, and what answer[1] then is. There are no other numbers: 34 is the program's own.
+ * Reading gives 1 to 7, judging 11 to 14 too, localizing all. Which one comes first where several things are wrong: docs/REFUSALS.md. A name says its
+ * refusal's case in the sources (`Value`, `Inner`), with a word more where that alone would say too little. */
 enum {
     BEZINKOL_OK = 0,                 /* accepted; the row count */
-    BEZINKOL_TOO_LONG = 1,           /* text over 65,536 bytes; 0 */
+    BEZINKOL_TOO_LONG = 1,           /* text over 1,048,576 bytes; 0 */
     BEZINKOL_GRAMMAR = 2,            /* not RFC 8259; the first byte that can't continue, or the text's length */
     BEZINKOL_CHARACTER = 3,          /* bad UTF-8, a lone surrogate, a noncharacter; its first byte */
     BEZINKOL_REPEATED_NAME = 4,      /* a name already in the same object; the later name's opening quote */
-    BEZINKOL_TOO_DEEP = 5,           /* the 33rd open array or object; its bracket */
-    BEZINKOL_TOO_MANY = 6,           /* a 2,049th value begins; its first byte */
+    BEZINKOL_TOO_DEEP = 5,           /* the 65th open array or object; its bracket */
+    BEZINKOL_TOO_MANY = 6,           /* a 32,769th value begins; its first byte */
     BEZINKOL_SMALL_TABLE = 7,        /* fewer whole rows than the text has values; the rows needed, each of six words */
     BEZINKOL_WRONG_KIND = 11,        /* JSON kind wrong for the type; the value's first byte */
     BEZINKOL_MISSING = 12,           /* mandatory member missing; the object's first byte */

@@ -9,14 +9,17 @@ import sys
 
 import make_judging
 import make_localizing
+import make_program
 import make_reading
 from store import ROOT, lines_of
 
-SERVICES = {"reading": make_reading, "judging": make_judging, "localizing": make_localizing}
-LIMIT = 1200000  # the program's input buffer
+SERVICES = {"reading": make_reading, "judging": make_judging, "localizing": make_localizing, "program": make_program}
+LIMIT = 1500000  # the program's input buffer is larger by a hundred thousand bytes
 
 # the numbers of the sheet that each service can answer, and those that can stand second in 28
-SHEET = {"reading": range(8), "judging": [*range(8), *range(11, 15)], "localizing": [*range(8), *range(11, 15), *range(21, 29)]}
+SHEET = {
+    "reading": range(8), "judging": [*range(8), *range(11, 15)], "localizing": [*range(8), *range(11, 15), *range(21, 29)],
+    "program": [0, *range(2, 8), *range(11, 15), 34]}
 INSIDE = (5, 11, 12, 13, 14)
 
 

@@ -3,11 +3,11 @@ import glob
 import itertools
 import os
 
-from store import ROOT, Case
+from store import ROOT, Case, Made, lent, noted, rows_of
 
 import intake
 from duds import ASKED
-from reading import MOST_WORDS, tree
+from reading import MOST_BYTES, MOST_DEPTH, MOST_VALUES, MOST_WORDS, tree
 from rulings import MUST
 
 GIVEN = b'{"kind":"given","value":"A"}'
@@ -237,8 +237,8 @@ def pairs():
             yield b"{" + b",".join([one] + kept + [other]) + b"}"
     for inside in itertools.permutations([b'"full":5', b'"isOrdered":"x"', b'"sortAs":{"a":5}', b'"components":[' + APART + b"]", b'"@type":1'], 2):
         yield card(b'"name":{' + b",".join(inside) + b"}")
-    for text in (b'{"kind":5,"uid":"\\uD800"}', b'{"kind":5,"kind":6}', b'{"kind":5', b'[5,]', b'{"kind":5}]', b'{"kind":' + b"[" * 32,
-        b"[" + b"0," * 2048 + b"0]", b" " * 65537):
+    for text in (b'{"kind":5,"uid":"\\uD800"}', b'{"kind":5,"kind":6}', b'{"kind":5', b'[5,]', b'{"kind":5}]', b'{"kind":' + b"[" * MOST_DEPTH,
+        b"[" + b"0," * MOST_VALUES + b"0]", b" " * 65537):
         yield text
     for text in (b"null", b"5", b'"Card"', b"[]", b" [] ", b"true", b" \n{}", b"[" + card() + b"]"):
         yield text
@@ -312,8 +312,71 @@ def buffers():
 
 
 def sized(text):
-    number, rows, _ = intake.read(text, MOST_WORDS)
-    return (6 * rows + 13 if number == 0 else 100), text
+    rows = rows_of(text)
+    return (6 * rows + 13 if rows else 100), text
+
+
+HEAD = noted(b"{" + MUST)  # of a card whose text is made by a recipe
+GROUP = HEAD + ',"kind":"group","members":{"":true,"m00000":true'
+
+
+def deep():
+    """A property that is nested as deep as may be, and deeper."""
+    for below in (31, 32, MOST_DEPTH - 2, MOST_DEPTH - 1, MOST_DEPTH):
+        yield card(b'"x":' + b"[" * below + b"]" * below)
+        yield card(b'"x":' + b'{"kind":' * below + b"5" + b"}" * below)
+        yield card(b'"x":' + b'[{"name":' * (below // 2) + b"[" * (below % 2) + b"]" * (below % 2) + b"0" * (below % 2 == 0) + b"}]" * (below // 2))
+        yield card(b'"x":[' + b"[" * (below - 1) + b"]" * (below - 1) + b',{}],"kind":5')
+        yield card(b'"kind":5', b'"x":' + b"[" * below + b"]" * below)
+
+
+def large():
+    """Cards of many values and of many bytes, with the words of the table."""
+    own = len(tree(card(), 24).inside) + 2  # the values of a card with an empty array
+    for values in (2048, 2049, MOST_VALUES - 1, MOST_VALUES, MOST_VALUES + 1):
+        text = card(b'"x":[' + b"0," * (values - own - 1) + b"0]")
+        for words in (0, 6 * values - 6, 6 * values - 1, 6 * values, 6 * values + 6):
+            if words <= MOST_WORDS + 6:
+                yield words, text
+        yield MOST_WORDS, card(b'"kind":5', b'"x":[' + b"0," * (values - own - 2) + b"0]")
+    for count in (1500, 20000, MOST_VALUES - own - 3):  # a group, and what may be wrong with its last member
+        whole = f"{GROUP}%#{count},14,7919;"
+        words = 6 * (count + own + 3)
+        yield words, Made(whole + "}}")
+        yield words - 6, Made(whole + "}}")
+        yield words, Made(whole.replace('"group"', '"Group"') + "}}")
+        for last in ('"n":false', '"n":null', '"m00000":true', '"m07919":true', '"%5cu006d00000":true', '"n":true},"name":{'):
+            yield words + 24, Made(f"{whole},{last}}}}}")
+    for entry, step, values in (('"e00000":{"address":"x"}', 31, 2), ('"e00000":{"address":"x","pref":7}', 310, 3)):  # the digit of `pref` stays
+        entries = f'{HEAD},"emails":{{"e":{{"address":"x"}},{entry}%#{10000},{len(entry) + 1},{step};'
+        yield 6 * (10000 * values + 12), Made(entries + "}}")
+        yield MOST_WORDS, Made(entries + ',"e f":{"address":"x"}}}')
+        yield MOST_WORDS, Made(entries + ',"e_f":{"address":"x","pref":0}}}')
+    part, apart = '{"kind":"given","value":"A"}', '{"kind":"separator","value":"-"}'
+    both = f",{part},{apart}"
+    for ordered in ("true", "false"):
+        parts = f'{HEAD},"name":{{"isOrdered":{ordered},"components":[{part}{both}%*{len(both) * 5000},{len(both)};'
+        yield MOST_WORDS, Made(parts + "]}}")
+        yield MOST_WORDS, Made(parts + f",{apart}]}}}}")
+        yield MOST_WORDS, Made(parts + f",{part},5]}}}}")
+
+
+def long():
+    """Cards as long as may be and a byte longer: padded, bad at the last byte, blank, with one long string, and cut."""
+    for size in (65536, 65537, MOST_BYTES, MOST_BYTES + 1):
+        own = len(card())
+        yield 100, Made(f"{HEAD}}} %*{size - own - 1},1;")
+        yield 100, Made(f" %*{size - own - 1},1;{HEAD}}}")
+        yield 100, Made(f"{HEAD} %*{size - own - 1},1;}}")
+        yield 100, Made(f"{HEAD}}} %*{size - own - 2},1;x")
+        yield 100, Made(f"{HEAD}}} %*{size - own - 2},1;,")
+        yield 100, Made(f" %*{size - 1},1;")
+        yield 100, Made(f'{HEAD},"x":"y%*{size - own - 8},1;"}}')
+        yield 100, Made(f'{HEAD},"kind":"y%*{size - own - 11},1;"}}')
+        yield 100, Made(f'{HEAD},"x":"y%*{size - own - 6},1;')
+        yield 100, Made(f'{HEAD},"x":"y%*{size - own - 12},1;%5cud800')
+        yield 100, Made(f'{HEAD},"kind":5 %*{size - own - 10},1;}}')
+        yield 100, Made(f'{HEAD},"created":"2010-10-10T10:10:10.1%*{size - own - 35},1;Z"}}')
 
 
 def figures():
@@ -326,9 +389,9 @@ def figures():
 
 def groups():
     """The cases, by the base text that they share."""
-    asked = ((min(case["words"], MOST_WORDS), case["text"]) for case in ASKED if case["service"] == "judge")
+    asked = ((lent(case["words"], case["text"]), case["text"]) for case in ASKED if case["service"] == "judge")
     texts = itertools.chain(
-        properties(), types(), mandatory(), between(), keys(), times(), numbers(), sets(), repeated(), pairs(), figures(), chance(500))
+        properties(), types(), mandatory(), between(), keys(), times(), numbers(), sets(), repeated(), pairs(), deep(), figures(), chance(500))
     damage = itertools.chain([RICH], damaged())
-    for base, cases in ((b"", buffers()), (card(), itertools.chain(asked, map(sized, texts))), (RICH, map(sized, damage))):
+    for base, cases in ((b"", itertools.chain(buffers(), large(), long())), (card(), itertools.chain(asked, map(sized, texts))), (RICH, map(sized, damage))):
         yield base, (Case("judging", words, text) for words, text in cases)

@@ -3,12 +3,13 @@ import itertools
 import os
 
 import make_strings
-from make_judging import Dice, card
-from store import ROOT, Case, told_of
+from make_judging import HEAD, Dice, card
+from store import ROOT, Case, Made, rows_of, told_of
+from store import lent as lent_words
 
 import intake
 from duds import ASKED
-from reading import MOST_WORDS
+from reading import MOST_BYTES, MOST_DEPTH, MOST_VALUES, MOST_WORDS
 
 GIVEN = b'{"kind":"given","value":"Ann"}'
 OWN = (
@@ -24,15 +25,16 @@ BASE = patched(b"")
 
 def lent(text, language=b"de", words=None, room=None):
     """A case; the table has some words more than the text needs, the output is as long as the text."""
-    number, rows, _ = intake.read(text, MOST_WORDS)
-    enough = 6 * rows + 13 if number == 0 else 100
-    return Case("localizing", enough if words is None else words, text, len(text) if room is None else room, language)
+    if words is None:
+        rows = rows_of(text)
+        words = 6 * rows + 13 if rows else 100
+    return Case("localizing", words, text, len(text) if room is None else room, language)
 
 
 def rulings():
     for case in ASKED:
         if case["service"] == "localize":
-            yield Case("localizing", min(case["words"], MOST_WORDS), case["text"], case["room"], case["language"])
+            yield Case("localizing", lent_words(case["words"], case["text"]), case["text"], case["room"], case["language"])
 
 
 CONDITIONS = {
@@ -58,8 +60,8 @@ def conditions():
 
 def unread():
     """Texts that reading refuses, each with a patch at fault beside."""
-    for own in (b'"k":x', b'"k":"\\uD800"', b'"k":"\xc3"', b'"k":1,"\\u006b":2', b'"k":' + b"[" * 32 + b"]" * 32, b'"k":[' + b"0," * 2048 + b"0]",
-        b'"k":"' + b"k" * 65536 + b'"'):
+    for own in (b'"k":x', b'"k":"\\uD800"', b'"k":"\xc3"', b'"k":1,"\\u006b":2', b'"k":' + b"[" * MOST_DEPTH + b"]" * MOST_DEPTH,
+        b'"k":[' + b"0," * MOST_VALUES + b"0]", b'"k":"' + b"k" * 65536 + b'"', b'"k":"' + b"k" * MOST_BYTES + b'"'):
         for patch in (b"", CONDITIONS[22]):
             yield lent(patched(patch, own))
             yield lent(patched(patch, own), words=0, room=0)
@@ -76,7 +78,7 @@ def buffers():
     """Outputs and tables that are just enough, one short, empty and long."""
     for patch in (b"", b'"z":null', b'"uid":null', b'"a~1b":"c","name/full":"B"', b'"x":[1, 2, 3]', b'"~":1'):
         text = patched(patch)
-        rows = intake.read(text, MOST_WORDS)[1]
+        rows = rows_of(text)
         _, _, written, _, _ = intake.localize(text, b"de", MOST_WORDS, len(text))
         for room in (0, 1, written - 1, written, written + 1, len(text), len(text) + 100):
             if room >= 0:
@@ -192,19 +194,96 @@ def orders():
 
 def large():
     """Depth that grows; many entries; many members."""
-    deep = b'{"a":' * 30 + b"{}" + b"}" * 30
-    for ups in (28, 29, 30):
+    last = MOST_DEPTH - 2
+    deep = b'{"a":' * last + b"{}" + b"}" * last
+    for ups in (last - 2, last - 1, last):
         for value in (b"[]", b"{}", b'""', b"[[]]", b"[[[]]]", b'{"b":{}}'):
             yield lent(patched(b'"x' + b"/a" * ups + b'/k":' + value, b'"x":' + deep))
-    yield lent(patched(b'"kind":5,"x' + b"/a" * 30 + b'/k":[]', b'"x":' + deep))
-    yield lent(patched(b'"x' + b"/a" * 30 + b'/k":[],"a~":1', b'"x":' + deep))
+    yield lent(patched(b'"kind":5,"x' + b"/a" * last + b'/k":[]', b'"x":' + deep))
+    yield lent(patched(b'"x' + b"/a" * last + b'/k":[],"a~":1', b'"x":' + deep))
+    yield lent(patched(b'"x' + b"/a" * last + b'/k":[]', b'"x":' + deep), room=300)
+    yield lent(patched(b'"x' + b"/a" * (last + 1) + b'":[]', b'"x":' + deep))
+    yield lent(patched(b'"x' + b"/a" * (last + 1) + b'/k":[]', b'"x":' + deep))
+    yield lent(patched(b'"x' + b"/a" * last + b'":null', b'"x":' + deep))
     yield lent(patched(b'"w":' + b"[" * 29 + b"]" * 29))
     yield lent(patched(b'"y/a/b/w":' + b"[" * 29 + b"]" * 29))
-    yield lent(patched(b'"y/a/b/w":' + b"[" * 28 + b"]" * 28))
+    for below in (last - 3, last - 2, last - 1, last):
+        for opened, closed in ((b"[", b"]"), (b'{"a":', b"}")):
+            value = opened * below + b"0" + closed * below
+            yield lent(patched(b'"w":' + value))
+            yield lent(patched(b'"y/w":' + value))
+            yield lent(patched(b'"y/a/b/w":' + value))
+            yield lent(patched(b'"y/a/b/c":' + value + b',"z":null'))
+            yield lent(patched(b'"z":2', b'"y":' + value))
     numbers = [(i * 7919) % 600 for i in range(600)]
     yield lent(patched(b",".join(b'"n%d":%d' % (i, i) for i in numbers)))
     yield lent(patched(b",".join(b'"n%d":%d' % (i, i) for i in numbers) + b',"n5/x":1'))
     yield lent(patched(b",".join(b'"w/n%d":null' % i for i in numbers), b'"w":{' + b",".join(b'"n%d":0' % i for i in range(601)) + b"}"))
+
+
+PATCH = ',"localizations":{"de":{'
+
+
+def counted(count, step=7919, name="n", value="[]"):
+    """So many members with numbers in their names; 7919 gives an order that looks like chance."""
+    first, second = (f'"{name}{number:05}":{value}' for number in (0, step))
+    return f"{first},{second}%#{count - 2},{len(second) + 1},{step};"
+
+
+def many():
+    """Patches of as many entries as a working store may end at, and more; the pairs of a patch take a time that grows as the square."""
+    for count in (63, 64, 65, 66, 1023, 1024, 1025):
+        for step in (1, 7919, 99999):
+            yield lent(Made(f"{HEAD}{PATCH}{counted(count, step)}}}}}}}"))
+        yield lent(Made(f'{HEAD}{PATCH}{counted(count)},"n07919/x":0}}}}}}'))
+        yield lent(Made(f'{HEAD}{PATCH}{counted(count)},"n07919":0}}}}}}'))
+        yield lent(Made(f'{HEAD},"w":{{"a":0}}{PATCH}{counted(count, name="w/n")},"w/a":null,"w":{{}}}}}}}}'))
+        yield lent(Made(f'{HEAD},"w":{{"a":0}}{PATCH}{counted(count, name="w/n")},"w/a":null}}}}}}'))
+        yield lent(Made(f'{HEAD},"w":{{{counted(count, 31)}}}{PATCH}{counted(count, name="w/n", value="{}")}}}}}}}'))
+        yield lent(Made(f'{HEAD},"w":{{{counted(count, 31)}}}{PATCH}{counted(count, 1, "w/n", "null")},"kind":5}}}}}}'))
+    for value in ("null", "{}"):  # the same thousand names, in another order
+        yield lent(Made(f'{HEAD},"w":{{{counted(1000, 100)}}}{PATCH}{counted(1000, 7900, "w/n", value)}}}}}}}'))
+    for count in (2047, 2048, 2049):
+        yield lent(Made(f"{HEAD}{PATCH}{counted(count)}}}}}}}"))
+    for values in (62, 63, 64, 1022, 1023, 1024, 2046, 2047, 2048, 3000):  # of one entry, its own value not counted
+        for patch in (f'"w":[0,%*{2 * (values - 2)},2;0]', f'"w":[0,%*{2 * (values - 2)},2;0],"w/a":0', f'"x":1,"w":{{{counted(values - 1)}}}'):
+            yield lent(Made(f"{HEAD}{PATCH}{patch}}}}}}}"))
+    yield lent(Made(f'{HEAD},"w":{{"a":0}}{PATCH}{counted(3000)},"w/a":null}}}}}}'))
+    yield lent(Made(f'{HEAD},"w":{{"a":0}}{PATCH}{counted(3000)},"no/a":null}}}}}}'))
+
+
+def greatest():
+    """Cards of as many values, languages and bytes as may be, and one more."""
+    own = rows_of(card(b'"x":[]', b'"localizations":{"de":{"z":1}}'))
+    for values in (2048, 2049, MOST_VALUES, MOST_VALUES + 1):
+        text = Made(f'{HEAD},"x":[0,%*{2 * (values - own - 2)},2;0]{PATCH}"z":1}}}}}}')
+        assert values > MOST_VALUES or rows_of(text) == values
+        for words in (0, 6 * values - 6, 6 * values - 1, 6 * values, 6 * values + 6):
+            if words <= MOST_WORDS + 6:
+                yield lent(text, words=words)
+        yield lent(text, words=min(6 * values, MOST_WORDS), room=60)
+        yield lent(Made(f'{HEAD},"x":[0,%*{2 * (values - own - 2)},2;0]{PATCH}"x":1}}}}}}'), words=min(6 * values, MOST_WORDS))
+        yield lent(Made(f'{HEAD}{PATCH}"x":[ 0 ,%*{4 * (values - own - 1)},4; 0]}}}}}}'), words=min(6 * values, MOST_WORDS))
+    group = f'{HEAD},"kind":"group","members":{{"":true,"m00000":true%#30000,14,7919;}}{PATCH}'
+    yield lent(Made(group + '"members/m00000":null,"members/n":true}}}'))
+    yield lent(Made(group + '"members/m07919":false}}}'))
+    yield lent(Made(group + '"kind":null}}}'))
+    languages = f'{HEAD},"localizations":{{"":{{"z":1}},"l00000":{{}}%#20000,12,7919;,"de":{{"z":2}}}}}}'
+    for language in (b"", b"de", b"l07919", b"l00000", b"l", b"l000000"):
+        yield lent(Made(languages), language)
+    for size in (MOST_BYTES, MOST_BYTES + 1):
+        empty = len(HEAD + PATCH + "}}}")
+        yield lent(Made(f"{HEAD}{PATCH}}}}}}} %*{size - empty - 1},1;"))
+        yield lent(Made(f"{HEAD}{PATCH}}}}}}} %*{size - empty - 2},1;x"))
+        yield lent(Made(f" %*{size - 1},1;"))
+        yield lent(Made(f'{HEAD},"w":"w%*{size - empty - 8},1;"{PATCH}}}}}}}'))
+        yield lent(Made(f'{HEAD},"w":"w%*{size - empty - 18},1;"{PATCH}"kind":"x"}}}}}}'))
+        yield lent(Made(f'{HEAD},"w":"w%*{size - empty - 8 - 8},1;"{PATCH}"w":null}}}}}}'))
+        yield lent(Made(f'{HEAD}{PATCH}"w":"w%*{size - empty - 7},1;"}}}}}}'))
+        yield lent(Made(f'{HEAD}{PATCH}"w":"w%*{size - empty - 7},1;"}}}}}}'), room=size - empty)
+        yield lent(Made(f'{HEAD}{PATCH}"w":"w%*{size - empty - 7 - 11},1;","uid":null}}}}}}'))
+        yield lent(Made(f'{HEAD}{PATCH}"w%*{size - empty - 5},1;":0}}}}}}'))
+        yield lent(Made(f'{HEAD}{PATCH}"w%*{size - empty - 6},1;~":0}}}}}}'))
 
 
 def figures():
@@ -243,3 +322,4 @@ def groups():
     yield BASE, itertools.chain(
         rulings(), conditions(), unread(), buffers(), languages(), keys(), prefixes(), walks(), members(), orders(), large(), figures(), chance(800))
     yield NAMED, strings()
+    yield b"", itertools.chain(many(), greatest())

@@ -2,20 +2,19 @@
 objects of few and of many members, names that begin alike, and texts of every length that a working store may be sized by."""
 import itertools
 
-import store  # which finds the second implementation
+from store import WORDS, Made, rows_of
 
-import intake
-from reading import MOST_BYTES, MOST_VALUES, MOST_WORDS
+from reading import MOST_BYTES, MOST_DEPTH, MOST_VALUES, MOST_WORDS
 
 LETTERS = [bytes([byte]) for byte in b"abcdefghijklmnopqrstuvwxyz"]
 FEW, MORE = (8, 9), (10, 16, 17)  # up to eight names may be compared in pairs, more be sorted
-LARGE = 12300  # the words of the program's own table, which has room to spare
+LARGE = 196700  # the words of the table of crates/cases_run, which has room to spare
 
 
 def sized(text, spare=13):
     """A text with a table that has some words more than it needs; at most two hundred where it is refused."""
-    number, rows, _ = intake.read(text, MOST_WORDS)
-    return (6 * rows + spare if number == 0 else 200), text
+    rows = rows_of(text)
+    return (6 * rows + spare if rows else 200), text
 
 
 def mixed(some, step=7):
@@ -30,10 +29,10 @@ def in_mixed_order(some):
 
 
 def shortest():
-    """As many distinct names as an object can have and one more, none of them longer than need be."""
+    """2,048 distinct names, none of them longer than need be."""
     plain = [bytes([byte]) for byte in range(0x21, 0x7F) if byte not in b'"\\%']
     pairs = [one + other for one in plain[:48] for other in plain[:48]]
-    return [b""] + in_mixed_order(plain) + in_mixed_order(pairs)[:MOST_VALUES - 1 - len(plain)]
+    return [b""] + in_mixed_order(plain) + in_mixed_order(pairs)[:2047 - len(plain)]
 
 
 NAMES = shortest()
@@ -149,8 +148,8 @@ def spelled():
 
 AFTER = [
     b"", b" ", b"}", b",", b"x", b"0", b":", b": ", b":}", b":]", b":x", b":tru", b":01", b":-", b':"', b':"\\', b':"\\x"', b':"\\ud800"',
-    b':"\xff"', b':"\x1f"', b":[", b":[0", b":[0,]", b":[x", b":{", b':{"', b':{"c"', b':{"c":0,"c"', b':{"c":0,"c":0}}', b":{x", b":" + b"[" * 31,
-    b":" + b"[" * 32, b":0", b":0]", b":0 0}", b":0,", b":0,}", b':0,"', b':0,"\\ud800":0}', b':0,"\xff":0}', b":0}", b":0}}", b":0}\x00"]
+    b':"\xff"', b':"\x1f"', b":[", b":[0", b":[0,]", b":[x", b":{", b':{"', b':{"c"', b':{"c":0,"c"', b':{"c":0,"c":0}}', b":{x", b":" + b"[" * (MOST_DEPTH - 1),
+    b":" + b"[" * MOST_DEPTH, b":0", b":0]", b":0 0}", b":0,", b":0,}", b':0,"', b':0,"\\ud800":0}', b':0,"\xff":0}', b":0}", b":0}}", b":0}\x00"]
 OPEN = [
     b"", b"\\", b"\\u", b"\\u00", b"\\u006", b"\\x", b"\\ud800", b"\\ud800\\u0061", b"\\udc00", b"\\ufffe", b"\xff", b"\xc3", b"\xed\xa0\x80",
     b"\xef\xbf\xbf", b"\x1f", b"\n"]
@@ -179,8 +178,8 @@ def nest(levels, before, after, inner=b"{}"):
     return head * levels + inner + tail * levels
 
 
-NARROW = (31, (b"a", b"b"), (b"c", b"d"))
-WIDE = (31, LETTERS[:5], LETTERS[5:10])
+NARROW = (MOST_DEPTH - 1, (b"a", b"b"), (b"c", b"d"))
+WIDE = (MOST_DEPTH - 1, LETTERS[:5], LETTERS[5:10])
 
 
 def nested(shape):
@@ -197,7 +196,7 @@ def nested(shape):
     for inner in (b"x", b'{"a":0,"a":0}', b'{"a":0,"b":0,"a"', b"[[]]", b'{"in":{}}', b'"\\ud800"', b""):
         whole = nest(levels, before, after, inner)
         yield whole
-        for level in (0, 1, 15, 30):
+        for level in (0, 1, levels // 2, levels - 1):
             at = level * size + 8
             yield whole[:at] + before[0] + whole[at + 1:]
 
@@ -299,35 +298,110 @@ def parts():
 # limits
 
 def at_limit():
-    """Texts of about 2,048 values, with the words of the table: 4 comes before 6 where its place is smaller, and both before 7."""
-    exact = 6 * MOST_VALUES
-    lent = (0, 1, exact - 6, exact - 1, exact, LARGE)
-    full = MOST_VALUES - 1
+    """Texts of about 2,048 values, with the words of the table, and of as many as there may be: 4 comes before 6 where its place is smaller, and both
+    before 7."""
+    lent = (0, 1, WORDS - 6, WORDS - 1, WORDS, WORDS + 12)
     for names in (
-            NAMES[:full - 1], NAMES[:full], NAMES, again(NAMES[:full], (1, full - 1)), again(NAMES[:full], (full - 2, full - 1)),
-            again(NAMES[:full], (500, 1000), (500, 1500)), again(NAMES, (2, full)), again(NAMES, (7, 1024))):
+            NAMES[:2046], NAMES[:2047], NAMES, again(NAMES[:2047], (1, 2046)), again(NAMES[:2047], (2045, 2046)),
+            again(NAMES[:2047], (500, 1000), (500, 1500)), again(NAMES, (2, 2047)), again(NAMES, (7, 1024))):
         for words in lent:
             yield words, members(names)
-    yield 6 * (full - 1), members(NAMES[:full - 1])
     for words in lent:
-        yield words, b"[" + b"0," * (full - 1) + b"0]"
-        yield words, b"[" + b"0," * full + b"0]"
+        yield words, b"[" + b"0," * 2046 + b"0]"
+        yield words, b"[" + b"0," * 2047 + b"0]"
     for own in (b'{"a":0,"a":0}', members(LETTERS[:10] + LETTERS[:1]), members(LETTERS[:11])):
         count = own.count(b":")
         for before in range(MOST_VALUES - count - 3, MOST_VALUES + 1):
             yield 0, b"[" + b"0," * before + own + b"]"
 
 
+# names that are counted, in an order that looks like chance: more than a text may have
+
+STEP = 7919
+COUNTED = Made(f'{{"":[],"00000":[]%#{MOST_VALUES + 1},11,{STEP};')
+
+
+def counted_name(at):
+    """The name of a member of COUNTED, by its place; the first is empty."""
+    return "%05d" % ((at - 1) * STEP % 100000)
+
+
+def counted_end(count):
+    """Where so many members of COUNTED end."""
+    return 6 + 11 * (count - 1)
+
+
+def counted(count, more="}", repeated=()):
+    """So many members of COUNTED, where at the second place of each pair the name of the first stands again, and what follows them."""
+    recipe, done = "", 0
+    for first, second in sorted(repeated, key=lambda pair: pair[1]):
+        recipe += f'%={done},{counted_end(second)};,"{counted_name(first)}":[]'
+        done = counted_end(second + 1)
+    return Made(f"{recipe}%={done},{counted_end(count)};{more}", COUNTED)
+
+
+def in_order(count, step, more="}"):
+    """So many names that ascend or descend, by a step of 1 or of 99999."""
+    second = "%05d" % ((50000 + step) % 100000)
+    return Made(f'{{"50000":[],"{second}":[]%#{count - 2},11,{step};{more}')
+
+
+def greatest():
+    """Objects of up to as many members as there may be, on both sides of each number that a working store may end at; with the words of the table."""
+    for count in (63, 64, 65, 66, 1022, 1023, 1024, 1025, 1026, 2048, 4096):
+        for repeated in ((), ((1, count - 1),), ((count - 2, count - 1),), ((3, count // 2), (2, count - 1))):
+            yield 6 * count + 13, counted(count, repeated=repeated)
+        for step in (1, 99999):
+            yield 0, in_order(count, step)
+            yield 0, in_order(count, step, ',"50000":[]}')
+            yield 0, in_order(count, step, ',"%5cu0035000%5cu0030":{')
+    for count in (20000, MOST_VALUES - 1):
+        middle, last = count // 2, count - 1
+        for repeated in (
+                (), ((1, last),), ((last - 1, last),), ((1, 2),), ((middle, middle + 1),), ((3, 9000), (3, 12000)), ((2, 19000), (9, 10000))):
+            yield 0, counted(count, repeated=repeated)
+        yield 0, counted(count, "")
+        yield 0, counted(count, f',"{counted_name(count // 3)}"')
+        yield 0, counted(count - 1, ',"%5cu0030000%5cu0030":[]}')
+        for step in (1, 99999):
+            yield 0, in_order(count, step)
+            yield 0, in_order(count - 1, step, ',"50000":[]}')
+
+
 def full():
-    """What may follow 2,046 members."""
-    own = members(NAMES[:MOST_VALUES - 2], end=b"")
-    first, middle, last = NAMES[1], NAMES[1000], NAMES[MOST_VALUES - 3]
+    """Tables for as many members as there may be, and what may follow all but one of them."""
+    most = MOST_VALUES - 1
+    for words in (1, MOST_WORDS - 6, MOST_WORDS - 1, MOST_WORDS, LARGE):
+        yield words, counted(most)
+        yield words, counted(most, repeated=((500, 30000),))
+        yield words, counted(most + 1)
+    first, middle, last = (counted_name(at) for at in (1, 16000, most - 2))
     for more in (
-            b"}", b',"m~":0}', b',"m~":0,"l~":0}', b',"m~":0,"m~":0}', b',"m~":0,"%s":0}' % first, b',"m~":0,"%s":0}' % last, b',"m~":0,"l~" 0}',
-            b',"%s":0}' % middle, b',"%s":0}' % escaped(first), b',"m~":0'):
-        yield MOST_WORDS, own + more
-    yield 6 * 100, own + b',"%s":0}' % middle
-    yield 6 * (MOST_VALUES - 1) - 1, own + b"}"
+            '}', ',"m~":0}', ',"m~":0,"l~":0}', ',"m~":0,"m~":0}', f',"m~":0,"{first}":0}}', f',"m~":0,"{last}":0}}', ',"m~":0,"l~" 0}', f',"{middle}":0}}',
+            ',"%5cu0030%5cu0030%5cu0030%5cu0030%5cu0030":0}', ',"m~":0'):
+        yield 600, counted(most - 1, more)
+    for own, after in (('{"a":0,"a":0}', ""), ('{"a":0,"b":0}', ',"00000":[]')):  # an object of few inside one of many
+        yield 0, counted(most - 3, ',"m~":' + own + after + "}")
+        yield 0, counted(20000, ',"m~":' + own + after + "}")
+    objects = f"[%=0,1040;}},{{%=7,1040;}}%*{1036 * 339},1036;"  # many of some members, each with names of its own
+    yield 0, Made(objects + "]", COUNTED)
+    yield 0, Made(objects + ',{"a":0,"a"', COUNTED)
+
+
+ALIKE = ',"the-members-of-the-hospitals-00000":[]'
+
+
+def alike_and_many():
+    """Long names that begin alike, to the last byte of a text."""
+    size, some = len(ALIKE), MOST_BYTES // len(ALIKE) - 2
+    for step in (1, STEP, 99999):
+        yield 0, Made(f'{{"":[]{ALIKE}%#1499,{size},{step};}}')
+        yield 0, Made(f'{{"":[]{ALIKE}%#{some},{size},{step};}}')
+        yield 0, Made(f'{{"":[]{ALIKE}%#{some},{size},{step};{ALIKE}')
+    whole = f'{{"":[]{ALIKE}%#{some},{size},{STEP};'
+    left = MOST_BYTES - len(Made(whole)) - 1
+    yield 0, Made(f"{whole} %*{left - 1},1;}}")
+    yield 0, Made(f"{whole} %*{left},1;}}")
 
 
 def small_tables():
@@ -335,7 +409,7 @@ def small_tables():
     repeated = ([b"a", b"a"], again(LETTERS[:9], (0, 8)), again(LETTERS[:9], (3, 4)), again(LETTERS[:17], (2, 9), (2, 16)))
     for names in (LETTERS[:2], LETTERS[:8], LETTERS[:9], LETTERS[:17], *repeated):
         rows = len(names) + 1
-        for words in sorted({0, 1, 6, 6 * rows - 7, 6 * rows - 6, 6 * rows - 1, 6 * rows, 6 * rows + 5, LARGE}):
+        for words in sorted({0, 1, 6, 6 * rows - 7, 6 * rows - 6, 6 * rows - 1, 6 * rows, 6 * rows + 5, 12300}):
             yield words, members(names)
             yield words, members(names, end=b"")
 
@@ -355,15 +429,27 @@ def of_length(size, start, end, name=None):
 
 def lengths():
     """Texts on both sides of each length that a working store may end at, as full of names as can be, with the words of the table."""
-    deep = b'{"":' * 31  # four bytes a name, the least that there is
-    powers = (256, 512, 1024, 2048, 4096, 8192, MOST_BYTES)
-    for size in [power + more for power in powers for more in (-1, 0, 1)] + [16384, 32768]:
-        for words, name in ((MOST_WORDS, None), (0, None), (0, NAMES[2]), (MOST_WORDS, NAMES[20])):
+    deep = b'{"":' * (MOST_DEPTH - 1)  # four bytes a name, the least that there is
+    powers = (256, 512, 1024, 2048, 4096, 8192, 16384, 65536)
+    for size in [power + more for power in powers for more in (-1, 0, 1)] + [32768]:
+        for words, name in ((WORDS, None), (0, None), (0, NAMES[2]), (WORDS, NAMES[20])):
             yield words, of_length(size, b"", b"}", name)
-        yield 0, of_length(size, deep, b"}" * 32)
-        yield 0, of_length(size, deep, b"}" * 32, NAMES[3])
+        if size > 300:
+            yield 0, of_length(size, deep, b"}" * MOST_DEPTH)
+            yield 0, of_length(size, deep, b"}" * MOST_DEPTH, NAMES[3])
         for name in (NAMES[4], b"~~"):
             yield 0, of_length(size, b"", b',"%s"' % name)  # ends with a name, just closed
+
+
+def longest():
+    """The same of a text as long as may be, and a byte longer."""
+    count = MOST_VALUES - 2
+    for size in (MOST_BYTES, MOST_BYTES + 1):
+        left = size - len(counted(count, ""))
+        for words, name in ((MOST_WORDS, "~~~~~"), (0, counted_name(2))):
+            yield words, counted(count, f',"{name}":1%*{left - 11},1;}}')
+        for name in (counted_name(4), "~~~~~"):
+            yield 0, counted(count, f' %*{left - 9},1;,"{name}"')
 
 
 LONG_NAMES = [b"urn:uuid:03a0e51f-d1aa-4385-%08d" % i for i in range(1500)]
@@ -398,4 +484,5 @@ def groups():
     """The words of the table and the texts, by their base text."""
     for base, some in texts():
         yield base, map(sized, some)
-    yield DENSE, itertools.chain(map(sized, many()), map(sized, closed()), at_limit(), full(), small_tables(), lengths())
+    yield DENSE, itertools.chain(map(sized, many()), map(sized, closed()), at_limit(), small_tables(), lengths())
+    yield COUNTED, itertools.chain(greatest(), full(), alike_and_many(), longest())

@@ -3,12 +3,12 @@ import itertools
 
 import make_names
 import make_strings
-from make_names import sized
-from store import Case
+from make_names import LARGE, sized
+from store import WORDS, Case, Made, lent, rows_of
 
 import intake
 from duds import ASKED
-from reading import MOST_WORDS
+from reading import MOST_BYTES, MOST_DEPTH, MOST_VALUES, MOST_WORDS
 
 RICH = (
     b' {"a" : [1, -2.5e+3,\t0.25E-1,-0, 1e9 ],\n"b":{"\\u0061":null,"\xc3\xa9\\n":true , "":false},\r\n"c\\"\\/":"x\\ud83d\\uDE00\xe2\x82\xac\\u00e9 \x7f",'
@@ -18,63 +18,84 @@ RICH = (
 def rulings():
     for case in ASKED:
         if case["service"] == "read":
-            yield min(case["words"], MOST_WORDS), case["text"]
+            yield lent(case["words"], case["text"]), case["text"]
 
 
 def depths():
-    for opens in (30, 31, 32, 33, 34):
-        yield MOST_WORDS, b"[" * opens + b"]" * opens
-        yield MOST_WORDS, b'{"a":' * (opens - 1) + b"{}" + b"}" * (opens - 1)
-        yield MOST_WORDS, b'[{"a":' * (opens // 2) + b"0" + b"}]" * (opens // 2)
-        yield MOST_WORDS, b"[" * (opens - 1) + b"0,[],{},[]" + b"]" * (opens - 1)
-        yield MOST_WORDS, b"[" * opens
-        yield MOST_WORDS, b"[" * (opens - 1) + b"{x"
-    yield MOST_WORDS, b"[" * 31 + b"[]" + b"]" * 30 + b",[" * 31 + b"[]"
-    yield MOST_WORDS, b"[[]," + b"[" * 31 + b"]" * 31 + b"," + b"[" * 32
-    yield MOST_WORDS, b'{"a":1,"b":' + b"[" * 31 + b"]" * 31 + b',"a":' + b"[" * 32
-    yield MOST_WORDS, b"[" * 32 + b"0," * 2015 + b"0" + b"]" * 32
-    yield MOST_WORDS, b"[" * 32 + b"0," * 2015 + b"0,[" + b"]" * 33
-    yield MOST_WORDS, b"[" * 31 + b"0," * 2017 + b"[" + b"]" * 32
+    for opens in (31, 32, 33, *range(MOST_DEPTH - 2, MOST_DEPTH + 3)):
+        yield WORDS, b"[" * opens + b"]" * opens
+        yield WORDS, b'{"a":' * (opens - 1) + b"{}" + b"}" * (opens - 1)
+        yield WORDS, b'[{"a":' * (opens // 2) + b"0" + b"}]" * (opens // 2)
+        yield WORDS, b"[" * (opens - 1) + b"0,[],{},[]" + b"]" * (opens - 1)
+        yield WORDS, b"[" * opens
+        yield WORDS, b"[" * (opens - 1) + b"{x"
+    most, last = MOST_DEPTH, MOST_DEPTH - 1
+    yield WORDS, b"[" * last + b"[]" + b"]" * (last - 1) + b",[" * last + b"[]"
+    yield WORDS, b"[[]," + b"[" * last + b"]" * last + b"," + b"[" * most
+    yield WORDS, b'{"a":1,"b":' + b"[" * last + b"]" * last + b',"a":' + b"[" * most
+    others = MOST_VALUES - most
+    yield MOST_WORDS, b"[" * most + b"0," * (others - 1) + b"0" + b"]" * most
+    yield MOST_WORDS, b"[" * most + b"0," * (others - 1) + b"0,[" + b"]" * (most + 1)
+    yield MOST_WORDS, b"[" * last + b"0," * (others + 1) + b"[" + b"]" * most
 
 
 def counts():
-    for values in (2046, 2047, 2048, 2049):
-        yield MOST_WORDS, b"[" + b"0," * (values - 2) + b"0]"
-        yield MOST_WORDS, b"[" + b"[]," * (values - 2) + b"{}]"
-        yield MOST_WORDS, b"[" + b'{"a":0},' * ((values - 1) // 2) + b'"x"' * (values % 2 == 0) + b"]"
+    for values in (2047, 2048, 2049, *range(MOST_VALUES - 2, MOST_VALUES + 2)):
+        words = MOST_WORDS if values > 2049 else 6 * values
+        yield words, b"[" + b"0," * (values - 2) + b"0]"
+        yield words, b"[" + b"[]," * (values - 2) + b"{}]"
+        yield words, b"[" + b'{"a":0},' * ((values - 1) // 2) + b'"x"' * (values % 2 == 0) + b"]"
     for first in (b"1", b'"', b"t", b"[", b"{", b"-", b"]", b",", b":", b"", b"x", b"+"):
-        yield MOST_WORDS, b"[" + b"0," * 2047 + first
+        yield 600, b"[" + b"0," * (MOST_VALUES - 1) + first
 
 
 def lengths():
-    for size in (65535, 65536, 65537, 70000):
+    for size in (65535, 65536, 65537):  # a store for the names of a shorter text may be smaller, and the program's buffer ends there
         yield 60, b" " * (size - 1) + b"0"
         yield 60, b"0" + b" " * (size - 1)
         yield 60, b'"' + b"a" * (size - 2) + b'"'
-        yield 60, b"1" * size
-        yield 60, b'["' + b"\\u00e9" * ((size - 4) // 6) + b'"' + b" " * ((size - 4) % 6) + b"]"
         yield 60, b" " * size
         yield 60, b"x" * size
-        yield 60, b"\n" * (size - 3) + b'"\xc3'
-    yield 60, b'"' + b"\xc3\xa9" * 32767 + b'"'
-    yield 60, b'"' + b"\xc3\xa9" * 32768
+        yield 60, b'"' + b"\xc3\xa9" * ((size - 1) // 2)
+    for size in (MOST_BYTES - 1, MOST_BYTES, MOST_BYTES + 1):
+        yield 60, Made(f" %*{size - 2},1;0")
+        yield 60, Made(f'"a%*{size - 3},1;"')
+        yield 60, Made(f" %*{size - 1},1;")
+    for size in (MOST_BYTES, MOST_BYTES + 1):
+        yield 60, Made(f"0 %*{size - 2},1;")
+        yield 60, Made(f"0 %*{size - 3},1;x")
+        yield 60, Made(f"1%*{size - 1},1;")
+        yield 60, Made(f'["%5cu00e9%*{(size - 4) // 6 * 6 - 6},6;" %*{(size - 4) % 6 - 1},1;]')
+        yield 60, Made(f"x%*{size - 1},1;")
+        yield 60, Made(f'%0a%*{size - 3},1;"%c3')
+        yield 60, Made(f'"a%*{size - 2},1;')
+        yield 60, Made(f'"%c3%a9%*{size - 4},2;"')
+        yield 60, Made(f'"%c3%a9%*{size - 3},2;')
+        yield 60, Made(f'{{"a":"b%*{size - 13},1;","a":')
+    yield 60, Made(f" %*{1050000 - 2},1;0")
 
 
 def tables():
     texts = [b"0", b'{"a":[1]}', b' {"a" : [ 1 , 2 ] , "b" : { } } ', b"[[[[[[]]]]]]", b"[0,1,2,3,4,5,6,7,8,9]", b'{"a":{"b":{"c":{"d":0}}}}']
     for text in texts:
-        rows = intake.read(text, MOST_WORDS)[1]
+        rows = rows_of(text)
         for words in sorted({0, 1, 5, 6, 7, 11, 12, 6 * rows - 7, 6 * rows - 6, 6 * rows - 1, 6 * rows, 6 * rows + 1, 6 * rows + 5,
             6 * rows + 6, 600}):
             if words >= 0:
                 yield words, text
     faulty = [
-        b"", b"x", b"[1,2,3,x]", b'[1,2,3,"\\uD800"]', b'[1,2,3,{"a":1,"\\u0061":2}]', b"[1,2,3," + b"[" * 32, b'{"a":1,"b":2,"c":3,"b":4}',
-        b"[" + b"0," * 2048 + b"0]",
+        b"", b"x", b"[1,2,3,x]", b'[1,2,3,"\\uD800"]', b'[1,2,3,{"a":1,"\\u0061":2}]', b"[1,2,3," + b"[" * MOST_DEPTH, b'{"a":1,"b":2,"c":3,"b":4}',
+        b"[" + b"0," * MOST_VALUES + b"0]",
         b"[1,2,3", b"[1,2,3]]", b" " * 65537]
     for text in faulty:
         for words in (0, 5, 6, 7, 12, 23, 24, 30, 36, 61):
             yield words, text
+    for words in (0, 61, MOST_WORDS, LARGE):
+        yield words, Made(f" %*{MOST_BYTES},1;")
+    full = b"[" + b"{}," * (MOST_VALUES - 2) + b"0]"  # and one value more
+    for words in (0, 6, 12288, MOST_WORDS - 7, MOST_WORDS - 6, MOST_WORDS - 1, MOST_WORDS, MOST_WORDS + 1, MOST_WORDS + 6, LARGE):
+        yield words, full
+        yield words, full[:-1] + b",0]"
 
 
 def names():

@@ -12,18 +12,21 @@ ROOT = os.path.dirname(os.path.dirname(os.path.abspath(__file__)))
 sys.path.insert(0, os.path.join(ROOT, "tests", "second"))
 from judging import judge
 from localizing import told
-from reading import read
+from program import WORDS, said
+from reading import MOST_WORDS, Refused, read, tree
 
 FAR = 24  # a run, or a part of the base text, at least so long is written shorter
 LONG = 300  # of a text that is so long, or whose base text is, any part may be a copy
 SHOWN = 400  # a shorter localized card is in the answer itself
-SERVICES = ("reading", "judging", "localizing")
+SERVICES = ("reading", "judging", "localizing", "program")
+SHORT = 4096  # a text with fewer bytes has at most 2,048 values: so many rows are WORDS
 
-# A call: the service, the words of the lent table and the text; localizing has the bytes of the lent output and the language too.
+# A call: the service, the words of the lent table and the text; localizing has the bytes of the lent output and the language too. The program has a table
+# of WORDS words, and is given nothing but an input.
 Case = collections.namedtuple("Case", "service words text room language", defaults=(0, b""))
 
-# A case as it is stored: its number from 1 on, the call, the line with what is wanted, and the line of the case.
-Stored = collections.namedtuple("Stored", "number case wanted line")
+# A case as it is stored: its number from 1 on, the call, the line with what is wanted, and the lines of the base text (or "") and of the case.
+Stored = collections.namedtuple("Stored", "number case wanted base line")
 
 
 def plain(text):
@@ -83,8 +86,19 @@ def runs(text, base=b""):
     return "".join(said) + plain(text[start:])
 
 
+class Made(bytes):
+    """A text that is made by a recipe, a line in the notation: it may be long, and what repeats in it need not be looked for."""
+
+    def __new__(cls, recipe, base=b""):
+        made = super().__new__(cls, unpacked(recipe, base))
+        made.recipe = recipe
+        return made
+
+
 def noted(text, base=b""):
     """The notation of a text; what it shares with the base text at its two ends is copied from there."""
+    if isinstance(text, Made):
+        return text.recipe
     head = len(os.path.commonprefix([text, base]))
     tail = len(os.path.commonprefix([text[head:][::-1], base[head:][::-1]]))
     head, tail = (n if n >= FAR else 0 for n in (head, tail))
@@ -92,23 +106,43 @@ def noted(text, base=b""):
     last = "%%=%d,%d;" % (len(base) - tail, len(base)) if tail else ""
     line = first + runs(text[head:len(text) - tail], base) + last
     assert unpacked(line, base) == text
-    return "%21" + line[1:] if line.startswith("!") else line
+    return line
+
+
+def raised(piece, step):
+    """A piece with a number added to its digits, which are taken as one number; what doesn't fit is dropped."""
+    digits = bytes(byte for byte in piece if byte in b"0123456789")
+    after = iter(b"%0*d" % (len(digits), (int(digits) + step) % 10 ** len(digits)))
+    return bytes(next(after) if byte in b"0123456789" else byte for byte in piece)
 
 
 def unpacked(line, base=b""):
     """What the notation stands for: the same rules as crates/cases_run, to see that a line says what was meant."""
     text = bytearray()
-    for byte, more, back, start, end, own in re.findall(r"%([0-9a-f]{2})|%\*(\d+),(\d+);|%=(\d+),(\d+);|([^%])", line):
+    for byte, kind, numbers, own in re.findall(r"%([0-9a-f]{2})|%([*#=])([\d,]+);|([^%]+)", line):
         if byte:
             text.append(int(byte, 16))
-        elif more:
-            for _ in range(int(more)):
-                text.append(text[-int(back)])
-        elif end:
-            text += base[int(start):int(end)]
-        else:
+        elif own:
             text += own.encode()
+        elif kind == "*":
+            more, back = map(int, numbers.split(","))
+            text += (text[len(text) - back:] * (more // back + 1))[:more]
+        elif kind == "#":
+            more, size, step = map(int, numbers.split(","))
+            for _ in range(more):
+                text += raised(text[len(text) - size:], step)
+        else:
+            start, end = map(int, numbers.split(","))
+            text += base[start:end]
     return bytes(text)
+
+
+def rows_of(text):
+    """The rows that a text needs, or None where reading refuses it."""
+    try:
+        return tree(text, MOST_WORDS).below + 1
+    except Refused:
+        return None
 
 
 def sum_of(numbers):
@@ -119,9 +153,16 @@ def sum_of(numbers):
     return total
 
 
+def lent(words, text):
+    """The words of a table that is to be large enough: not all that a text may need, where this one is short."""
+    return min(words, WORDS) if len(text) < SHORT else words
+
+
 def line_of(case, base=b""):
     """The line of a case."""
     text = noted(case.text, base)
+    if case.service == "program":  # a line of its own: it isn't empty, and doesn't begin as other lines do
+        return "%%%02x" % ord(text[0]) + text[1:] if text[:1] in ("!", "@") else text or "%*0,1;"
     if case.service == "localizing":
         return f"{case.words} {case.room} {noted(case.language).replace(' ', '%20')} {text}"
     return f"{case.words} {text}"
@@ -132,6 +173,8 @@ def case_of(service, line, base=b""):
     if service == "localizing":
         words, room, language, text = line.split(" ", 3)
         return Case(service, int(words), unpacked(text, base), int(room), unpacked(language))
+    if service == "program":
+        return Case(service, WORDS, unpacked(line, base))
     words, text = line.split(" ", 1)
     return Case(service, int(words), unpacked(text, base))
 
@@ -140,7 +183,7 @@ def told_of(case):
     """What the second implementation answers: (number, second, written, the place inside 28, table, output)."""
     if case.service == "localizing":
         return told(case.text, case.language, case.words, case.room)
-    number, second, table = (read if case.service == "reading" else judge)(case.text, case.words)
+    number, second, table = {"reading": read, "judging": judge, "program": said}[case.service](case.text, case.words)
     return number, second, 0, 0, table, b""
 
 
@@ -194,20 +237,20 @@ def sections():
 
 def stored():
     """All stored cases."""
-    base, number, answers = b"", 0, kept("stdout")
+    base, base_line, number, answers = b"", "", 0, kept("stdout")
     for service, line in sections():
         if line.startswith("!"):
-            base = unpacked(line[1:])
+            base, base_line = unpacked(line[1:]), line
         else:
             number += 1
-            yield Stored(number, case_of(service, line, base), answers[number - 1], line)
+            yield Stored(number, case_of(service, line, base), answers[number - 1], base_line, line)
 
 
 def lines_for(wanted):
     """The lines of one service, base texts among them, and the answers."""
-    lines, answers, said = [], [], iter(kept("stdout"))
+    lines, answers, all_answers = [], [], iter(kept("stdout"))
     for service, line in sections():
-        answer = None if line.startswith("!") else next(said)
+        answer = None if line.startswith("!") else next(all_answers)
         if service == wanted:
             lines.append(line)
             answers += [answer] if answer else []

@@ -15,8 +15,8 @@ from store import ROOT, Case, answer_of, line_of
 
 from duds import DUDS, UNSEEN
 
-CALLED = {"read": "reading", "judge": "judging", "localize": "localizing"}
-CRATES = ("laws", "unicode", "json", "answers", "formats", "pointers", "patch", "card")
+CALLED = {"read": "reading", "judge": "judging", "localize": "localizing", "program": "program"}
+CRATES = ("laws", "unicode", "json", "answers", "formats", "pointers", "patch", "card", "desk")
 WORDS = 600  # of a table: the interpreter takes so many steps and no more
 
 
@@ -36,7 +36,14 @@ def cases_against(edit):
     for edits, case, _ in DUDS:
         if edit in edits.split():
             extra = (case["room"], case["language"]) if case["service"] == "localize" else ()
-            yield Case(CALLED[case["service"]], min(case["words"], WORDS), case["text"], *extra)
+            words = case["words"] if case["service"] == "program" else min(case["words"], WORDS)
+            yield Case(CALLED[case["service"]], words, case["text"], *extra)
+
+
+def batches(cases):
+    """The cases by runs: an input of the program takes many of the interpreter's steps, and has a run of its own."""
+    yield [case for case in cases if case.service != "program"]
+    yield from ([case] for case in cases if case.service == "program")
 
 
 def write(path, text):
@@ -71,8 +78,9 @@ def main(wanted):
         shutil.copytree(os.path.join(ROOT, "crates"), os.path.join(room, "crates"))
         shutil.copy(os.path.join(ROOT, "crates.txt"), room)
         tried = [one for one in code_edits() if one[0] not in UNSEEN and (not wanted or one[0] in wanted)]
-        if run(room, [case for edit, _, _ in tried for case in cases_against(edit)]).returncode:
-            sys.exit("wrong programs: the right one fails their cases")
+        for cases in batches([case for edit, _, _ in tried for case in cases_against(edit)]):
+            if run(room, cases).returncode:
+                sys.exit("wrong programs: the right one fails their cases")
         for edit, path, pairs in tried:
             count += 1
             if not told(room, edit, path, pairs):

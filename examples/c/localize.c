@@ -9,12 +9,12 @@
 static const struct line {
     const char *words, *second;
 } sheet[] = {
-    [BEZINKOL_TOO_LONG] = {"the text is over 65,536 bytes", NULL},
+    [BEZINKOL_TOO_LONG] = {"the text is over 1,048,576 bytes", NULL},
     [BEZINKOL_GRAMMAR] = {"it isn't JSON", "at byte"},
     [BEZINKOL_CHARACTER] = {"a string holds what is no character", "at byte"},
     [BEZINKOL_REPEATED_NAME] = {"a name stands twice in one object", "at byte"},
-    [BEZINKOL_TOO_DEEP] = {"over 32 arrays and objects stand one inside the other", "at byte"},
-    [BEZINKOL_TOO_MANY] = {"there are over 2,048 values", "at byte"},
+    [BEZINKOL_TOO_DEEP] = {"over 64 arrays and objects stand one inside the other", "at byte"},
+    [BEZINKOL_TOO_MANY] = {"there are over 32,768 values", "at byte"},
     [BEZINKOL_SMALL_TABLE] = {"the table has too few rows", "rows needed:"},
     [BEZINKOL_WRONG_KIND] = {"a value is of the wrong kind", "at byte"},
     [BEZINKOL_MISSING] = {"a mandatory member is missing", "in the object at byte"},

@@ -5,8 +5,7 @@
 #include <stdlib.h>
 #include <string.h>
 
-#define ROOM 70000
-#define WORDS 12300
+#define ROOM 1050000 /* bytes of the longest text of a case */
 #define LINE 200000
 
 static uint8_t base[ROOM];
@@ -21,6 +20,16 @@ static inline size_t number(const char **at) {
 
 static inline int hex(char c) { return c >= '0' && c <= '9' ? c - '0' : c >= 'a' && c <= 'f' ? c - 'a' + 10 : 0; }
 
+/* Adds to the digits of a piece, taken as one number; what doesn't fit is dropped. */
+static inline void raise_by(uint8_t *piece, size_t size, size_t more) {
+    while (size--) {
+        if (piece[size] < '0' || piece[size] > '9') continue;
+        more += (size_t)(piece[size] - '0');
+        piece[size] = (uint8_t)('0' + more % 10);
+        more /= 10;
+    }
+}
+
 /* The text that a line stands for, up to a byte that ends it; *line goes on behind that byte. Returns the text's length. */
 static inline size_t unpack(const char **line, char end, uint8_t *out) {
     const char *at = *line;
@@ -28,12 +37,17 @@ static inline size_t unpack(const char **line, char end, uint8_t *out) {
     while (*at && *at != end) {
         if (*at != '%') {
             out[size++] = (uint8_t)*at++;
-        } else if (at[1] == '*' || at[1] == '=') {
+        } else if (at[1] == '*' || at[1] == '#' || at[1] == '=') {
             char kind = at[1];
             at += 2;
             size_t one = number(&at), two = number(&at);
             if (kind == '*') {
                 for (size_t i = 0; i < one; i++, size++) out[size] = out[size - two];
+            } else if (kind == '#') {
+                for (size_t step = number(&at); one--; size += two) {
+                    memcpy(out + size, out + size - two, two);
+                    raise_by(out + size, two, step);
+                }
             } else {
                 for (size_t i = one; i < two; i++) out[size++] = base[i];
             }

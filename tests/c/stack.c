@@ -1,8 +1,9 @@
-/* Measures the most stack that a service takes: stack read|judge|localize <CASES. Fails where that is more than the header says.
+/* Measures the most stack that a service takes: stack read|judge|localize <CASES. Fails where that is more than the header says, of any text or of a short one.
  *
- * Each call runs on a thread whose stack was filled with a pattern beforehand; the lowest place that lost its pattern is how deep the calls went.
- * They are those of the stored cases and, first, those below, which nest as deep as the limits let them and end in the deepest calls of the machine
- * code (an escape of two surrogates, in a string at the bottom). It is counted from the caller's frame, so it is a little over what a call takes. */
+ * Each call runs on a thread whose stack was filled with a pattern beforehand; the lowest place that lost its pattern is how deep the calls went. Short texts
+ * have a stack of their own. The calls are those of the stored cases and, first, those below, which nest as deep as the limits let them and end in the
+ * deepest calls of the machine code (an escape of two surrogates, in a string at the bottom; an object of many names; a patch of many entries). It is counted
+ * from the caller's frame, so it is a little over what a call takes. */
 #define _XOPEN_SOURCE 700
 #include "cases.h"
 #include <pthread.h>
@@ -12,56 +13,85 @@
 
 #define CARD "{\"@type\":\"Card\",\"version\":\"1.0\",\"uid\":\"u1\","
 #define PAIR "\"\\ud83d\\ude00\""
-#define LISTS "\"x\":[%*30,1;" PAIR "]%*30,1;"
-#define OBJECTS "\"y\":{\"a\":%*150,5;" PAIR "}%*30,1;"
+#define LISTS "\"x\":[%*62,1;" PAIR "]%*62,1;"
+#define OBJECTS "\"y\":{\"a\":%*310,5;" PAIR "}%*62,1;"
+#define SOME "{\"\":\"\",\"00000\":\"\"%#200,11,7919;}"
+#define MORE "{\"\":\"\",\"00000\":\"\"%#1100,11,7919;}"
+#define MOST "{\"\":\"\",\"00000\":\"\"%#30000,11,7919;}"
+#define DEEP(OBJECT) "[%*62,1;" OBJECT "]%*62,1;"
+#define DEEP_CARD(OBJECT) CARD "\"x\":[%*61,1;" OBJECT "]%*61,1;}"
 #define LANGUAGE(ENTRIES) ",\"localizations\":{\"de\":{" ENTRIES "}}}"
 
 /* Cases of reading and judging: the words of the table and a text. */
 static const char *const texts[] = {
-    "12288 [%*31,1;" PAIR "]%*31,1;", "0 [%*31,1;" PAIR "]%*31,1;", "12288 [%*32,1;", "12288 {\"a\":%*155,5;" PAIR "}%*31,1;",
-    "12288 " CARD LISTS "}", "12288 " CARD OBJECTS "}", "12288 " CARD "\"name\":{\"components\":[{\"kind\":" PAIR "}]}}", NULL};
+    "12288 [%*63,1;" PAIR "]%*63,1;", "0 [%*63,1;" PAIR "]%*63,1;", "12288 [%*64,1;", "12288 {\"a\":%*315,5;" PAIR "}%*63,1;",
+    "12288 " CARD LISTS "}", "12288 " CARD OBJECTS "}", "12288 " CARD "\"name\":{\"components\":[{\"kind\":" PAIR "}]}}",
+    "12288 " DEEP(SOME), "12288 " DEEP(MORE), "196608 " DEEP(MOST), "12288 " DEEP_CARD(SOME), "12288 " DEEP_CARD(MORE), "196608 " DEEP_CARD(MOST), NULL};
 
 /* Cases of localizing: the words of the table, the bytes of the output, the language and a text. */
 static const char *const cards[] = {
-    "12288 1000 de " CARD LISTS LANGUAGE(""), "12288 1000 de " CARD OBJECTS LANGUAGE("\"y/a%*58,2;\":{\"a\":%*135,5;" PAIR "}%*27,1;"),
-    "12288 1000 de " CARD OBJECTS LANGUAGE("\"y/a%*58,2;/\\ud83d\\ude00\":null"),
-    "12288 1000 de " CARD OBJECTS LANGUAGE("\"y/a%*56,2;/b\":[%*26,1;" PAIR "]%*26,1;"), NULL};
+    "12288 2000 de " CARD LISTS LANGUAGE(""), "12288 2000 de " CARD OBJECTS LANGUAGE("\"y/a%*122,2;\":{\"a\":%*295,5;" PAIR "}%*59,1;"),
+    "12288 2000 de " CARD OBJECTS LANGUAGE("\"y/a%*122,2;/\\ud83d\\ude00\":null"),
+    "12288 2000 de " CARD OBJECTS LANGUAGE("\"y/a%*120,2;/b\":[%*58,1;" PAIR "]%*58,1;"),
+    "12288 9000 de " CARD OBJECTS LANGUAGE("\"y/a%*122,2;/n00000\":true,\"y/a%*122,2;/n07919\":true%#18,140,7919;"),
+    "12288 9000 de " CARD OBJECTS LANGUAGE("\"m\":null,\"n00000\":true%#230,14,7919;"),
+    "12288 9000 de " CARD OBJECTS LANGUAGE("\"y/a%*122,2;\":[0,%*3200,2;0],\"m\":null"),
+    "12288 90000 de " CARD OBJECTS LANGUAGE("\"y/a%*122,2;/n00000\":true,\"y/a%*122,2;/n07919\":true%#300,140,7919;"),
+    "12288 90000 de " CARD OBJECTS LANGUAGE("\"m\":null,\"n00000\":true%#2100,14,7919;"),
+    "196608 400000 de " CARD LISTS "," OBJECTS ",\"z\":" MOST LANGUAGE("\"m\":null,\"z/n00000\":true%#100,16,7919;"), NULL};
 
 static struct call call;
-static const char *top; /* of the stack, where the call is made */
+
+/* Texts of at most so many bytes, and longer ones: a stack for each, and where on it a call was made. */
+static struct kind {
+    char *stack;
+    const char *top;
+} kinds[2];
+
+static struct kind *kind_of(size_t size) { return &kinds[size > BEZINKOL_SHORT_BYTES]; }
 
 static void *run(void *none) {
-    top = __builtin_frame_address(0);
+    kind_of(call.size)->top = __builtin_frame_address(0);
     make(&call);
     return none;
 }
 
-/* Makes the call of a case on the stack. */
-static void call_on(void *stack, char service, const char *line) {
+/* Makes the call of a case on its stack. */
+static void call_on(char service, const char *line) {
     call = call_of(service, line);
     pthread_attr_t how;
     pthread_t thread;
-    if (pthread_attr_init(&how) || pthread_attr_setstack(&how, stack, STACK) || pthread_create(&thread, &how, run, NULL)) abort();
+    if (pthread_attr_init(&how) || pthread_attr_setstack(&how, kind_of(call.size)->stack, STACK) || pthread_create(&thread, &how, run, NULL)) abort();
     if (pthread_join(thread, NULL) || pthread_attr_destroy(&how)) abort();
     give_back(&call);
+}
+
+/* The bytes of a stack that calls took. */
+static size_t used(const struct kind *of) {
+    size_t low = 0;
+    while (low < STACK && of->stack[low] == PATTERN) low++;
+    return (size_t)(of->top - of->stack) - low;
+}
+
+static int compare(const char *service, const char *texts, size_t took, size_t said) {
+    printf("tests/c: bezinkol_%s took %zu bytes of stack at most, of %s; the header says %zu\n", service, took, texts, said);
+    return took > said;
 }
 
 int main(int count, char **given) {
     if (count != 2) return 2;
     char service = *given[1];
-    size_t said = service == 'r' ? BEZINKOL_READ_STACK : service == 'j' ? BEZINKOL_JUDGE_STACK : BEZINKOL_LOCALIZE_STACK;
-    size_t used = 0, cases = 0;
-    char *stack = aligned_alloc(4096, STACK);
-    if (!stack) abort();
-    memset(stack, PATTERN, STACK);
+    for (int i = 0; i < 2; i++) {
+        if (!(kinds[i].stack = aligned_alloc(4096, STACK))) abort();
+        memset(kinds[i].stack, PATTERN, STACK);
+    }
     for (const char *const *line = service == 'l' ? cards : texts; *line; line++) {
-        call_on(stack, service, *line);
+        call_on(service, *line);
         if (call.answer[0] == BEZINKOL_GRAMMAR) abort(); /* then it isn't the text that was meant */
     }
-    for (const char *line; (line = next_line()); cases++) call_on(stack, service, line);
-    while (used < STACK && stack[used] == PATTERN) used++;
-    used = (size_t)(top - stack) - used;
-    printf("tests/c: bezinkol_%s took %zu bytes of stack at most, in %zu stored cases and in deeper ones; ", given[1], used, cases);
-    printf("the header says %zu\n", said);
-    return used > said;
+    for (const char *line; (line = next_line());) call_on(service, line);
+    size_t brief = used(&kinds[0]), any = used(&kinds[1]) > brief ? used(&kinds[1]) : brief;
+    size_t said = service == 'r' ? BEZINKOL_READ_STACK : service == 'j' ? BEZINKOL_JUDGE_STACK : BEZINKOL_LOCALIZE_STACK;
+    size_t said_brief = service == 'r' ? BEZINKOL_READ_STACK_4K : service == 'j' ? BEZINKOL_JUDGE_STACK_4K : BEZINKOL_LOCALIZE_STACK_4K;
+    return compare(given[1], "any text", any, said) + compare(given[1], "short texts", brief, said_brief);
 }

@@ -3,6 +3,7 @@ import sys
 
 import intake
 from duds import ASKED, DUDS
+from program import said
 from rulings import OK, RULINGS, SPECIMENS, whole
 
 
@@ -11,7 +12,7 @@ def answer(case):
     if case["service"] == "localize":
         number, second, written, table, output = intake.localize(case["text"], case["language"], case["words"], case["room"])
         return number, second, table, output[:written] if number == 0 else output
-    number, second, table = getattr(intake, case["service"])(case["text"], case["words"])
+    number, second, table = (said if case["service"] == "program" else getattr(intake, case["service"]))(case["text"], case["words"])
     return number, second, table, b""
 
 

@@ -3,7 +3,7 @@
 `OTHER` stands for other rows, other bytes or another sum, with the same first two numbers. An edit that no call shows is in UNSEEN, with the reason.
 tests/docs.py sees that every must-fail edit is here.
 """
-from rulings import OK, RULINGS, SPECIMENS, judge, localize, read, whole
+from rulings import OK, RULINGS, SPECIMENS, judge, localize, program, read, whole
 
 OTHER = "other contents"
 GIVEN = b'"name":{"full":"A","components":[{"kind":"given","value":"A"}]}'
@@ -65,8 +65,8 @@ DUDS = [
     ("text/overlong_taken", read(b'"\xc1\x80"', (3, 1)), OK),
     ("text/place_of_token", read(b"[truu]", (2, 4)), (2, 1)),
     ("text/later_fault", read(rb'"\uD800\u00G0"', (3, 1)), (2, 11)),
-    ("text/six_before_five", read(b"[" * 32 + b"0," * 2016 + b"[", (5, 4064)), (6, 4064)),
-    ("json/depth_33", read(b"[" * 33 + b"]" * 33, (5, 32)), OK),
+    ("text/six_before_five", read(b"[" * 64 + b"0," * 32704 + b"[", (5, 65472)), (6, 65472)),
+    ("json/depth_65", read(b"[" * 65 + b"]" * 65, (5, 64)), OK),
     ("text/small_table_first", read(b'{"a":1,"a":2}', (4, 7), words=6), (7, 3)),
     ("text/row_end text/row_words_swapped", read(b'{"a": [1] }', OK), OTHER),
     ("text/form_feed", read(b"1\x0c", (2, 1)), OK),
@@ -114,6 +114,11 @@ DUDS = [
      b'{"uid":"u1","@type":"Card","z":1,"version":"1.0"}'),
     ("text/colon_left_out", localize(patch(b'"z":1'), b'{..,"z":1}'), b'{..,"z"1}'),
     ("text/comma_before_first", localize(patch(b'"z":[1]'), b'{..,"z":[1]}'), b'{..,"z":[,1]}'),
+    # the program
+    ("desk/buffer_one_more", program(b" " * 65537, (34, 0)), (2, 65537)),
+    ("desk/long_text_cut desk/cut_by_definition", program(b"{..}" + b" " * 65494, (34, 0)), OK),
+    ("desk/rows_one_more", program(b'{..,"x":[' + b"0," * 2043 + b"0]}", (7, 2049)), OK),
+    ("desk/thirty_four_after_two desk/thirty_four_last", program(b"x" * 65537, (34, 0)), (2, 0)),
 ]
 
 UNSEEN = {

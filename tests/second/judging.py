@@ -168,4 +168,4 @@ def judge(text, words):
         root = card_tree(text, words)
     except Refused as no:
         return no.number, no.second, [0] * words
-    return 0, len(list(root.all())), table_of(root, words)
+    return 0, root.below + 1, table_of(root, words)

@@ -1,7 +1,8 @@
 """Reading a second time: a text becomes values and rows, or is refused with 1 to 7."""
+import functools
 import re
 
-MOST_BYTES, MOST_DEPTH, MOST_VALUES, ROW_WORDS = 65536, 32, 2048, 6
+MOST_BYTES, MOST_DEPTH, MOST_VALUES, ROW_WORDS = 1048576, 64, 32768, 6  # the limits, which all that is written in Python has from here
 MOST_WORDS = MOST_VALUES * ROW_WORDS  # of a table that is never too small
 NULL, FALSE, TRUE, NUMBER, STRING, ARRAY, OBJECT = 1, 2, 3, 4, 5, 6, 7
 
@@ -19,7 +20,7 @@ class Value:
 
     def __init__(self, kind, start, name, key):
         self.kind, self.start, self.name, self.key = kind, start, name, key
-        self.end, self.inside, self.row, self.string = None, [], None, None
+        self.end, self.below, self.inside, self.names, self.row, self.string = None, 0, [], set(), None, None
 
     def all(self):
         yield self
@@ -30,6 +31,8 @@ class Value:
         return next((child for child in self.inside if child.name == name), None)
 
 
+SPACE = re.compile(rb"[ \t\n\r]*")
+PLAIN = re.compile(rb'[ !#-\[\]-\x7f]+')  # characters of one byte that stand for themselves
 SHORT = {b'"': '"', b"\\": "\\", b"/": "/", b"b": "\b", b"f": "\f", b"n": "\n", b"r": "\r", b"t": "\t"}
 HEX = re.compile(rb"[0-9A-Fa-f]{4}")
 LOW = re.compile(rb"\\u[Dd][C-Fc-f][0-9A-Fa-f]{2}")
@@ -78,8 +81,7 @@ class Reader:
         raise Refused(2, min(self.at if at is None else at, len(self.text)))
 
     def space(self):
-        while self.byte() in (b" ", b"\t", b"\n", b"\r"):
-            self.at += 1
+        self.at = SPACE.match(self.text, self.at).end()
 
     def take(self, wanted):
         for one in wanted:
@@ -120,6 +122,11 @@ class Reader:
             if one == b"\\":
                 said.append(self.escape())
                 continue
+            run = PLAIN.match(self.text, self.at)
+            if run:
+                said.append(run[0].decode())
+                self.at = run.end()
+                continue
             found = raw_character(self.text, self.at)
             if found is None or noncharacter(ord(found[0])):
                 raise Refused(3, self.at)
@@ -149,6 +156,7 @@ class Reader:
         if self.values == MOST_VALUES:
             raise Refused(6, start)
         self.values += 1
+        begun = self.values
         made = Value(NUMBER, start, name, key)
         if one in LITERALS:
             word, made.kind = LITERALS[one]
@@ -163,7 +171,7 @@ class Reader:
             self.items(made, b"}", lambda: self.named(made, depth + 1))
         else:
             self.number()
-        made.end = self.at
+        made.end, made.below = self.at, self.values - begun
         return made
 
     def items(self, made, close, item):
@@ -185,8 +193,9 @@ class Reader:
         quote = self.at
         name = self.string()
         key = (quote + 1, self.at - 1)
-        if made.member(name):
+        if name in made.names:
             raise Refused(4, quote)
+        made.names.add(name)
         self.space()
         self.take(b":")
         self.space()
@@ -201,23 +210,34 @@ class Reader:
         return root
 
 
-def tree(text, words):
-    """The root value of a text, with rows numbered; raises 1 to 7."""
-    if len(text) > MOST_BYTES:
-        raise Refused(1, 0)
-    reader = Reader(text)
-    root = reader.whole()
+@functools.lru_cache(maxsize=8)
+def parsed(text):
+    """The root value of a text, with rows numbered, or its refusal, one of 2 to 6. The last few are kept: a text may be asked with several tables."""
+    try:
+        root = Reader(text).whole()
+    except Refused as no:
+        return no
     for row, value in enumerate(root.all()):
         value.row = row
-    if words // ROW_WORDS < reader.values:
-        raise Refused(7, reader.values)
+    return root
+
+
+def tree(text, words):
+    """The root value of a text; raises 1 to 7."""
+    if len(text) > MOST_BYTES:
+        raise Refused(1, 0)
+    root = parsed(text)
+    if isinstance(root, Refused):
+        raise Refused(root.number, root.second)
+    if words // ROW_WORDS < root.below + 1:
+        raise Refused(7, root.below + 1)
     return root
 
 
 def table_of(root, words):
     told = []
     for v in root.all():
-        told += [v.kind, v.key[0], v.key[1], v.start, v.end, len(list(v.all())) - 1]
+        told += [v.kind, v.key[0], v.key[1], v.start, v.end, v.below]
     return told + [0] * (words - len(told))
 
 
@@ -226,4 +246,4 @@ def read(text, words):
         root = tree(text, words)
     except Refused as no:
         return no.number, no.second, [0] * words
-    return 0, len(list(root.all())), table_of(root, words)
+    return 0, root.below + 1, table_of(root, words)

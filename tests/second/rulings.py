@@ -1,9 +1,10 @@
 """The inputs of the rulings (AMB-01 to AMB-52) and the specimens of the rules paper, each with the answer that we take.
 
 `{..` at the start of a text stands for `{` and the three mandatory members. Wanted is OK, (number, second) or the bytes of the localized card.
-The table has 2,048 rows, the output is as long as the text, the language is `de`, unless stated.
+The table has a row for each value that a text may have, the output is as long as the text, the language is `de`, unless stated.
 """
-from reading import MOST_WORDS
+from program import WORDS
+from reading import MOST_DEPTH, MOST_WORDS
 
 MUST = b'"@type":"Card","version":"1.0","uid":"u1"'
 OK = "accepted"
@@ -32,10 +33,16 @@ def localize(text, wanted, **more):
     return case("localize", text, wanted, **more)
 
 
+def program(text, wanted):
+    """The program's line for an input; the table is its own."""
+    return case("program", text, wanted, words=WORDS)
+
+
 def grown(first, last):
-    """A card whose property x holds objects down to depth 32, and a patch that adds a value to the innermost."""
-    deep = b'{"a":' * 30 + b"{}" + b"}" * 30
-    return b'{..,"x":' + deep + b',"localizations":{"de":{' + first + b'"x' + b"/a" * 30 + b'/k":' + last + b"}}}"
+    """A card whose property x holds objects down to the last depth, and a patch that adds a value to the innermost."""
+    levels = MOST_DEPTH - 2
+    deep = b'{"a":' * levels + b"{}" + b"}" * levels
+    return b'{..,"x":' + deep + b',"localizations":{"de":{' + first + b'"x' + b"/a" * levels + b'/k":' + last + b"}}}"
 
 
 RULINGS = [
@@ -63,7 +70,8 @@ RULINGS = [
     read(b' \xef\xbb\xbf1', (2, 1)),
     read(b'"\xef\xbb\xbf"', OK),
     read(rb'"\uFEFF"', OK),
-    read(b'\xef\xbb\xbf' + b' ' * 65534, (1, 0)),
+    read(b'\xef\xbb\xbf' + b' ' * 1048574, (1, 0)),
+    read(b'\xef\xbb\xbf' + b' ' * 1048573, (2, 0)),
     # AMB-04 NUL and other controls
     read(b'1\x00', (2, 1)),
     read(b'"\x00"', (2, 1)),
@@ -103,12 +111,12 @@ RULINGS = [
     read(rb'{"a":1,"a":"\uD800"}', (4, 7)),
     read(rb'{"a":1,"a":2,"a":3}', (4, 7)),
     # AMB-11 5 and 6 on one bracket
-    read(b'[' * 32 + b'0,' * 2016 + b'[', (5, 4064)),  # the 2,049th value and the 33rd bracket
+    read(b'[' * 64 + b'0,' * 32704 + b'[', (5, 65472)),  # the 32,769th value and the 65th bracket
     # AMB-12 When does a value begin?
-    read(b'[' + b'0,' * 2047 + b'-x', (6, 4095)),
-    read(b'[' + b'0,' * 2047 + b'tru', (6, 4095)),
-    read(b'[' + b'0,' * 2047 + b'x', (2, 4095)),
-    read(b'[' + b'0,' * 2047 + rb'"\uD800"', (6, 4095)),
+    read(b'[' + b'0,' * 32767 + b'-x', (6, 65535)),
+    read(b'[' + b'0,' * 32767 + b'tru', (6, 65535)),
+    read(b'[' + b'0,' * 32767 + b'x', (2, 65535)),
+    read(b'[' + b'0,' * 32767 + rb'"\uD800"', (6, 65535)),
     # AMB-13 Empty tables, and lengths that are no multiple of six
     read(rb'{"a":[1]}', (7, 3), words=17),
     read(rb'{"a":[1]}', OK, words=23),
@@ -271,9 +279,11 @@ RULINGS = [
     judge(rb'{..,"addresses":{"@type":{}}}', (13, 64)),
     judge(rb'{..,"localizations":{"@type":{}}}', OK),
     # AMB-51 The small program: its table, its end of line, its exit status, more input than its buffer
-    judge(b'', (2, 0)),
-    judge(b' ' * 65537, (1, 0)),
-    judge(b'{..}\x0a', OK),
+    program(b'', (2, 0)),
+    program(b' ' * 65537, (34, 0)),
+    program(b'{..}\x0a', OK),
+    judge(b' ' * 65537, (2, 65537)),
+    judge(b' ' * 1048577, (1, 0)),
     # AMB-52 A byte of 128 or more inside an escape
     read(b'"\\\xc3\xa9"', (2, 2)),
     read(b'"\\u12\xff4"', (2, 5)),
@@ -285,12 +295,12 @@ SPECIMENS = [
     read(b'', (2, 0)),
     read(rb'{"a":1,"\u0061":2}', (4, 7)),
     read(rb'"\uD800"', (3, 1)),
-    read(b'[' * 32 + b']' * 32, OK),
-    read(b'[' * 33 + b']' * 33, (5, 32)),
-    read(b'[' + b'0,' * 2046 + b'0]', OK),
-    read(b'[' + b'0,' * 2047 + b'0]', (6, 4095)),
-    read(b' ' * 65535 + b'0', OK),
-    read(b' ' * 65536 + b'0', (1, 0)),
+    read(b'[' * 64 + b']' * 64, OK),
+    read(b'[' * 65 + b']' * 65, (5, 64)),
+    read(b'[' + b'0,' * 32766 + b'0]', OK),
+    read(b'[' + b'0,' * 32767 + b'0]', (6, 65535)),
+    read(b' ' * 1048575 + b'0', OK),
+    read(b' ' * 1048576 + b'0', (1, 0)),
     judge(b'{..,"emails":{"e1":{"address":"x","pref":1}}}', OK),
     judge(b'{..,"emails":{"e1":{"address":"x","pref":100}}}', OK),
     judge(b'{..,"emails":{"e1":{"address":"x","pref":0}}}', (13, 80)),

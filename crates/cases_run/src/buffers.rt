@@ -1,13 +1,30 @@
-// The buffers that are lent to a call, and sums of them that can be stored.
+// The buffers that are lent to a call, and sums of them that can be stored. They are made once: only what a call is lent is set before it, and summed after it.
 ghost use Rattle.io.specs.Counts.{Counts};
 
 // The words of the largest table of a case.
-pub const WORDS: usize = 12300;
+pub const WORDS: usize = 196700;
 
-// Every bit of a buffer is set before a call, so that what the call leaves untouched is seen.
-pub const SET_BYTE: u8 = 255;
+const SET_BYTE: u8 = 255;
 
-pub const SET_WORD: u32 = 0xFFFFFFFF;
+const SET_WORD: u32 = 0xFFFFFFFF;
+
+// Sets every bit of a table, so that what a call leaves untouched is seen.
+pub fn set_words(table: &mut [u32]) {
+    let mut i: usize = 0;
+    while i < table.len() {
+        table[i] = SET_WORD;
+        i = i + 1;
+    }
+}
+
+// The same of a buffer.
+pub fn set_bytes(bytes: &mut [u8]) {
+    let mut i: usize = 0;
+    while i < bytes.len() {
+        bytes[i] = SET_BYTE;
+        i = i + 1;
+    }
+}
 
 // So many words of a table, or all.
 pub fn words_of(wanted: usize, table: &[u32]) -> usize

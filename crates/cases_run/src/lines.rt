@@ -1,6 +1,7 @@
 // The notation of stored cases: a line of printable bytes becomes a text.
 //   %hh       the byte with those two small hexadecimal digits
 //   %*N,K;    N bytes more, each the one that stands K bytes before it
+//   %#N,K,S;  N times more the K bytes that stand before, each time with S added to the digits in them, which are taken as one number
 //   %=A,B;    the bytes of the base text from A up to B
 // and every other byte stands for itself. What doesn't fit into ROOM bytes is dropped.
 ghost use Prim.Native.Nat.{_+_, _<_, _≤_};
@@ -8,7 +9,7 @@ ghost use lib.ListN.{length};
 ghost use Rattle.io.specs.Counts.{Counts};
 
 // The longest text of a case.
-pub const ROOM: usize = 70000;
+pub const ROOM: usize = 1050000;
 
 // A number that was read, and the place after the byte that ends it.
 struct Count {
@@ -121,6 +122,50 @@ fn again(out: &mut [u8], from: usize, more: usize, back: usize) -> usize
     at
 }
 
+// The byte of a number's last digit.
+fn last_digit(n: usize) -> u8 {
+    (n % 10) as u8 + b'0'
+}
+
+// Adds to the digits among so many bytes before a place, taken as one number; what doesn't fit is dropped.
+fn raise(out: &mut [u8], end: usize, size: usize, more: usize)
+    requires { ⌜ end ≤ length (now out) ⌝ }
+{
+    let mut at = end;
+    let mut left = size;
+    let mut carry = more;
+    while 0 < left {
+        if at == 0 {
+            break;
+        }
+        at = at - 1;
+        left = left - 1;
+        let byte = out[at];
+        if b'0' <= byte {
+            if byte <= b'9' {
+                let sum = carry % 9999999 + (byte - b'0') as usize;
+                put(out, at, last_digit(sum));
+                carry = sum / 10;
+            }
+        }
+    }
+}
+
+// Puts `more` times the `size` bytes that stand before, each time with `step` added to the digits in them.
+fn count_on(out: &mut [u8], from: usize, more: usize, size: usize, step: usize) -> usize
+    requires { ⌜ from ≤ length (now out) ⌝ }
+    ensures { λ r. ⌜ r ≤ length (now (out .entry)) ⌝ }
+{
+    let mut at = from;
+    let mut left = more;
+    while 0 < left {
+        at = again(out, at, size, size);
+        raise(out, at, size, step);
+        left = left - 1;
+    }
+    at
+}
+
 // Puts the bytes of the base text from `a` up to `b`.
 fn copy(out: &mut [u8], from: usize, base: &[u8], a: usize, b: usize) -> usize
     requires { ⌜ from ≤ length (now out) ⌝ }
@@ -150,26 +195,39 @@ fn special(line: &[u8], at: usize, base: &[u8], out: &mut [u8], size: usize) -> 
     ensures { λ r. ⌜ (at < r .next) × (r .size ≤ length (now (out .entry))) ⌝ }
 {
     let kind = if at < line.len() { line[at] } else { 0 };
-    if kind != b'*' {
-        if kind != b'=' {
+    match kind {
+        b'*' => {
+            let more = count_at(line, at + 1);
+            let back = count_at(line, more.at);
+            Step {
+                next: back.at,
+                size: again(out, size, more.value, back.value),
+            }
+        }
+        b'#' => {
+            let more = count_at(line, at + 1);
+            let piece = count_at(line, more.at);
+            let step = count_at(line, piece.at);
+            Step {
+                next: step.at,
+                size: count_on(out, size, more.value, piece.value, step.value),
+            }
+        }
+        b'=' => {
+            let a = count_at(line, at + 1);
+            let b = count_at(line, a.at);
+            Step {
+                next: b.at,
+                size: copy(out, size, base, a.value, b.value),
+            }
+        }
+        _ => {
             let byte = digit_at(line, at) * 16 + digit_at(line, at + 1);
-            return Step {
+            Step {
                 next: at + 2,
                 size: put(out, size, byte),
-            };
+            }
         }
-    }
-    let one = count_at(line, at + 1);
-    let two = count_at(line, one.at);
-    if kind == b'*' {
-        return Step {
-            next: two.at,
-            size: again(out, size, one.value, two.value),
-        };
-    }
-    Step {
-        next: two.at,
-        size: copy(out, size, base, one.value, two.value),
     }
 }
 

@@ -1,15 +1,13 @@
 // Localizing on stored cases: the number of words of the lent table, the number of bytes of the lent output, a language and a text, with spaces
 // between. Written are the refusal's number (0 for none), its second number (the row count), the bytes written, the place inside 28, a sum of all
 // words of the table, a sum of all bytes of the output, and after acceptance the localized card itself where it is short.
-use crate::buffers::SET_BYTE;
-use crate::buffers::SET_WORD;
-use crate::buffers::WORDS;
 use crate::buffers::bytes_of;
+use crate::buffers::set_bytes;
+use crate::buffers::set_words;
 use crate::buffers::show;
 use crate::buffers::sum_of_bytes;
 use crate::buffers::sum_of_words;
 use crate::buffers::words_of;
-use crate::lines::ROOM;
 use crate::lines::after;
 use crate::lines::before;
 use crate::lines::number;
@@ -57,6 +55,8 @@ fn shown(written: u64, out: &[u8]) {
 }
 
 fn report(text: &[u8], language: &[u8], out: &mut [u8], table: &mut [u32]) {
+    set_bytes(out);
+    set_words(table);
     let answer = localize(text, language, out, table);
     let paper = localized_on_paper(answer);
     io::print_decimal(1, paper.number);
@@ -93,11 +93,8 @@ fn lent(
     );
 }
 
-pub fn case_of(line: &[u8], base: &[u8]) {
+pub fn case_of(line: &[u8], base: &[u8], text: &mut [u8], out: &mut [u8], table: &mut [u32]) {
     let mut language = [0u8; LANGUAGE];
-    let mut text = [0u8; ROOM];
-    let mut out = [SET_BYTE; ROOM];
-    let mut table = [SET_WORD; WORDS];
     let rest = after(line);
     lent(
         number(line),
@@ -105,8 +102,8 @@ pub fn case_of(line: &[u8], base: &[u8]) {
         after(rest),
         base,
         &mut language,
-        &mut text,
-        &mut out,
-        &mut table,
+        text,
+        out,
+        table,
     );
 }

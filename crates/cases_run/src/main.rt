@@ -6,16 +6,18 @@
 mod buffers;
 mod lines;
 mod localizing;
+mod program;
 mod reading;
 
 // All lines, with some room.
-const INPUT: usize = 1200000;
+const INPUT: usize = 1600000;
 
 // What the cases are for; `Unknown` before the first name and after one that is none of these.
 enum Service {
     Reading,
     Judging,
     Localizing,
+    Program,
     Unknown,
 }
 
@@ -29,15 +31,25 @@ fn named(name: &[u8]) -> Service {
         b'r' => Service::Reading,
         b'j' => Service::Judging,
         b'l' => Service::Localizing,
+        b'p' => Service::Program,
         _ => Service::Unknown,
     }
 }
 
-fn case_of(service: Service, line: &[u8], base: &[u8]) {
+// A case, on buffers for its text, an output and a table, which are lent as far as it says.
+fn case_of(
+    service: Service,
+    line: &[u8],
+    base: &[u8],
+    text: &mut [u8],
+    out: &mut [u8],
+    table: &mut [u32],
+) {
     match service {
-        Service::Reading => reading::case_of(false, line, base),
-        Service::Judging => reading::case_of(true, line, base),
-        Service::Localizing => localizing::case_of(line, base),
+        Service::Reading => reading::case_of(false, line, base, text, table),
+        Service::Judging => reading::case_of(true, line, base, text, table),
+        Service::Localizing => localizing::case_of(line, base, text, out, table),
+        Service::Program => program::case_of(line, base, text, table),
         Service::Unknown => {
             io::write_all(1, b"no service\n");
         }
@@ -45,7 +57,14 @@ fn case_of(service: Service, line: &[u8], base: &[u8]) {
 }
 
 // A line: a service, a base text or a case. Returns the service of the lines below.
-fn line_of(line: &[u8], service: Service, base: &mut [u8]) -> Service {
+fn line_of(
+    line: &[u8],
+    service: Service,
+    base: &mut [u8],
+    text: &mut [u8],
+    out: &mut [u8],
+    table: &mut [u32],
+) -> Service {
     if line.len() == 0 {
         return service;
     }
@@ -57,25 +76,28 @@ fn line_of(line: &[u8], service: Service, base: &mut [u8]) -> Service {
         b'!' => {
             lines::unpack(&line[1..], b"", base);
         }
-        _ => case_of(service, line, base),
+        _ => case_of(service, line, base, text, out, table),
     }
     service
 }
 
-fn run(all: &[u8]) {
-    let mut base = [0u8; lines::ROOM];
+fn run(all: &[u8], base: &mut [u8], text: &mut [u8], out: &mut [u8], table: &mut [u32]) {
     let mut service = Service::Unknown;
     let mut at: usize = 0;
     while at < all.len() {
         let rest = &all[at..];
         let size = lines::before(rest, b'\n');
-        service = line_of(&rest[..size], service, &mut base);
+        service = line_of(&rest[..size], service, base, text, out, table);
         at = at + size + 1;
     }
 }
 
 fn main() {
     let mut buf = [0u8; INPUT];
+    let mut base = [0u8; lines::ROOM];
+    let mut text = [0u8; lines::ROOM];
+    let mut out = [0u8; lines::ROOM];
+    let mut table = [0u32; buffers::WORDS];
     let n = io::read_full(0, &mut buf);
-    run(&buf[..n]);
+    run(&buf[..n], &mut base, &mut text, &mut out, &mut table);
 }

@@ -1,11 +1,9 @@
 // Reading and judging on stored cases, which have one form: the number of words of the lent table, a space, and a text. Written are the refusal's
 // number (0 for none), its second number (the row count), and a sum of all words of the table.
-use crate::buffers::SET_WORD;
-use crate::buffers::WORDS;
+use crate::buffers::set_words;
 use crate::buffers::show;
 use crate::buffers::sum_of_words;
 use crate::buffers::words_of;
-use crate::lines::ROOM;
 use crate::lines::after;
 use crate::lines::number;
 use crate::lines::unpack;
@@ -24,18 +22,22 @@ fn answer(judged: bool, text: &[u8], table: &mut [u32]) -> Paper {
     }
 }
 
-fn report(judged: bool, text: &[u8], table: &mut [u32]) {
-    let paper = answer(judged, text, table);
+// The line of an answer, and of the table that was lent for it.
+pub fn report(paper: Paper, table: &[u32]) {
     io::print_decimal(1, paper.number);
     show(paper.second);
     show(sum_of_words(table));
     io::write_all(1, b"\n");
 }
 
-pub fn case_of(judged: bool, line: &[u8], base: &[u8]) {
-    let mut text = [0u8; ROOM];
-    let mut table = [SET_WORD; WORDS];
-    let size = unpack(after(line), base, &mut text);
-    let lent = words_of(number(line), &table);
-    report(judged, &text[..size], &mut table[..lent]);
+fn call(judged: bool, text: &[u8], table: &mut [u32]) {
+    set_words(table);
+    let paper = answer(judged, text, table);
+    report(paper, table);
+}
+
+pub fn case_of(judged: bool, line: &[u8], base: &[u8], text: &mut [u8], table: &mut [u32]) {
+    let size = unpack(after(line), base, text);
+    let lent = words_of(number(line), table);
+    call(judged, &text[..size], &mut table[..lent]);
 }

@@ -1,21 +1,16 @@
-// Judges one card: reads it from standard input and writes one line, 0 and the row count, or the refusal's number and its second number.
+// Judges one card: reads it from standard input and writes one line, 0 and the row count, or the refusal's number and its second number: what
+// `desk::line::program_line` answers. So what isn't proved is the reading and the writing alone.
 // A failed read is never taken for the end of the card: then standard output stays empty and standard error has a line.
-use answers::paper::verdict_on_paper;
-use card::judge::judge;
-use json::limits::BYTES;
-use json::limits::ROW_WORDS;
-use json::limits::VALUES;
+use desk::limits::BUFFER;
+use desk::line::program_line;
 use libc::STDERR_FILENO;
 use libc::STDIN_FILENO;
 use libc::STDOUT_FILENO;
 ghost use lib.ListN.{length};
 ghost use Rattle.intake.specs.Input.{FitsRoom};
 
-// The limit of a card's bytes, and one more, by which a longer one shows.
-const ROOM: usize = BYTES + 1;
-
-// The words of as many rows as a text may have values, so that 7 is never the answer.
-const WORDS: usize = VALUES * ROW_WORDS;
+// The bytes that are judged, and one more, by which a longer input shows.
+const ROOM: usize = BUFFER + 1;
 
 // What reading gave: so many bytes, 0 at the end of the input; or a failure.
 enum Got {
@@ -53,10 +48,9 @@ fn fill(buffer: &mut [u8]) -> Got
     Got::Bytes(at)
 }
 
-// Writes the verdict on a text.
-fn report(text: &[u8]) {
-    let mut table = [0u32; WORDS];
-    let answer = verdict_on_paper(judge(text, &mut table));
+// Writes the line for an input.
+fn report(input: &[u8]) {
+    let answer = program_line(input);
     io::print_decimal(STDOUT_FILENO, answer.number);
     io::write_all(STDOUT_FILENO, b" ");
     io::print_decimal(STDOUT_FILENO, answer.second);
@@ -64,10 +58,10 @@ fn report(text: &[u8]) {
 }
 
 fn main() {
-    let mut text = [0u8; ROOM];
-    let Got::Bytes(n) = fill(&mut text) else {
+    let mut input = [0u8; ROOM];
+    let Got::Bytes(n) = fill(&mut input) else {
         io::write_all(STDERR_FILENO, b"intake: standard input can't be read\n");
         return;
     };
-    report(&text[..n]);
+    report(&input[..n]);
 }

@@ -3,6 +3,7 @@
 --     handed-to                    what a byte that it hands out says of the bytes that it has left
 --     common-none, common-next     bytes in common from two places on, and one more
 --     ended-quote, ended-over      bytes at which a name is over
+--     quoted-told                  where neither name goes on with a backslash, the bytes there decide, unless they are alike
 --     quoted-differs               where neither name goes on with a backslash, the bytes there decide
 -- Assumes nothing.
 use mathlib.Core.Path.{_≡_, refl, sym, ap, _∙_}
@@ -138,12 +139,16 @@ both p q stops e =
     byNumber p 34 (λ z. rw (eq-eqb p 34 z))
     (λ n. byNumber q 34 (λ z. e ∙ rw (eq-eqb q 34 z)) (λ m. stops (rw (ne-eqb p 34 n, ne-eqb q 34 m) at e)))
 
+pub quoted-told : (t : List ℕ) (a b k : ℕ) {p q : ℕ} → CommonFrom t a b k → p ≡ byteAt t (a + k) → q ≡ byteAt t (b + k) → (p ≡ 92 → ⊥) → (q ≡ 92 → ⊥)
+    → (ended p ≡ ended q → ended p ≡ 256) → orderAt (ended p) (ended q) ≡ orderOf (quotedFrom t a) (quotedFrom t b)
+quoted-told t a b k {p} {q} h e f s z both =
+    let x = byteAt t (a + k) in
+    let y = byteAt t (b + k) in
+    rw (e, f) (order-heads (ended x) (ended y) (quotedFrom t (a + k)) (quotedFrom t (b + k)) (over t (a + k)) (goes t (a + k) (λ m. s (e ∙ m)))
+    (over t (b + k)) (goes t (b + k) (λ m. z (f ∙ m))) (rw (e, f) at both))
+    ∙ h .ordered
+
 pub quoted-differs : (t : List ℕ) (a b k : ℕ) {p q : ℕ} → AlikeFrom t a b k → p ≡ byteAt t (a + k) → q ≡ byteAt t (b + k) → (p ≡ 92 → ⊥) → (q ≡ 92 → ⊥)
     → orderAt (ended p) (ended q) ≡ orderOf (quotedFrom t a) (quotedFrom t b)
-quoted-differs t a b k h e f s z =
-    let p = byteAt t (a + k) in
-    let q = byteAt t (b + k) in
-    let no : p ≡ 92 → ⊥ = λ m. s (e ∙ m) in
-    rw (e, f) (order-heads (ended p) (ended q) (quotedFrom t (a + k)) (quotedFrom t (b + k)) (over t (a + k)) (goes t (a + k) no) (over t (b + k))
-    (goes t (b + k) (λ m. z (f ∙ m))) (both p q (λ g. h .stops g no)))
-    ∙ h .common .ordered
+quoted-differs t a b k {p} {q} h e f s z =
+    quoted-told t a b k (h .common) e f s z (both p q (λ g. rw e (h .stops (sym e ∙ g ∙ f) (λ m. s (e ∙ m)))))

@@ -4,6 +4,7 @@ pub mod Alike
 pub mod Comparing
 pub mod Marks
 pub mod PlainRuns
+pub mod Eights
 pub mod Runs
 pub mod Ways
 pub mod Begun

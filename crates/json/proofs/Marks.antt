@@ -7,11 +7,11 @@ use mathlib.Core.Bool.{Bool, true, false, _&&_, _||_, not, true≢false}
 use native.Mathlib.Omega.{arith}
 use native.Mathlib.Decide.{decLe}
 use lib.Dec.{ltb, leb, eqb}
-use lib.Bits.{bitAnd, bitOr, bitXor, and-block, or-block, xor-block, and-le-r, or-lt, xor-lt, and-lt}
+use lib.Bits.{bitAnd, bitOr, bitXor, and-block, or-block, xor-block, and-le-l, and-le-r, xor-add-and, or-lt, xor-lt, and-lt}
 use lib.Count.{under, trailingZeros, trailing-le}
 use borrow.Author.Tests.{ltb-true, leb-true, eqb-false}
 use Rattle.laws.proofs.Picks.{denied}
-use Rattle.json.specs.Plain.{Plain, Plains}
+use Rattle.json.specs.Plain.{Plain, Plains, AlikeBytes}
 
 -- ---- bytes of a number
 
@@ -155,6 +155,18 @@ plains (suc n) (suc k) w h z =
     let m = byte-zero k (marks-bytes n low) z in
     (plain-byte (w % 256) (low .small) (m .0), plains n k (w / 256) (omega arith) (m .1))
 
+-- ---- bytes that two numbers have in common
+
+xor-none : (a b : ℕ) → bitXor a b ≡ 0 → a ≡ b
+xor-none a b e = omega (arith, xor-add-and a b, and-le-l a b, and-le-r a b)
+
+alike-bytes : (j r v w : ℕ) → j ≤ r → Plains r v → Zeros (bits j) (bitXor v w) → AlikeBytes j v w
+alike-bytes zero r v w h p z = tt
+alike-bytes (suc j) zero v w h p z = absurd (omega arith)
+alike-bytes (suc j) (suc r) v w h p z =
+    let m = byte-zero j (xor-bytes (lowest v) (lowest w)) z in
+    (p .0, (xor-none (v % 256) (w % 256) (m .0), alike-bytes j r (v / 256) (w / 256) (omega arith) (p .1) (m .1)))
+
 -- ---- the code's eight bytes
 
 low-seven : (w : ℕ) → bitAnd w 0x7F7F7F7F7F7F7F7F ≤ 0x7F7F7F7F7F7F7F7F
@@ -176,3 +188,7 @@ unfolding marks rep
 plain-count w =
     let k = trailingZeros 64 (eightMarks w) / 8 in
     plains 8 k w (plain-few w) (trailing 64 (eightMarks w) (bits k) (omega (arith, bits-eight k)))
+
+-- the bytes below the lowest bit in which two numbers differ
+pub alike-count : (v w j r : ℕ) → j ≤ r → Plains r v → j ≤ trailingZeros 64 (bitXor v w) / 8 → AlikeBytes j v w
+alike-count v w j r h p l = alike-bytes j r v w h p (trailing 64 (bitXor v w) (bits j) (omega (arith, bits-eight j)))

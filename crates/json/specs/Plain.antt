@@ -24,6 +24,11 @@ abbrev pub Plains : (k w : ℕ) → Type 0
 Plains zero w = Prim.Unit {0}
 Plains (suc k) w = Plain (w % 256) × Plains k (w / 256)
 
+-- the lowest k bytes of two numbers are plain and the same
+abbrev pub AlikeBytes : (k v w : ℕ) → Type 0
+AlikeBytes zero v w = Prim.Unit {0}
+AlikeBytes (suc k) v w = Plain (v % 256) × ((v % 256 ≡ w % 256) × AlikeBytes k (v / 256) (w / 256))
+
 -- a string ends from the later place on where it ends from the earlier one on
 pub record PlainTo (t : List ℕ) (from to : ℕ) : Type 0 where
   pub later : from ≤ to

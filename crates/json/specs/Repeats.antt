@@ -21,9 +21,9 @@ pub record SomeAsks (t names : List ℕ) : Type 0 where
   pub climbs : Climbs names
   pub some : 0 < length names
 
--- the same, with a scratch of as many words
-abbrev pub SortAsks : (t names scratch : List ℕ) → Type 0
-SortAsks t names scratch = SomeAsks t names × (length names ≤ length scratch)
+-- names that are compared from behind so many bytes, as many as a text may have values or fewer
+abbrev pub ScratchAsks : (behind : ℕ) (names : List ℕ) → Type 0
+ScratchAsks behind names = Word behind × (length names ≤ base .values)
 
 -- names in the order of such a text, as many as it may have values or fewer
 pub record RepeatAsks (t names : List ℕ) : Type 0 where

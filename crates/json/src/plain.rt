@@ -3,7 +3,7 @@ use crate::bytes::peek;
 ghost use mathlib.Core.Path.{_≡_};
 ghost use Prim.Native.Nat.{_+_, _*_, _<_, _≤_};
 ghost use lib.ListN.{length};
-ghost use Rattle.json.specs.Plain.{packedAt, Plains, PlainTo};
+ghost use Rattle.json.specs.Plain.{packedAt, Plains, AlikeBytes, PlainTo};
 
 // A number with a byte put below it.
 fn above(low: u8, high: u64) -> u64
@@ -14,7 +14,7 @@ fn above(low: u8, high: u64) -> u64
 }
 
 // The eight bytes from a place on as a number, the first one lowest.
-fn eight(text: &[u8], at: usize) -> u64
+pub(crate) fn eight(text: &[u8], at: usize) -> u64
     requires { ⌜ at + 8 ≤ length (now text) ⌝ }
     ensures { λ r. ⌜ r ≡ packedAt (now (text .entry)) 8 at ⌝ }
 {
@@ -39,6 +39,18 @@ fn plain_bytes(w: u64) -> usize
     let good = shown & no_slash;
     let marks = (w | (good ^ 0x8080808080808080)) & 0x8080808080808080;
     (u64::trailing_zeros(marks) / 8) as usize
+}
+
+// How many of two numbers' eight bytes, from the lowest on, are plain and the same.
+pub(crate) fn alike_plain(v: u64, w: u64) -> usize
+    ensures { λ r. ⌜ (r ≤ 8) × AlikeBytes r v w ⌝ }
+{
+    let plain = plain_bytes(v);
+    let same = (u64::trailing_zeros(v ^ w) / 8) as usize;
+    if plain < same {
+        return plain;
+    }
+    same
 }
 
 // A place that plain bytes lead to from a place inside a string; fewer than eight of them may follow. A byte above 127 ends them at once, so that a space

@@ -17,7 +17,7 @@ ghost use Rattle.text.specs.Whole.{readOf, wholeOf, Reads};
 ghost use Rattle.json.specs.Readers.{TextAsks};
 ghost use Rattle.json.specs.Answers.{ReadsRows, Ended};
 
-// The bytes that a name takes at least, up to its value's first byte and with the bracket or comma before it; and the names of short texts, fourfold each
+// The bytes that a name takes at least, up to its value's first byte and with the bracket or comma before it; and the names of shorter texts, fourfold each
 // time: what is cleared for a text of more than 256 bytes is then no more than four times what it could use.
 const NAME_BYTES: usize = 4;
 
@@ -26,6 +26,10 @@ const SMALL_NAMES: usize = 64;
 const SHORT_NAMES: usize = 256;
 
 const MIDDLE_NAMES: usize = 1024;
+
+const LARGE_NAMES: usize = 4096;
+
+const WIDE_NAMES: usize = 16384;
 
 // Reads a text: its rows and zeros after them, or the refusal and zeros alone.
 pub fn read(text: &[u8], table: &mut [u32]) -> Reading
@@ -114,8 +118,43 @@ fn read_middle(text: &[u8], table: &mut [u32]) -> Reading
     read_whole(text, table, &mut names)
 }
 
-// One that may have as many as there are values.
+// A text of more than 4 KiB: the stores are in no frame but this one's, since a function with a call of itself, though never made, becomes part of no other.
 fn read_long(text: &[u8], table: &mut [u32]) -> Reading
+    requires { ⌜ length (now text) ≤ base .bytes ⌝ }
+    ensures { λ r. ⌜ Ended (readOf base (now (text .entry))) (now (table .entry)) (now (table .exit)) r ⌝ }
+{
+    if BYTES < text.len() {
+        return read_long(text, table);
+    }
+    if text.len() <= NAME_BYTES * LARGE_NAMES {
+        return read_large(text, table);
+    }
+    if text.len() <= NAME_BYTES * WIDE_NAMES {
+        return read_wide(text, table);
+    }
+    read_most(text, table)
+}
+
+// One with room for the names of a group.
+fn read_large(text: &[u8], table: &mut [u32]) -> Reading
+    requires { ⌜ length (now text) ≤ 4 * 4096 ⌝ }
+    ensures { λ r. ⌜ Ended (readOf base (now (text .entry))) (now (table .entry)) (now (table .exit)) r ⌝ }
+{
+    let mut names = [0u32; LARGE_NAMES];
+    read_whole(text, table, &mut names)
+}
+
+// Of a large one.
+fn read_wide(text: &[u8], table: &mut [u32]) -> Reading
+    requires { ⌜ length (now text) ≤ 4 * 16384 ⌝ }
+    ensures { λ r. ⌜ Ended (readOf base (now (text .entry))) (now (table .entry)) (now (table .exit)) r ⌝ }
+{
+    let mut names = [0u32; WIDE_NAMES];
+    read_whole(text, table, &mut names)
+}
+
+// One that may have as many as there are values.
+fn read_most(text: &[u8], table: &mut [u32]) -> Reading
     requires { ⌜ length (now text) ≤ base .bytes ⌝ }
     ensures { λ r. ⌜ Ended (readOf base (now (text .entry))) (now (table .entry)) (now (table .exit)) r ⌝ }
 {

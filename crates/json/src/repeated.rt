@@ -3,16 +3,15 @@ use crate::bytes::BACKSLASH;
 use crate::bytes::OVER;
 use crate::bytes::QUOTE;
 use crate::bytes::peek;
-use crate::limits::VALUES;
 use crate::names::is_less;
 use crate::names::is_same;
 use crate::quoted::order_along;
 use crate::quoted::order_from;
 use crate::sort::place_at;
-use crate::sort::sort;
+use crate::sort::sort_names;
 ghost use mathlib.Core.Path.{_≡_};
 ghost use Prim.Native.Nat.{_≤_, _<_};
-ghost use lib.ListN.{length, take};
+ghost use lib.ListN.{length};
 ghost use lib.Seq.{slice};
 ghost use Rattle.laws.specs.Order.{same, before};
 ghost use Rattle.laws.specs.Earliest.{placeNumber, known, firstRepeat, leastBeside, besideNumber, ascending};
@@ -20,7 +19,7 @@ ghost use Rattle.repeats.specs.Quoted.{tailAt};
 ghost use Rattle.repeats.specs.Beginning.{PlainRun, AgreeRun, Begin};
 ghost use Rattle.text.specs.Limits.{base};
 ghost use Rattle.json.specs.Rows.{Word};
-ghost use Rattle.json.specs.Repeats.{Words, AgreeAsks, RepeatAsks, SomeAsks, SortAsks};
+ghost use Rattle.json.specs.Repeats.{Words, AgreeAsks, RepeatAsks, SomeAsks};
 
 // No place: it fits no word.
 pub(crate) const NONE: usize = 4294967296;
@@ -29,9 +28,6 @@ pub(crate) const NONE: usize = 4294967296;
 const FEW: usize = 8;
 
 const SOME: usize = 16;
-
-// A scratch for few names more: it is cleared at each call.
-const SMALL_SCRATCH: usize = 64;
 
 // Are two names the same, from `behind` bytes behind their quotes on?
 fn same_names(text: &[u8], behind: usize, p: usize, q: usize) -> bool
@@ -196,30 +192,16 @@ fn first_behind(text: &[u8], names: &[u32]) -> usize
 }
 
 // The same by sorting: the time grows as n log n. The places are left sorted.
-fn first_sorted(text: &[u8], names: &mut [u32], scratch: &mut [u32]) -> usize
-    requires { ⌜ SortAsks (now text) (now names) (now scratch) ⌝ }
+fn first_sorted(text: &[u8], names: &mut [u32]) -> usize
+    requires { ⌜ SomeAsks (now text) (now names) × (length (now names) ≤ base .values) ⌝ }
     ensures { λ r. ⌜ r ≡ placeNumber (firstRepeat (tailAt (now (text .entry)) 1) (now (names .entry))) ⌝ }
 {
     let behind = common(text, names) + 1;
     if ascend(text, behind, names) {
         return NONE;
     }
-    let n = names.len();
-    sort(text, behind, names, scratch, 0, n);
+    sort_names(text, behind, names);
     least_beside(text, behind, names)
-}
-
-// The same in a scratch for as many names as a text may have values; of more, those are looked through. A function that calls itself becomes part of no
-// other: so this array is in no frame of the readers, which are open once a container.
-fn first_of_many(text: &[u8], names: &mut [u32]) -> usize
-    requires { ⌜ SomeAsks (now text) (now names) ⌝ }
-    ensures { λ r. ⌜ r ≡ placeNumber (firstRepeat (tailAt (now (text .entry)) 1) (take (base .values) (now (names .entry)))) ⌝ }
-{
-    if VALUES < names.len() {
-        return first_of_many(text, &mut names[..VALUES]);
-    }
-    let mut scratch = [0u32; VALUES];
-    first_sorted(text, names, &mut scratch)
 }
 
 // The place of the first name that one before it is equal to, or NONE. The places are given in the order of the text, and may be left in another.
@@ -233,9 +215,5 @@ pub(crate) fn first_repeat(text: &[u8], names: &mut [u32]) -> usize
     if names.len() <= SOME {
         return first_behind(text, names);
     }
-    if names.len() <= SMALL_SCRATCH {
-        let mut scratch = [0u32; SMALL_SCRATCH];
-        return first_sorted(text, names, &mut scratch);
-    }
-    first_of_many(text, names)
+    first_sorted(text, names)
 }

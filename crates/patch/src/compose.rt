@@ -4,6 +4,7 @@ use crate::conditions::Condition;
 use crate::conditions::first_broken;
 use crate::entries::FEW_ENTRIES;
 use crate::entries::MOST_ENTRIES;
+use crate::entries::SOME_ENTRIES;
 use crate::entries::collect;
 use crate::sort::sort_rows;
 use crate::writing::put_card;
@@ -78,7 +79,28 @@ fn compose_on(
     fitting(count, out.len())
 }
 
-// The same, on a list of our own.
+// The same, on a list for as many entries as there can be. A function with a call of itself, though never made, becomes part of no other: so this array is
+// in no frame but its own.
+fn compose_many(
+    card: &[u8],
+    card_table: &[u32],
+    leave: usize,
+    text: &[u8],
+    table: &[u32],
+    patch: usize,
+    out: &mut [u8],
+) -> Attempt
+    requires { ⌜ patch < length (now table) ⌝ }
+    ensures { λ r. ⌜ Makes (now (card .entry)) (now («card_table» .entry)) leave (now (text .entry)) (now (table .entry)) patch (now (out .entry)) (now (out .exit)) r ⌝ }
+{
+    if table.len() <= patch {
+        return compose_many(card, card_table, leave, text, table, patch, out);
+    }
+    let mut rows = [0u32; MOST_ENTRIES];
+    compose_on(card, card_table, leave, text, table, patch, &mut rows, out)
+}
+
+// The same, on a list sized by the values inside the PatchObject, which is closed before what was written is judged.
 fn compose(
     card: &[u8],
     card_table: &[u32],
@@ -91,12 +113,18 @@ fn compose(
     requires { ⌜ patch < length (now table) ⌝ }
     ensures { λ r. ⌜ Makes (now (card .entry)) (now («card_table» .entry)) leave (now (text .entry)) (now (table .entry)) patch (now (out .entry)) (now (out .exit)) r ⌝ }
 {
+    if table.len() <= patch {
+        return compose(card, card_table, leave, text, table, patch, out);
+    }
     if below(table, patch) <= FEW_ENTRIES {
         let mut rows = [0u32; FEW_ENTRIES];
         return compose_on(card, card_table, leave, text, table, patch, &mut rows, out);
     }
-    let mut rows = [0u32; MOST_ENTRIES];
-    compose_on(card, card_table, leave, text, table, patch, &mut rows, out)
+    if below(table, patch) <= SOME_ENTRIES {
+        let mut rows = [0u32; SOME_ENTRIES];
+        return compose_on(card, card_table, leave, text, table, patch, &mut rows, out);
+    }
+    compose_many(card, card_table, leave, text, table, patch, out)
 }
 
 // The card as the PatchObject that it has for a language leaves it.

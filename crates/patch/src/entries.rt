@@ -6,8 +6,10 @@ ghost use Rattle.patch.specs.Entries.{Collected};
 // A card has no more values, so a PatchObject has no more entries.
 pub(crate) const MOST_ENTRIES: usize = VALUES;
 
-// So few are listed and sorted in little room, which costs little to clear.
+// So few are listed and sorted in little room, which costs little to clear; and so many, since a text of 4 KiB has no more values.
 pub(crate) const FEW_ENTRIES: usize = 64;
+
+pub(crate) const SOME_ENTRIES: usize = 2048;
 
 // Lists the rows of the members from one row up to another, in their order, and counts them, as far as the list has room. A card has no rows past the most,
 // so none are listed there.

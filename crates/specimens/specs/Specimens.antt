@@ -1,7 +1,7 @@
 -- The rules paper's specimens, those marked (P) and some more, on whole texts and whole cards, as one statement over a list of cases: for each call of a service
 -- the three numbers of the answer, the whole table and the whole output. Each line of the refusal sheet stands here at least once.
 -- Assumes nothing.
-use Prim.Native.Nat.{ℕ, _+_, _-_, _*_}
+use Prim.Native.Nat.{ℕ, zero, suc, _+_, _-_, _*_}
 use Prim.Native.String.{String}
 use mathlib.Core.Path.{_≡_, refl}
 use mathlib.Core.List.{List, [], _∷_, _++_, map}
@@ -109,6 +109,11 @@ cardRows end below more = row 7 0 0 0 end below ++ row 5 2 7 9 15 0 ++ row 5 17 
 abbrev prefRows : (end : ℕ) → List ℕ
 prefRows end = cardRows (end + 3) 7 (row 7 44 50 52 (end + 2) 3 ++ row 7 54 56 58 (end + 1) 2 ++ row 5 60 67 69 72 0 ++ row 4 74 78 80 end 0)
 
+-- the rows of so many arrays, one inside the other, the first at a place
+unfoldable pub nestedRows : (count at : ℕ) → List ℕ
+nestedRows zero at = []
+nestedRows (suc n) at = row 6 0 0 at (at + 2 * n + 2) n ++ nestedRows n (at + 1)
+
 -- ---- the cases
 
 -- each case after what it shows
@@ -126,8 +131,9 @@ cases =
     -- a table without a third whole row: 7, three needed
     ∷ refusedAt (read (bytes "{\"a\":[1]}") (3 * rowWords - 1)) 7 3
     ∷ refusedAt (read (bytes "{\"a\":[1]}") 0) 7 3
-    -- the 33rd open array: 5
-    ∷ refusedAt (read (replicate 33 91) rowWords) 5 32
+    -- 64 arrays, one inside the other, pass; the 65th is 5
+    ∷ accepted (read (replicate 64 91 ++ replicate 64 93) (64 * rowWords)) 64 0 (nestedRows 64 0) []
+    ∷ refusedAt (read (replicate 65 91) rowWords) 5 64
     -- small limits: 1, 5 and 6 one past each, and 5 before 6 at one place
     ∷ refusedUnder tight (read (bytes "[1, 22, 3]") (10 * rowWords)) 1 0
     ∷ refusedUnder tight (read (bytes "[[[]]]") (10 * rowWords)) 5 2
@@ -232,5 +238,5 @@ cases =
 
 -- what the definitions say of each call is what its case says: all cases, by computation
 pub specimens : map worked cases ≡ cases
-unfolding worked cases served partOf scan orderOf digitOf hex4Of digitAt hex4At checkedAt tailOf seq2 seq3 seq4 tailAt rawAt letterOf lowAt pairAt unitAt onHex escapeAt stepBy stringEnd conts utf8 pieceBy decodeFrom runEnd wordAt digitsAt minusEnd intAt fracAt signEnd expAt numberAt kindBy tokenAt size rowsOf startsOf join scalarWith scalarAt closeOf container deep valueWith afterItem itemsFrom insideOf named colonAt memberWith memberOf valueAt elementsAt membersAt arrayAt objectAt refused endOf readOf fitOf wholeOf sheetOf tableOf membersOf docOf countOf countAll types recordOf typeIn every idByte isId valueFrom isCount monthLengths isLeap daysOf isDay shaped fractionEnds ends inRange isTime present isString isSeparator marksOf anyMark allMarks adjacent anyCounts badlySeparated breaksAny isOf lacking rowNumber breachOf breachAmong refusedFault refusedCard faultOf byBreach judgedRead judgedOf sheetOfJudged paperOfVerdict tableOfJudged refusedLocal byJudge byRoom faultIn byFault byEntries inPatch withPatch localizedDoc localizedJudged localizedOf sheetOfOutcome paperOfLocalized answerOfOutcome tableOfOutcome outputOfOutcome
+unfolding worked cases nestedRows served partOf scan orderOf digitOf hex4Of digitAt hex4At checkedAt tailOf seq2 seq3 seq4 tailAt rawAt letterOf lowAt pairAt unitAt onHex escapeAt stepBy stringEnd conts utf8 pieceBy decodeFrom runEnd wordAt digitsAt minusEnd intAt fracAt signEnd expAt numberAt kindBy tokenAt size rowsOf startsOf join scalarWith scalarAt closeOf container deep valueWith afterItem itemsFrom insideOf named colonAt memberWith memberOf valueAt elementsAt membersAt arrayAt objectAt refused endOf readOf fitOf wholeOf sheetOf tableOf membersOf docOf countOf countAll types recordOf typeIn every idByte isId valueFrom isCount monthLengths isLeap daysOf isDay shaped fractionEnds ends inRange isTime present isString isSeparator marksOf anyMark allMarks adjacent anyCounts badlySeparated breaksAny isOf lacking rowNumber breachOf breachAmong refusedFault refusedCard faultOf byBreach judgedRead judgedOf sheetOfJudged paperOfVerdict tableOfJudged refusedLocal byJudge byRoom faultIn byFault byEntries inPatch withPatch localizedDoc localizedJudged localizedOf sheetOfOutcome paperOfLocalized answerOfOutcome tableOfOutcome outputOfOutcome
 specimens = refl

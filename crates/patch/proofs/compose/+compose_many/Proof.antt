@@ -1,0 +1,38 @@
+-- `patch::compose::compose_many` meets its contract: a card can have no more entries than the list has words. It never calls itself. Assumes nothing.
+use Prim.Native.Nat.{ℕ, _<_}
+use native.Mathlib.Omega.{arith}
+use borrow.Author.Needs.{needs}
+use borrow.Fn.Kinds.{In}
+use borrow.Fn.PlainCycle.{Measures, is, falls, and}
+use Rattle.patch.proofs.Drafting.Children.{inside-few}
+use Rattle.patch.proofs.compose.compose_many.Reads as compose-many
+use Rattle.patch.proofs.compose.compose_many.Kinds as kinds
+use Rattle.patch.proofs.compose.+compose_many.Lts-compose_many as lts
+use Rattle.patch.proofs.compose.compose_on.Reads as compose-on-reads
+use Rattle.patch.proofs.compose.+compose_many.{statement}
+use Rattle.patch.proofs.compose.+compose_many.Tie.{close}
+
+abbrev measure : Measures 5 kinds.ps ℕ
+measure κs a = 0
+
+abbrev here : ℕ → In 5 kinds.ps
+here t = and 5 kinds.ps (is 5 kinds.ps measure t) compose-many.Pre
+
+abbrev below : ℕ → In 5 kinds.ps
+below t = and 5 kinds.ps (falls 5 kinds.ps _<_ measure t) compose-many.Pre
+
+-- what is known of the functions that it calls
+abbrev given : ℕ → lts.Claims
+given t = (below t, compose-many.Post, compose-on-reads.Asked, compose-on-reads.Learnt)
+
+module _ (t : ℕ) where
+  never : lts.Need-compose-many-requires (given t) (here t) compose-many.Post
+  never c κs = absurd (omega arith)
+
+  made : lts.Need-returns-2 (given t) (here t) compose-many.Post
+  made c = λ g p b h few. c .before .before .before .compose-on .ensures (omega (arith, inside-few h)) g p b h few
+
+pub +compose-many-spec : {M : Type 1} → statement M
++compose-many-spec =
+    close measure
+    (λ t. lts.spec (given t) (here t) compose-many.Post (never t) (λ c. search needs) (λ c. search needs) (λ c. search needs) (λ c κs. search needs) (λ c. search needs) (made t))
