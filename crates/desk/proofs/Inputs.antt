@@ -17,22 +17,22 @@ use Rattle.contact.specs.declared.Verdict.{Verdict}
 use Rattle.contact.specs.Verdict.{paperOfVerdict}
 use Rattle.contact.specs.Judging.{Judges}
 use Rattle.contact.specs.Services.{served}
-use Rattle.desk.specs.Line.{buffer, lineOf, tableOf, ofInput, tableAfter, Says, SaysFor}
+use Rattle.desk.specs.Line.{buffer, lineOf, leftOf, ofInput, leftAfter, Says, SaysFor}
 
 pub says-over : (bytes : List ℕ) (words : ℕ) {more : Bool} {table : List ℕ} → more ≡ true → table ≡ replicate words 0 → Says bytes more words (numbers 34 0 0) table
-unfolding lineOf tableOf
+unfolding lineOf leftOf
 says-over bytes words e z = record { line = rw e; left = rw e z }
 
 pub says-judged : (bytes lent : List ℕ) {more : Bool} {v : Verdict} {answer : Paper} {table : List ℕ} → more ≡ false → answer ≡ paperOfVerdict v → Judges base bytes lent v table
     → Says bytes more (length lent) answer table
-unfolding lineOf tableOf served
+unfolding lineOf leftOf served
 says-judged bytes lent e a j = record { line = rw e (a ∙ j .answered); left = rw e (j .table) }
 
 module _ (input : List ℕ) (words : ℕ) {answer : Paper} {table : List ℕ} where
   pub says-longer : ltb buffer (length input) ≡ true → Says (take buffer input) true words answer table → SaysFor input words answer table
-  unfolding ofInput tableAfter
+  unfolding ofInput leftAfter
   says-longer e s = record { line = rw e (s .line); left = rw e (s .left) }
 
   pub says-whole : ltb buffer (length input) ≡ false → Says input false words answer table → SaysFor input words answer table
-  unfolding ofInput tableAfter
+  unfolding ofInput leftAfter
   says-whole e s = let all = take-all buffer input (ltb-false buffer (length input) e) in record { line = rw (e, all) (s .line); left = rw (e, all) (s .left) }

@@ -30,7 +30,7 @@ use Rattle.contact.specs.Demands.{Lines, Ends, acceptance, refusal, ReadingAndJ
 use Rattle.contact.proofs.Demands.{base-demands}
 use Rattle.contact.proofs.Demands.Sheet.{same-number, same-second}
 use Rattle.desk.specs.Line.{buffer, wordsLent, lineOf, ofInput}
-use Rattle.desk.specs.Program.{OverRows, Desk, ByContract, ReadEnough, OneLine}
+use Rattle.desk.specs.Program.{Desk, ByContract, ReadEnough, OneLine}
 
 -- ---- what judging answers
 
@@ -139,19 +139,11 @@ module _ (t : List ℕ) where
       let (within, k) = low-line 6 p (omega arith) (omega arith) is in
       let same = take-append-drop (p + 1) t in omega (arith, ap length same, ends-early p is (drop (p + 1) t) (rw same j))
 
-  short-iff : (n : ℕ) → (said t ≡ numbers 7 n 0) ↔ ((length t ≤ buffer) × OverRows t n)
-  short-iff n = (there, back)
+  short-iff : (n : ℕ) → (said t ≡ numbers 7 n 0) ↔ ((length t ≤ buffer) × RowsShort base wordsLent t n)
+  short-iff n = (there, λ (within, r). within-line within ∙ from-reading 7 n (omega arith) (of-demands .rows-short t wordsLent n .1 r))
     where
-      there : said t ≡ numbers 7 n 0 → (length t ≤ buffer) × OverRows t n
-      there e =
-          let (within, k) = low-line 7 n (omega arith) (omega arith) e in
-          let r = of-demands .rows-short t wordsLent n .0 k in
-          (within, record { tree = r .tree; accepts = r .accepts; values = r .needed; more = omega (arith, r .short, r .needed) })
-
-      back : (length t ≤ buffer) × OverRows t n → said t ≡ numbers 7 n 0
-      back (within, o) =
-          let r : RowsShort base wordsLent t n = record { tree = o .tree; accepts = o .accepts; short = omega (arith, o .more, o .values); needed = o .values } in
-          within-line within ∙ from-reading 7 n (omega arith) (of-demands .rows-short t wordsLent n .1 r)
+      there : said t ≡ numbers 7 n 0 → (length t ≤ buffer) × RowsShort base wordsLent t n
+      there e = let (within, k) = low-line 7 n (omega arith) (omega arith) e in (within, of-demands .rows-short t wordsLent n .0 k)
 
 -- ---- what the program does
 

@@ -30,23 +30,23 @@ unfoldable pub lineOf : (bytes : List ℕ) (more : Bool) (words : ℕ) → Paper
 lineOf bytes more words = cond more (numbers 34 0 0) (served base (judge bytes words) .answer)
 
 -- after 34 every word of the table is zero, else it is as judging leaves it
-unfoldable pub tableOf : (bytes : List ℕ) (more : Bool) (words : ℕ) → List ℕ
-tableOf bytes more words = cond more (replicate words 0) (served base (judge bytes words) .table)
+unfoldable pub leftOf : (bytes : List ℕ) (more : Bool) (words : ℕ) → List ℕ
+leftOf bytes more words = cond more (replicate words 0) (served base (judge bytes words) .table)
 
 -- ---- of a whole input: as much of it as the buffer holds, and whether that was all
 
 unfoldable pub ofInput : (input : List ℕ) (words : ℕ) → Paper
 ofInput input words = lineOf (take buffer input) (ltb buffer (length input)) words
 
-unfoldable pub tableAfter : (input : List ℕ) (words : ℕ) → List ℕ
-tableAfter input words = tableOf (take buffer input) (ltb buffer (length input)) words
+unfoldable pub leftAfter : (input : List ℕ) (words : ℕ) → List ℕ
+leftAfter input words = leftOf (take buffer input) (ltb buffer (length input)) words
 
 -- ---- what the contracts say of an answer and of a lent table of so many words
 
 pub record Says (bytes : List ℕ) (more : Bool) (words : ℕ) (answer : Paper) (table : List ℕ) : Type 0 where
   pub line : answer ≡ lineOf bytes more words
-  pub left : table ≡ tableOf bytes more words
+  pub left : table ≡ leftOf bytes more words
 
 pub record SaysFor (input : List ℕ) (words : ℕ) (answer : Paper) (table : List ℕ) : Type 0 where
   pub line : answer ≡ ofInput input words
-  pub left : table ≡ tableAfter input words
+  pub left : table ≡ leftAfter input words

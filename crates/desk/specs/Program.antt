@@ -9,21 +9,14 @@ use mathlib.Core.Logic.{_↔_}
 use mathlib.Core.List.{List, _++_}
 use lib.ListN.{length, take}
 use Rattle.text.specs.Limits.{base}
-use Rattle.text.specs.Tree.{Forest, size}
+use Rattle.text.specs.Tree.{Forest}
 use Rattle.text.specs.declared.Paper.{Paper}
 use Rattle.text.specs.Sheet.{numbers}
 use Rattle.text.specs.Grammar.{JsonText}
-use Rattle.text.specs.Meaning.{Accepts}
+use Rattle.text.specs.Fault.{RowsShort}
 use Rattle.contact.specs.Judging.{CardText}
 use Rattle.contact.specs.Services.{judge, served}
-use Rattle.desk.specs.Line.{buffer, rowsLent, wordsLent, ofInput}
-
--- the input would be accepted by reading, but has n values, more than the rows that are lent
-pub record OverRows (input : List ℕ) (n : ℕ) : Type 0 where
-  pub tree : Forest
-  pub accepts : Accepts base input tree
-  pub values : n ≡ size tree
-  pub more : rowsLent < n
+use Rattle.desk.specs.Line.{buffer, wordsLent, ofInput}
 
 -- what the program does, if `says` gives the numbers of the line for an input
 pub record Desk (says : List ℕ → Paper) : Type 0 where
@@ -40,8 +33,8 @@ pub record Desk (says : List ℕ → Paper) : Type 0 where
       → buffer < length (take (p + 1) input ++ rest)
   -- so never of a JSON text, whatever its depth, its names and its strings
   pub never-many : (input : List ℕ) → JsonText input → ¬ (says input .number ≡ 6)
-  -- 7 exactly if the input is within the buffer and has more values than there are rows; the second number is that of its values
-  pub rows-short : (input : List ℕ) (n : ℕ) → (says input ≡ numbers 7 n 0) ↔ ((length input ≤ buffer) × OverRows input n)
+  -- 7 exactly if the input is within the buffer and sound but for having more values than there are rows; the second number is that of its values
+  pub rows-short : (input : List ℕ) (n : ℕ) → (says input ≡ numbers 7 n 0) ↔ ((length input ≤ buffer) × RowsShort base wordsLent input n)
 
 -- any function does this that keeps the contract of `program_line`
 abbrev pub ByContract : Type 0

@@ -187,20 +187,8 @@ pub(crate) fn order_eights(text: &[u8], a: usize, b: usize) -> Order
         if q != BACKSLASH {
             let first = ended(p);
             let second = ended(q);
-            if first == OVER {
-                if second == OVER {
-                    return Order::Same;
-                }
-                return Order::Less;
-            }
-            if second == OVER {
-                return Order::More;
-            }
-            if first < second {
-                return Order::Less;
-            }
-            if second < first {
-                return Order::More;
+            if first != second {
+                return order_at(first, second);
             }
         }
     }
