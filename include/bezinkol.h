@@ -52,12 +52,12 @@ extern "C" {
 #define BEZINKOL_ANSWER_WORDS 3
 
 /* The bytes of stack that a call needs, for any text and for one of at most BEZINKOL_SHORT_BYTES bytes. By the frames of the machine code for x86-64 of this
- * kit (rattle-kit-5b) no call takes more than 287 KiB for reading and 289 KiB for judging and for localizing, and for a short text no more than 30, 45 and 61
- * KiB: what is said here is more by 31 KiB, for short texts by 10, 11 and 3. tests/c counts them again (frames.py), measures calls at the limits (stack.c), and
+ * kit (rattle-kit-5b) no call takes more than 287 KiB for reading and judging and 349 KiB for localizing, and for a short text no more than 30, 45 and 61
+ * KiB: what is said here is more by 33 KiB or more, for short texts by 10, 11 and 3. tests/c counts them again (frames.py), measures calls at the limits (stack.c), and
  * fails where it is more than is said here; another kit may write other machine code. */
 #define BEZINKOL_READ_STACK 327680
 #define BEZINKOL_JUDGE_STACK 327680
-#define BEZINKOL_LOCALIZE_STACK 327680
+#define BEZINKOL_LOCALIZE_STACK 393216
 #define BEZINKOL_SHORT_BYTES 4096
 #define BEZINKOL_READ_STACK_4K 40960
 #define BEZINKOL_JUDGE_STACK_4K 57344
@@ -87,7 +87,9 @@ enum {
 
 /* The refusal sheet: what answer[0] says, and what answer[1] then is. There are no other numbers: 34 is the program's own.
  * Reading gives 1 to 7, judging 11 to 14 too, localizing all. Which one comes first where several things are wrong: docs/REFUSALS.md. A name says its
- * refusal's case in the sources (`Value`, `Inner`), with a word more where that alone would say too little. */
+ * refusal's case in the sources (`Value`, `Inner`), with a word more where that alone would say too little.
+ * Of 22 to 26, answer[1] is a place in what was lent as `text`: the opening quote of the patch's key that is at fault, as it is written there. Of several
+ * keys that break the condition this is the smallest in byte order, with JSON's escapes undone, and ~0 and ~1 not. */
 enum {
     BEZINKOL_OK = 0,                 /* accepted; the row count */
     BEZINKOL_TOO_LONG = 1,           /* text over 1,048,576 bytes; 0 */
@@ -102,11 +104,11 @@ enum {
     BEZINKOL_WRONG_VALUE = 13,       /* value not allowed, or map key not an Id; the value's first byte */
     BEZINKOL_RULE_BROKEN = 14,       /* a rule between members broken; the object's first byte */
     BEZINKOL_NO_LANGUAGE = 21,       /* no such language in the card; 0 */
-    BEZINKOL_BAD_KEY = 22,           /* a key with ~ not followed by 0 or 1; 0 */
-    BEZINKOL_OWN_LOCALIZATIONS = 23, /* a pointer whose first part is localizations; 0 */
-    BEZINKOL_CLASH = 24,             /* one pointer is a prefix of another; 0 */
-    BEZINKOL_IN_ARRAY = 25,          /* a pointer goes inside an array; 0 */
-    BEZINKOL_NO_OBJECT = 26,         /* a part before the last doesn't lead to an object that exists; 0 */
+    BEZINKOL_BAD_KEY = 22,           /* a key with ~ not followed by 0 or 1; the key's opening quote, as for 23 to 26 */
+    BEZINKOL_OWN_LOCALIZATIONS = 23, /* a pointer whose first part is localizations */
+    BEZINKOL_CLASH = 24,             /* one pointer is a prefix of another */
+    BEZINKOL_IN_ARRAY = 25,          /* a pointer goes inside an array */
+    BEZINKOL_NO_OBJECT = 26,         /* a part before the last doesn't lead to an object that exists */
     BEZINKOL_SHORT_OUTPUT = 27,      /* output shorter than needed; the bytes needed */
     BEZINKOL_INNER_REFUSAL = 28      /* the localized card would itself be refused; that refusal's number, 5 or 11 to 14, without its place */
 };

@@ -2,14 +2,16 @@
 import itertools
 import os
 
+import make_keys
 import make_strings
 from make_judging import HEAD, Dice, card
+from make_keys import PATCH, counted
 from store import ROOT, Case, Made, rows_of, told_of
 from store import lent as lent_words
 
 import intake
 from duds import ASKED
-from reading import MOST_BYTES, MOST_DEPTH, MOST_VALUES, MOST_WORDS
+from reading import MOST_BYTES, MOST_DEPTH, MOST_VALUES, MOST_WORDS, Reader
 
 GIVEN = b'{"kind":"given","value":"Ann"}'
 OWN = (
@@ -175,21 +177,48 @@ def members():
         yield lent(patched(patch))
 
 
+def key_at(text, quote):
+    """The decoded key whose opening quote stands at a place."""
+    reader = Reader(text)
+    reader.at = quote
+    return reader.string()
+
+
+def in_every_order(entries, own=OWN, named=None):
+    """The entries in every order: the number, the key that it names, output and table are the same; the key's place moves."""
+    answers, places = set(), set()
+    for order in itertools.permutations(entries):
+        case = lent(patched(b",".join(order), own))
+        number, second, written, inner, table, output = told_of(case)
+        if 22 <= number <= 26:
+            assert named is None or case.text.startswith(b'"' + named + b'":', second)
+            places.add(second)
+            second = key_at(case.text, second)
+        answers.add((number, second, written, inner, tuple(table), output))
+        yield case
+    assert len(answers) == 1 and len(places) != 1 and (named is None or places)
+
+
 def orders():
-    """The order of a patch's entries: never in the answer."""
+    """The order of a patch's entries: in no answer, but for the place of a key."""
     for entries in (
             (b'"b":1', b'"a":2', b'"ab":3', b'"B":4'), (b'"\\ud83d\\ude00":1', b'"\\uffee":2', b'"\\u00e9":3', b'"~0":4'), (b'"a~1":1',
             b'"a!":2', b'"a0":3', b'"a":4'),
             (b'"\\n":1', b'"\\u0000":2', b'"\\"":3', b'"\\\\":4'), (b'"z":null', b'"y/a/b/c":1', b'"emails/e2":{"address":"x"}',
             b'"w":[ ]'), (b'"q~":1', b'"x/0":1', b'"nope/a":1', b'"uid":null'),
             (b'"name/full":null', b'"name/components":null', b'"kind":5', b'"x":null')):
-        answers = set()
-        for order in itertools.permutations(entries):
-            case = lent(patched(b",".join(order)))
-            number, second, written, inner, table, output = told_of(case)
-            answers.add((number, second, written, inner, tuple(table), output))
-            yield case
-        assert len(answers) == 1
+        yield from in_every_order(entries)
+
+
+def named_keys():
+    """Keys at fault: in every order, and wherever they stand."""
+    for keys, named in make_keys.PERMUTED:
+        yield from in_every_order([make_keys.entry(key) for key in keys], make_keys.OWN, named)
+    yield from map(lent, make_keys.texts())
+    for faults in make_keys.FAULTS:  # they come before a short output, and after a small table
+        for keys in faults.values():
+            yield lent(make_keys.keyed(*keys), room=0)
+            yield lent(make_keys.keyed(*keys), words=30, room=0)
 
 
 def large():
@@ -221,17 +250,8 @@ def large():
     yield lent(patched(b",".join(b'"w/n%d":null' % i for i in numbers), b'"w":{' + b",".join(b'"n%d":0' % i for i in range(601)) + b"}"))
 
 
-PATCH = ',"localizations":{"de":{'
-
-
-def counted(count, step=7919, name="n", value="[]"):
-    """So many members with numbers in their names; 7919 gives an order that looks like chance."""
-    first, second = (f'"{name}{number:05}":{value}' for number in (0, step))
-    return f"{first},{second}%#{count - 2},{len(second) + 1},{step};"
-
-
 def many():
-    """Patches of as many entries as a working store may end at, and more; the pairs of a patch take a time that grows as the square."""
+    """Patches of as many entries as a working store may end at, and more."""
     for count in (63, 64, 65, 66, 1023, 1024, 1025):
         for step in (1, 7919, 99999):
             yield lent(Made(f"{HEAD}{PATCH}{counted(count, step)}}}}}}}"))
@@ -322,4 +342,6 @@ def groups():
     yield BASE, itertools.chain(
         rulings(), conditions(), unread(), buffers(), languages(), keys(), prefixes(), walks(), members(), orders(), large(), figures(), chance(800))
     yield NAMED, strings()
-    yield b"", itertools.chain(many(), greatest())
+    yield make_keys.BASE, named_keys()
+    yield from ((base, map(lent, texts)) for base, texts in make_keys.chance(10, 60))
+    yield b"", itertools.chain(many(), greatest(), map(lent, make_keys.recipes()))

@@ -44,7 +44,7 @@ def answer_of(service, text, words, room, language):
         number, second, _ = getattr(intake, service)(text, words)
     if number == 0:
         return bytes(output[:written]) if service == "localize" else f"{second} row" + "s" * (second != 1)
-    return f"{number} at {second}" if 2 <= number <= 14 and number != 7 else f"{number}, {second}"
+    return f"{number} at {second}" if 2 <= number <= 14 and number != 7 or 22 <= number <= 26 else f"{number}, {second}"
 
 
 def examples(page):

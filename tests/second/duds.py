@@ -32,15 +32,15 @@ DUDS = [
     # errors trainees hand in
     ("json/names_undecoded text/names_undecoded", judge(rb'{..,"\u0075id":"u2"}', (4, 43)), OK),
     ("json/last_of_two_names text/repeated_accepted", judge(b'{..,"uid":"u2"}', (4, 43)), OK),
-    ("patch/order_decides contact/half_patched", localize(patch(b'"n":{},"n/x":1'), (24, 0)), b'{..,"n":{"x":1}}'),
-    ("patch/order_decides contact/half_patched", localize(patch(b'"no/a":1,"y/b":1', b',"y":{}'), (26, 0)), b'{..,"y":{"b":1}}'),
-    ("patch/order_decides", localize(patch(b'"y/b":1,"no/a":1', b',"y":{}'), (26, 0)), OK),
+    ("contact/half_patched", localize(patch(b'"n":{},"n/x":1'), (24, 66)), b'{..,"n":{"x":1}}'),
+    ("contact/half_patched", localize(patch(b'"no/a":1,"y/b":1', b',"y":{}'), (26, 73)), b'{..,"y":{"b":1}}'),
+    ("patch/order_decides", localize(patch(b'"no/a":1,"a/b":1', b',"a":{}'), (26, 73)), b'{..,"a":{"b":1}}'),
     ("pointers/tilde_zero_is_slash contact/tilde_undone_twice", localize(patch(b'"~01":1'), b'{..,"~1":1}'), b'{..,"/":1}'),
     ("pointers/tilde_zero_is_slash", localize(patch(b'"~0a":2', b',"~a":1'), b'{..,"~a":2}'), (28, 4)),
     ("answers/never_judged contact/never_judged", localize(
         patch(b'"name/full":null,"name/components":null', b"," + GIVEN), (28, 14)), b'{..,"name":{}}'),
     ("pointers/prefix_by_bytes contact/prefix_by_bytes", localize(
-        patch(b'"emails/e1":null,"emails/e10":null', b',"emails":{"e1":{"address":"a"},"e10":{"address":"b"}}'), b'{..,"emails":{}}'), (24, 0)),
+        patch(b'"emails/e1":null,"emails/e10":null', b',"emails":{"e1":{"address":"a"},"e10":{"address":"b"}}'), b'{..,"emails":{}}'), (24, 120)),
     ("answers/output_left_dirty laws/first_word_left", localize(patch(b'"uid":null'), (28, 12), room=100), OTHER),
     # repeated names: objects of few members, whose names are compared in pairs, and of more than sixteen, whose names are sorted
     ("json/hash_compared", read(named(b"a!"), OK), (4, 7)),
@@ -90,9 +90,9 @@ DUDS = [
     ("contact/id_as_written", judge(rb'{..,"addresses":{"\u0061":{}}}', OK), (13, 65)),
     ("formats/fraction_of_noughts contact/fraction_of_noughts", judge(b'{..,"updated":"2010-10-10T10:10:10.0Z"}', (13, 53)), OK),
     # localizing
-    ("contact/prefix_missed", localize(patch(b'"name":null,"name/full":"B"', b',"name":{"full":"A"}'), (24, 0)), b"{..}"),
-    ("contact/array_entered", localize(patch(b'"x/0":1', b',"x":[]'), (25, 0)), OK),
-    ("contact/lost_before_array", localize(patch(b'"no/a":1,"x/0":1', b',"x":[]'), (25, 0)), (26, 0)),
+    ("contact/prefix_missed", localize(patch(b'"name":null,"name/full":"B"', b',"name":{"full":"A"}'), (24, 86)), b"{..}"),
+    ("contact/array_entered", localize(patch(b'"x/0":1', b',"x":[]'), (25, 73)), OK),
+    ("contact/lost_before_array", localize(patch(b'"no/a":1,"x/0":1', b',"x":[]'), (25, 82)), (26, 73)),
     ("patch/added_in_text_order contact/unsorted", localize(patch(b'"b":1,"a":2'), b'{..,"a":2,"b":1}'), b'{..,"b":1,"a":2}'),
     ("laws/prefix_comes_after", localize(patch(b'"ab":1,"a":2'), b'{..,"a":2,"ab":1}'), b'{..,"ab":1,"a":2}'),
     ("text/capital_hex", localize(patch(rb'"\u001F":1'), rb'{..,"\u001f":1}'), rb'{..,"\u001F":1}'),
@@ -101,7 +101,7 @@ DUDS = [
     ("contact/room_one_short", localize(patch(b""), b"{..}", room=len(whole(b"{..}"))), (27, len(whole(b"{..}")))),
     ("contact/language_ignored", localize(b'{..,"localizations":{"":{"z":1},"de":{"z":2}}}', b'{..,"z":2}'), b'{..,"z":1}'),
     ("contact/found_halfway", localize(patch(b'"y":{"z":1}'), b'{..,"y":{"z":1}}'), b'{..,"de":{"y":{"z":1}}}'),
-    ("contact/all_own", localize(patch(b'"y/a":1', b',"y":{}'), b'{..,"y":{"a":1}}'), (23, 0)),
+    ("contact/all_own", localize(patch(b'"y/a":1', b',"y":{}'), b'{..,"y":{"a":1}}'), (23, 73)),
     ("contact/second_numbers", localize(b"{..}", (21, 0)), (21, 1)),
     ("contact/second_numbers", localize(patch(b'"kind":5'), (28, 11)), (28, 12)),
     ("answers/inner_place", localize(patch(b'"kind":5'), (28, 11)), (28, 50)),
@@ -114,6 +114,19 @@ DUDS = [
      b'{"uid":"u1","@type":"Card","z":1,"version":"1.0"}'),
     ("text/colon_left_out", localize(patch(b'"z":1'), b'{..,"z":1}'), b'{..,"z"1}'),
     ("text/comma_before_first", localize(patch(b'"z":[1]'), b'{..,"z":[1]}'), b'{..,"z":[,1]}'),
+    # the key at fault
+    ("contact/first_key", localize(patch(b'"c/x":1,"a/x":1'), (26, 74)), (26, 66)),
+    ("contact/first_key", localize(patch(b'"z":1,"c~":1,"b":1,"a~":1'), (22, 85)), (22, 72)),
+    ("contact/largest_key", localize(patch(b'"a/x":1,"c/x":1'), (26, 66)), (26, 74)),
+    ("patch/larger_key", localize(patch(b'"a/x":1,"a!/x":1'), (26, 74)), (26, 66)),
+    ("contact/key_before_number", localize(patch(b'"a/x":1,"x/0":1', b',"x":[]'), (25, 81)), (26, 73)),
+    ("contact/key_before_number", localize(patch(b'"a/x":1,"b":1,"b/c":1'), (24, 74)), (26, 66)),
+    ("contact/place_of_value", localize(patch(b'"a~" : 1'), (22, 66)), (22, 73)),
+    ("contact/place_of_name", localize(patch(b'"a~":1'), (22, 66)), (22, 67)),
+    ("contact/longer_key patch/longer_key", localize(patch(b'"q":1,"q/r":1'), (24, 66)), (24, 72)),
+    ("contact/first_of_pair", localize(patch(b'"q/r":1,"q":1'), (24, 74)), (24, 66)),
+    ("contact/tilde_undone", localize(patch(b'"a~0/x":1,"a~1/x":1'), (26, 66)), (26, 76)),
+    ("contact/tilde_undone", localize(patch(b'"a~1/x":1,"aB/x":1'), (26, 76)), (26, 66)),
     # the program
     ("desk/buffer_one_more", program(b" " * 65537, (34, 0)), (2, 65537)),
     ("desk/long_text_cut desk/cut_by_definition", program(b"{..}" + b" " * 65494, (34, 0)), OK),
@@ -122,9 +135,6 @@ DUDS = [
 ]
 
 UNSEEN = {
-    "contact/largest_key": "the key at fault is in no answer",
-    "contact/first_of_pair": "the key at fault is in no answer",
-    "patch/pair_made_up": "the rows of a clash are in no answer",
     "contact/type_not_chosen": "no line of the table hangs on `@type`",
     "bezinkol/output_unsaid": "an edit of what a contract says, not of a program",
 }

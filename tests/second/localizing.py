@@ -1,4 +1,5 @@
-"""Localizing a second time: the patch of a language is applied to a card; refusals 21 to 28."""
+"""Localizing a second time: the patch of a language is applied to a card; refusals 21 to 28. 22 to 26 name the key
+at fault by the place of its opening quote in the card text."""
 import re
 
 from judging import card_tree, judge
@@ -6,22 +7,22 @@ from reading import ARRAY, NULL, OBJECT, Refused
 
 
 class Node:
-    """A value to be written: its own token, or its brackets and what is inside as (name, name token or None if added, node)."""
+    """A value to be written: its own token, or its brackets and what is inside: by name, or by place in an array, the name token (None if added) and the
+    node."""
 
     def __init__(self, text, value):
         self.kind, self.token = value.kind, text[value.start:value.end]
-        self.inside = [[child.name, text[child.key[0] - 1:child.key[1] + 1], Node(text, child)] for child in value.inside]
-
-    def find(self, name):
-        return next((entry for entry in self.inside if entry[0] == name), None)
+        self.inside = {
+            place if child.name is None else child.name: [text[child.key[0] - 1:child.key[1] + 1], Node(text, child)]
+            for place, child in enumerate(value.inside)}
 
     def written(self):
         if self.kind == ARRAY:
-            return b"[" + b",".join(node.written() for _, _, node in self.inside) + b"]"
+            return b"[" + b",".join(node.written() for _, node in self.inside.values()) + b"]"
         if self.kind == OBJECT:
-            kept = [(token, node) for _, token, node in self.inside if token is not None]
-            added = sorted((name, node) for name, token, node in self.inside if token is None)
-            both = kept + [(quoted(name), node) for name, node in added]
+            kept = [(token, node) for token, node in self.inside.values() if token is not None]
+            added = sorted(name for name, (token, _) in self.inside.items() if token is None)
+            both = kept + [(quoted(name), self.inside[name][1]) for name in added]
             return b"{" + b",".join(token + b":" + node.written() for token, node in both) + b"}"
         return self.token
 
@@ -42,41 +43,46 @@ def walk(start, pointer):
     for part in pointer[:-1]:
         if here.kind != OBJECT:
             return 25 if here.kind == ARRAY else 26
-        entry = here.find(part)
-        if entry is None:
+        if part not in here.inside:
             return 26
-        here = entry[2]
+        here = here.inside[part][1]
     if here.kind != OBJECT:
         return 25 if here.kind == ARRAY else 26
     return here
 
 
-def conditions(start, keys):
-    """All of 22 to 26 that the keys of a patch break. (What a malformed key points to isn't asked: 22 is the smallest.)"""
-    if any(re.search(rb"~(?![01])", key) for key in keys):
-        return {22}
-    pointers = [parts(key) for key in keys]
-    broken = {walk(start, pointer) for pointer in pointers} & {25, 26}
-    if any(pointer[0] == b"localizations" for pointer in pointers):
-        broken.add(23)
-    for i, one in enumerate(pointers):
-        for j, other in enumerate(pointers):
-            if i != j and other[:len(one)] == one:
-                broken.add(24)
-    return broken
+def clashing(pointers):
+    """The keys of all pairs of which one pointer is a prefix of the other. (Every beginning that is as long as some pointer is looked for among them.)"""
+    sizes = {len(pointer) for pointer in pointers}
+    for pointer, key in pointers.items():
+        for size in sizes:
+            if size < len(pointer) and pointer[:size] in pointers:
+                yield from (key, pointers[pointer[:size]])
+
+
+def faults(start, keys):
+    """All of 22 to 26 that the keys of a patch break, each with a key. (What a malformed key points to isn't asked: 22 is the smallest.)"""
+    broken = {(22, key) for key in keys if re.search(rb"~(?![01])", key)}
+    if broken:
+        return broken
+    pointers = {tuple(parts(key)): key for key in keys}
+    assert len(pointers) == len(keys)
+    broken = {(23, key) for pointer, key in pointers.items() if pointer[0] == b"localizations"}
+    broken |= {(24, key) for key in clashing(pointers)}
+    walks = ((walk(start, pointer), key) for pointer, key in pointers.items())
+    return broken | {(end, key) for end, key in walks if end in (25, 26)}
 
 
 def put(start, key, patch):
     """One entry of a patch: sets or removes one property."""
     pointer = parts(key)
     holder, name = walk(start, pointer), pointer[-1]
-    entry = holder.find(name)
     if patch.kind == NULL:
-        holder.inside = [kept for kept in holder.inside if kept is not entry]
-    elif entry:
-        entry[2] = patch
+        holder.inside.pop(name, None)
+    elif name in holder.inside:
+        holder.inside[name][1] = patch
     else:
-        holder.inside.append([name, None, patch])
+        holder.inside[name] = [None, patch]
 
 
 def localized(text, language, words, room):
@@ -87,10 +93,12 @@ def localized(text, language, words, room):
     if chosen is None:
         raise Refused(21, 0)
     start = Node(text, root)
-    start.inside = [entry for entry in start.inside if entry[0] != b"localizations"]
-    broken = conditions(start, [entry.name for entry in chosen.inside])
+    start.inside.pop(b"localizations")
+    quotes = {entry.name: entry.key[0] - 1 for entry in chosen.inside}
+    broken = faults(start, quotes)
     if broken:
-        raise Refused(min(broken), 0)
+        number, key = min(broken)  # the smallest number first, over all entries; then the smallest key, decoded, in byte order
+        raise Refused(number, quotes[key])
     for entry in chosen.inside:
         put(start, entry.name, Node(text, entry))
     out = start.written()

@@ -1,4 +1,4 @@
-"""The inputs of the rulings (AMB-01 to AMB-52) and the specimens of the rules paper, each with the answer that we take.
+"""The inputs of the rulings (AMB-01 to AMB-52, and those on the key at fault) and the specimens of the rules paper, each with the answer that we take.
 
 `{..` at the start of a text stands for `{` and the three mandatory members. Wanted is OK, (number, second) or the bytes of the localized card.
 The table has a row for each value that a text may have, the output is as long as the text, the language is `de`, unless stated.
@@ -204,39 +204,39 @@ RULINGS = [
     localize(rb'{..,"name":{"full":"Ann"},"localizations":{"de":{}}}', (7, 8), words=42),
     localize(rb'{..,"name":{"full":"Ann"},"localizations":{"de":{}}}', rb'{..,"name":{"full":"Ann"}}', words=48),
     # AMB-34 22 looks at decoded keys, of the asked language only
-    localize(rb'{..,"localizations":{"de":{"\u007e":1}}}', (22, 0)),
+    localize(rb'{..,"localizations":{"de":{"\u007e":1}}}', (22, 66)),
     localize(rb'{..,"localizations":{"de":{"~\u0031":1}}}', rb'{..,"/":1}'),
     localize(rb'{..,"localizations":{"fr":{"~":1},"de":{}}}', rb'{..}'),
-    localize(rb'{..,"localizations":{"de":{"a~":null}}}', (22, 0)),
-    localize(rb'{..,"localizations":{"de":{"~~0":1}}}', (22, 0)),
-    localize(rb'{..,"localizations":{"de":{"~/x":1}}}', (22, 0)),
+    localize(rb'{..,"localizations":{"de":{"a~":null}}}', (22, 66)),
+    localize(rb'{..,"localizations":{"de":{"~~0":1}}}', (22, 66)),
+    localize(rb'{..,"localizations":{"de":{"~/x":1}}}', (22, 66)),
     # AMB-35 The pointers `localizations`, `localizations/x`, `localizations~1x`, `localizations/`
-    localize(rb'{..,"localizations":{"de":{"localizations/x":null}}}', (23, 0)),
+    localize(rb'{..,"localizations":{"de":{"localizations/x":null}}}', (23, 66)),
     localize(rb'{..,"localizations":{"de":{"localizations~1x":1}}}', rb'{..,"localizations/x":1}'),
-    localize(rb'{..,"localizations":{"de":{"localizations/":1}}}', (23, 0)),
-    localize(rb'{..,"localizations":{"de":{"/localizations":1}}}', (26, 0)),
+    localize(rb'{..,"localizations":{"de":{"localizations/":1}}}', (23, 66)),
+    localize(rb'{..,"localizations":{"de":{"/localizations":1}}}', (26, 66)),
     # AMB-36 Prefix pairs: empty parts, nulls, absent targets
-    localize(rb'{..,"name":{"full":"Ann"},"localizations":{"de":{"name":null,"name/full":null}}}', (24, 0)),
-    localize(rb'{..,"localizations":{"de":{"":1,"/x":2}}}', (24, 0)),
+    localize(rb'{..,"name":{"full":"Ann"},"localizations":{"de":{"name":null,"name/full":null}}}', (24, 88)),
+    localize(rb'{..,"localizations":{"de":{"":1,"/x":2}}}', (24, 66)),
     localize(rb'{..,"localizations":{"de":{"":1,"x":2}}}', rb'{..,"":1,"x":2}'),
-    localize(rb'{..,"localizations":{"de":{"a":1,"a/":2}}}', (24, 0)),
-    localize(rb'{..,"localizations":{"de":{"q":null,"q/r":null}}}', (24, 0)),
+    localize(rb'{..,"localizations":{"de":{"a":1,"a/":2}}}', (24, 66)),
+    localize(rb'{..,"localizations":{"de":{"q":null,"q/r":null}}}', (24, 66)),
     localize(rb'{..,"localizations":{"de":{"a":1,"\u0061":2}}}', (4, 72)),
     # AMB-37 "At each part, the last too, a value reached that is an array is no. 25"
     localize(rb'{..,"name":{"full":"Ann","components":[{"kind":"given","value":"Ann"}]},"localizations":{"de":{"name/components":null}}}',
     rb'{..,"name":{"full":"Ann"}}'),
-    localize(rb'{..,"name":{"full":"Ann","components":[{"kind":"given","value":"Ann"}]},"localizations":{"de":{"name/components/0":1}}}', (25, 0)),
+    localize(rb'{..,"name":{"full":"Ann","components":[{"kind":"given","value":"Ann"}]},"localizations":{"de":{"name/components/0":1}}}', (25, 134)),
     localize(rb'{..,"x":[],"localizations":{"de":{"x":1}}}', rb'{..,"x":1}'),
-    localize(rb'{..,"name":{"full":"Ann","components":[{"kind":"given","value":"Ann"}]},"localizations":{"de":{"name/components/-":1}}}', (25, 0)),
+    localize(rb'{..,"name":{"full":"Ann","components":[{"kind":"given","value":"Ann"}]},"localizations":{"de":{"name/components/-":1}}}', (25, 134)),
     # AMB-38 Null where the parent is missing, is a leaf or an array
-    localize(rb'{..,"localizations":{"de":{"nope/x":null}}}', (26, 0)),
-    localize(rb'{..,"name":{"full":"Ann"},"localizations":{"de":{"name/full/x":null}}}', (26, 0)),
-    localize(rb'{..,"x":[],"localizations":{"de":{"x/0":null}}}', (25, 0)),
+    localize(rb'{..,"localizations":{"de":{"nope/x":null}}}', (26, 66)),
+    localize(rb'{..,"name":{"full":"Ann"},"localizations":{"de":{"name/full/x":null}}}', (26, 88)),
+    localize(rb'{..,"x":[],"localizations":{"de":{"x/0":null}}}', (25, 73)),
     localize(rb'{..,"name":{"full":"Ann"},"localizations":{"de":{"name/x":null}}}', rb'{..,"name":{"full":"Ann"}}'),
     # AMB-39 25 of one entry against 26 of another
-    localize(rb'{..,"x":[],"localizations":{"de":{"nope/a":1,"x/0":1}}}', (25, 0)),
-    localize(rb'{..,"x":[],"localizations":{"de":{"x/0":1,"nope/a":1}}}', (25, 0)),
-    localize(rb'{..,"x":{"y":1},"localizations":{"de":{"x/y/z/0":1}}}', (26, 0)),
+    localize(rb'{..,"x":[],"localizations":{"de":{"nope/a":1,"x/0":1}}}', (25, 84)),
+    localize(rb'{..,"x":[],"localizations":{"de":{"x/0":1,"nope/a":1}}}', (25, 73)),
+    localize(rb'{..,"x":{"y":1},"localizations":{"de":{"x/y/z/0":1}}}', (26, 78)),
     # AMB-40 27 before 28
     localize(rb'{..,"localizations":{"de":{"uid":null}}}', (27, 32), room=0),
     localize(rb'{..,"localizations":{"de":{"uid":null}}}', (28, 12), room=43),
@@ -252,7 +252,7 @@ RULINGS = [
     localize(rb'{..,"name":{"full":"Ann"},"localizations":{"de":{}}}', rb'{..,"name":{"full":"Ann"}}', room=65),
     # AMB-44 How names are spelled in the output
     localize(rb'{..,"\u0061":1,"localizations":{"de":{"a":2}}}', rb'{..,"\u0061":2}'),
-    localize(rb'{..,"localizations":{"de":{"\u0061\/\u0009":2}}}', (26, 0)),
+    localize(rb'{..,"localizations":{"de":{"\u0061\/\u0009":2}}}', (26, 66)),
     localize(rb'{..,"localizations":{"de":{"\u0061~1\u0009\u007f\u001F":2}}}', b'{..,"a/\\t\x7f\\u001f":2}'),
     localize(rb'{..,"localizations":{"de":{"x":{"\u0061":1}}}}', rb'{..,"x":{"\u0061":1}}'),
     # AMB-45 The order of added members
@@ -262,11 +262,11 @@ RULINGS = [
     localize(rb'{..,"localizations":{"de":{"a!":1,"a":2}}}', rb'{..,"a":2,"a!":1}'),
     # AMB-46 The key "" and the key "/"
     localize(rb'{..,"localizations":{"de":{"":1}}}', rb'{..,"":1}'),
-    localize(rb'{..,"localizations":{"de":{"/":1}}}', (26, 0)),
+    localize(rb'{..,"localizations":{"de":{"/":1}}}', (26, 66)),
     localize(rb'{..,"":{},"localizations":{"de":{"/":1}}}', rb'{..,"":{"":1}}'),
     localize(rb'{..,"a":{},"localizations":{"de":{"a/":1}}}', rb'{..,"a":{"":1}}'),
     # AMB-47 No. 25 against RFC 9553's own text and example
-    localize(rb'{..,"name":{"components":[{"kind":"given","value":"Ann"}]},"localizations":{"de":{"name/components/0/phonetic":"x"}}}', (25, 0)),
+    localize(rb'{..,"name":{"components":[{"kind":"given","value":"Ann"}]},"localizations":{"de":{"name/components/0/phonetic":"x"}}}', (25, 121)),
     # AMB-48 Where 5 can come from in 28
     localize(grown(b'', b'[]'), (28, 5)),
     localize(grown(b'', b'""'), OK),
@@ -288,6 +288,28 @@ RULINGS = [
     read(b'"\\\xc3\xa9"', (2, 2)),
     read(b'"\\u12\xff4"', (2, 5)),
     read(b'"\\uD800\\\xc3\xa9"', (3, 1)),
+    # The key at fault: the place of its opening quote in the card text
+    localize(rb'{..,"localizations":{"de":{ "z" : 1 , "a~" : 2}}}', (22, 77)),
+    localize(b'{..,"localizations":{"de":{\n"a~":1,"b~":1}}}', (22, 67)),
+    localize(rb'{"localizations":{"de":{"a~":1}},"@type":"Card","version":"1.0","uid":"u1"}', (22, 24)),
+    localize(rb'{..,"localizations":{"fr":{"a~":1},"de":{"b~":1}}}', (22, 80)),
+    localize(rb'{..,"localizations":{"fr":{"a~":1},"de":{"b~":1}}}', (22, 66), language=rb'fr'),
+    localize(rb'{..,"localizations":{"de":{"\u0062~":1,"a~":1}}}', (22, 78)),
+    localize(rb'{..,"localizations":{"de":{"b~":1,"\u0061~":1}}}', (22, 73)),
+    # the number first, over all entries; then the key
+    localize(rb'{..,"localizations":{"de":{"a":1,"a/b":1,"localizations":1,"z~":1}}}', (22, 98)),
+    localize(rb'{..,"localizations":{"de":{"a":1,"a/b":1,"localizations/x":1,"localizations/fr":1}}}', (23, 100)),
+    localize(rb'{..,"localizations":{"de":{"localizations/fr":null,"localization\u0073":null}}}', (23, 90)),
+    localize(rb'{..,"x":[],"localizations":{"de":{"a/b/c":1,"x/1":1,"x/0":1}}}', (25, 91)),
+    # of clashing pairs all keys count, and no search ends at the first pair
+    localize(rb'{..,"localizations":{"de":{"a/b/c":1,"a/b":1,"a":1}}}', (24, 84)),
+    localize(rb'{..,"localizations":{"de":{"a/b":1,"a!":1,"a":1}}}', (24, 81)),
+    localize(rb'{..,"localizations":{"de":{"b/c":1,"b/c/d":1,"b!":1,"b!/x":1}}}', (24, 84)),
+    # keys are ordered by their bytes, decoded: neither as written, nor part by part, nor with `~0` and `~1` undone
+    localize(rb'{..,"localizations":{"de":{"\u0061/x":1,"]/x":1}}}', (26, 79)),
+    localize(rb'{..,"localizations":{"de":{"a/b/x":1,"a!/x":1}}}', (26, 76)),
+    localize(rb'{..,"localizations":{"de":{"a~1/x":1,"aB/x":1}}}', (26, 76)),
+    localize(rb'{..,"localizations":{"de":{"a/b":1,"a/":1,"/a":1}}}', (26, 81)),
 ]
 
 SPECIMENS = [
@@ -319,10 +341,10 @@ SPECIMENS = [
     localize(
         b'{..,"emails":{},"localizations":{"de":{"emails/e1":{"address":"a"},"emails/e10":{"address":"b"}}}}',
         b'{..,"emails":{"e1":{"address":"a"},"e10":{"address":"b"}}}'),
-    localize(b'{..,"name":{"full":"Ann"},"localizations":{"de":{"name":{"full":"A"},"name/full":"B"}}}', (24, 0)),
-    localize(b'{..,"name":{"full":"Ann"},"localizations":{"de":{"name/full":"B","name":{"full":"A"}}}}', (24, 0)),
-    localize(b'{..,"name":{"components":[{"kind":"given","value":"A"}]},"localizations":{"de":{"name/components/0":1}}}', (25, 0)),
-    localize(b'{..,"name":{"full":"Ann"},"localizations":{"de":{"name/full/x":1}}}', (26, 0)),
+    localize(b'{..,"name":{"full":"Ann"},"localizations":{"de":{"name":{"full":"A"},"name/full":"B"}}}', (24, 88)),
+    localize(b'{..,"name":{"full":"Ann"},"localizations":{"de":{"name/full":"B","name":{"full":"A"}}}}', (24, 104)),
+    localize(b'{..,"name":{"components":[{"kind":"given","value":"A"}]},"localizations":{"de":{"name/components/0":1}}}', (25, 119)),
+    localize(b'{..,"name":{"full":"Ann"},"localizations":{"de":{"name/full/x":1}}}', (26, 88)),
     localize(b'{..,"localizations":{"de":{"uid":null}}}', (28, 12)),
     localize(b'{..,"x":[1, 2],"localizations":{"de":{}}}', b'{..,"x":[1,2]}'),
     localize(

@@ -56,18 +56,18 @@ fn inner_on_paper(r: CardRefusal) -> Paper
     }
 }
 
-// The refusal of localizing on paper: 21 to 28, or that of the card that was given.
+// The refusal of localizing on paper: 21 to 28, of which 22 to 26 have the place of the key; or that of the card that was given.
 fn local_on_paper(r: LocalRefusal) -> Paper
     ensures { λ p. ⌜ p ≡ refusedLocal r ⌝ }
 {
     match r {
         LocalRefusal::Given(c) => card_on_paper(c),
         LocalRefusal::NoLanguage => line(21, 0, 0),
-        LocalRefusal::BadKey => line(22, 0, 0),
-        LocalRefusal::OwnLocalizations => line(23, 0, 0),
-        LocalRefusal::Clash => line(24, 0, 0),
-        LocalRefusal::InArray => line(25, 0, 0),
-        LocalRefusal::NoObject => line(26, 0, 0),
+        LocalRefusal::BadKey(p) => line(22, p, 0),
+        LocalRefusal::OwnLocalizations(p) => line(23, p, 0),
+        LocalRefusal::Clash(p) => line(24, p, 0),
+        LocalRefusal::InArray(p) => line(25, p, 0),
+        LocalRefusal::NoObject(p) => line(26, p, 0),
         LocalRefusal::Short(n) => line(27, n, 0),
         LocalRefusal::Inner(c) => inner_on_paper(c),
     }

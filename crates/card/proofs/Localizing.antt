@@ -16,11 +16,12 @@ use lib.Dec.{ltb}
 use borrow.Author.Tests.{ltb-true, ltb-false}
 use borrow.Rule.Slice.PartMut.{midOf, putMid}
 use Rattle.json.proofs.Kept.{rest-cleared, rows-stay}
-use Rattle.text.specs.Limits.{base}
+use Rattle.text.specs.Limits.{base, loose}
 use Rattle.text.specs.Tree.{Forest}
 use Rattle.text.specs.Doc.{Name, docOf}
 use Rattle.contact.specs.Verdict.{Judged, passed, failed, judgedOf, answerOfJudged, tableOfJudged}
 use Rattle.contact.specs.Localize.{Outcome, done, denied, byJudge, byRoom, localizedDoc, localizedOf, answerOfOutcome, tableOfOutcome, outputOfOutcome}
+use Rattle.contact.specs.Places.{keyPlace}
 use Rattle.contact.specs.Judging.{Judges}
 use Rattle.contact.specs.Contract.{Localizes}
 use Rattle.contact.specs.declared.Verdict.{Verdict}
@@ -31,6 +32,7 @@ use Rattle.contact.specs.declared.LocalRefusal.the-variants.{Given, Short, Inne
 use Rattle.contact.specs.declared.Localized.{Localized}
 use Rattle.contact.specs.declared.Localized.the-variants.{Written, Denied}
 use Rattle.contact.proofs.Patching.Public.{given-iff, passed-so}
+use Rattle.contact.proofs.Patching.Readback.{card-writable, judged-loose}
 use Rattle.contact.proofs.Patching.Contract.{paper-follows}
 use Rattle.contact.proofs.Patching.Steps.{judged-answer, short-so, room-so}
 use Rattle.card.specs.Localizing.{judgedOutcome, Composed, Made, Yields, BeginsWith, Answers}
@@ -41,18 +43,22 @@ use Rattle.patch.specs.declared.compose.Attempt.the-variants.{Bytes, Refused}
 use Rattle.patch.specs.Drafts.{Draft, draft, refusal, draftOf, draftOutcome, CardIn, Drafted, MakesFor}
 use Rattle.patch.specs.declared.compose.Attempt.{Attempt}
 use Rattle.patch.proofs.Drafting.Drafts.{localized-draft}
+use Rattle.patch.proofs.Drafting.Sayable.{Sayable, draft-sayable}
 
 -- ---- what judging left
 
-pub card-there : {t lent table : List ℕ} {n : ℕ} → JudgesRows t lent (Passed n) table → length table ≡ length lent → (f : Forest) × CardIn t table f
+pub card-there : {t lent table : List ℕ} {n : ℕ} → JudgesRows base t lent (Passed n) table → length table ≡ length lent → (f : Forest) × CardIn t table f
 card-there {t} {lent} j long =
     let p = passed-rows j in
     (p .tree, record { passes = rw long (p .is); rows = rows-stay (p .tree) lent (p .room) (p .rows) .stands })
 
 -- ---- what was written of it
 
--- a draft that has room is judged; one that has none is 27
-module _ (words : ℕ) (t old new : List ℕ) (is : new ≡ sets old 0 t) where
+-- a draft that has room is judged, without comparing its names; one that has none is 27
+module _ (words : ℕ) (t old new : List ℕ) (is : new ≡ sets old 0 t) (said : Sayable (draft t)) where
+  alike : judgedOf (loose base) words t ≡ judgedOf base words t
+  alike = let (x, e, w) = said in rw e (judged-loose base words x w)
+
   front : length t ≤ length old → take (length t) new ≡ t
   front h = rw (is, sets-eq t old 0 (omega (arith, h))) (take-append-seam t _)
 
@@ -63,40 +69,40 @@ module _ (words : ℕ) (t old new : List ℕ) (is : new ≡ sets old 0 t) where
       let room = ltb-false (length old) (length t) h in
       record {
         fits = omega (arith, room, ap length is ∙ length-sets old 0 t);
-        is = rw (front room) (room-so base words (length old) t room);
+        is = rw (front room, alike) (room-so base words (length old) t room);
       }
 
-made-of : (words : ℕ) (d : Draft) (old new : List ℕ) (r : Attempt) → Drafted d old new r
+made-of : (words : ℕ) (d : Draft) (old new : List ℕ) (r : Attempt) → Sayable d → Drafted d old new r
     → Made words (length old) (draftOutcome base words (length old) d) new r
-made-of words (refusal q) old new r (e, same) = rw e refl
-made-of words (draft t) old new r (e, is) = rw e (made-draft words t old new is (ltb (length old) (length t)) refl)
+made-of words (refusal q tried) old new r said (e, same) = rw e refl
+made-of words (draft t) old new r said (e, is) = rw e (made-draft words t old new is said (ltb (length old) (length t)) refl)
 
 -- ---- 28
 
 module _ {t lent table : List ℕ} (room : ℕ) where
-  judged-passed : {rows n : ℕ} → Judges base t lent (Passed rows) table → length t ≡ n
+  judged-passed : {rows n : ℕ} → Judges (loose base) t lent (Passed rows) table → length t ≡ n
       → Yields (length lent) (judgedOutcome (length lent) room t) (Written rows n) table
   unfolding byJudge answerOfOutcome tableOfOutcome tableOfJudged
   judged-passed {rows} {n} j long =
-      go (judgedOf base (length lent) t) (judged-answer (Passed rows) (judgedOf base (length lent) t) (j .answered)) (j .table)
+      go (judgedOf (loose base) (length lent) t) (judged-answer (Passed rows) (judgedOf (loose base) (length lent) t) (j .answered)) (j .table)
     where
       go : (o : Judged) → Passed rows ≡ answerOfJudged o → table ≡ tableOfJudged (length lent) o
           → Yields (length lent) (byJudge base (length lent) room t o) (Written rows n) table
       go (passed f) e k = record { answer = cc; rows = k }
       go (failed r) e k = let z : _≡_ {A = ℕ} 0 1 = cc in absurd (omega arith)
 
-  judged-failed : {r : CardRefusal} → Judges base t lent (Failed r) table
+  judged-failed : {r : CardRefusal} → Judges (loose base) t lent (Failed r) table
       → Yields (length lent) (judgedOutcome (length lent) room t) (Denied (Inner r)) table
   unfolding byJudge answerOfOutcome tableOfOutcome tableOfJudged
   judged-failed {r} j =
-      go (judgedOf base (length lent) t) (judged-answer (Failed r) (judgedOf base (length lent) t) (j .answered)) (j .table)
+      go (judgedOf (loose base) (length lent) t) (judged-answer (Failed r) (judgedOf (loose base) (length lent) t) (j .answered)) (j .table)
     where
       go : (o : Judged) → Failed r ≡ answerOfJudged o → table ≡ tableOfJudged (length lent) o
           → Yields (length lent) (byJudge base (length lent) room t o) (Denied (Inner r)) table
       go (passed f) e k = let z : _≡_ {A = ℕ} 0 1 = cc in absurd (omega arith)
       go (failed q) e k = record { answer = cc; rows = k }
 
-  pub judged-by : (v : Verdict) {n : ℕ} → Judges base t lent v table → length t ≡ n
+  pub judged-by : (v : Verdict) {n : ℕ} → Judges (loose base) t lent v table → length t ≡ n
       → Yields (length lent) (judgedOutcome (length lent) room t) (byVerdict v n) table
   judged-by (Passed rows) j long = judged-passed j long
   judged-by (Failed r) j long = judged-failed j
@@ -108,7 +114,7 @@ denied-so : {words : ℕ} {o : Outcome} {r : LocalRefusal} {table : List ℕ} (o
 unfolding answerOfOutcome tableOfOutcome
 denied-so out e zeros = rw e (record { yields = record { answer = refl; rows = rw sub-zero zeros }; begins = tt })
 
-pub given-so : {t lent table : List ℕ} (lang : Name) (out : List ℕ) {r : CardRefusal} → JudgesRows t lent (Failed r) table
+pub given-so : {t lent table : List ℕ} (lang : Name) (out : List ℕ) {r : CardRefusal} → JudgesRows base t lent (Failed r) table
     → Answers (length lent) (localizedOf base (length lent) (length out) t lang) (Denied (Given r)) table out
 given-so {t} {lent} lang out {r} j =
     let (is, zeros) = failed-rows j in denied-so out (given-iff base (length lent) (length out) t lang r .1 is) zeros
@@ -116,7 +122,7 @@ given-so {t} {lent} lang out {r} j =
 judged-so : {words room n : ℕ} {o : Outcome} {r : Localized} {table out : List ℕ} → Composed words room o out n
     → Yields words (judgedOutcome words room (take n out)) r table → Answers words o r table out
 unfolding byJudge
-judged-so {words} {room} {n} {o} {r} {table} {out} c j = rw (c .is) (record { yields = j; begins = go (judgedOf base words (take n out)) })
+judged-so {words} {room} {n} {o} {r} {table} {out} c j = rw (c .is) (record { yields = j; begins = go (judgedOf (loose base) words (take n out)) })
   where
     long : length (take n out) ≡ n
     long = length-take-le n out (c .fits)
@@ -126,18 +132,21 @@ judged-so {words} {room} {n} {o} {r} {table} {out} c j = rw (c .is) (record { yi
     go (failed q) = tt
 
 -- a card that judging let pass, and what was made of it
-module _ {t lent table : List ℕ} {count : ℕ} (j : JudgesRows t lent (Passed count) table) (long : length table ≡ length lent) (old : List ℕ)
+module _ {t lent table : List ℕ} {count : ℕ} (j : JudgesRows base t lent (Passed count) table) (long : length table ≡ length lent) (old : List ℕ)
     (lang : Name) where
   abbrev room : ℕ
   room = length old
 
   abbrev outcomeOf : Forest → Outcome
-  outcomeOf f = localizedDoc base (length table) room (docOf t f) lang
+  outcomeOf f = localizedDoc base (length table) room (keyPlace t f lang) (docOf t f) lang
 
   made-for : (out : List ℕ) (r : Attempt) → MakesFor t table lang old out r → (f : Forest) → CardIn t table f
       → Made (length table) room (outcomeOf f) out r
   made-for out r h f k =
-      rw (localized-draft base (length table) room (docOf t f) lang) (made-of (length table) (draftOf (docOf t f) lang) old out r (h f k))
+      let place = keyPlace t f lang in
+      let sayable = draft-sayable place (docOf t f) lang (card-writable base refl (length table) t f (k .passes)) in
+      rw (localized-draft base (length table) room place (docOf t f) lang)
+      (made-of (length table) (draftOf place (docOf t f) lang) old out r sayable (h f k))
 
   -- the same of the outcome for the text
   answers-as : (f : Forest) → CardIn t table f → {r : Localized} {rows out : List ℕ} → Answers (length table) (outcomeOf f) r rows out

@@ -3,16 +3,16 @@ use Prim.Native.Nat.{ℕ, _≤_}
 use mathlib.Core.Path.{_≡_}
 use mathlib.Core.List.{List}
 use lib.ListN.{length, take}
-use Rattle.text.specs.Limits.{base}
+use Rattle.text.specs.Limits.{base, loose}
 use Rattle.contact.specs.Verdict.{judgedOf}
 use Rattle.contact.specs.Localize.{Outcome, done, denied, byJudge, answerOfOutcome, tableOfOutcome}
 use Rattle.contact.specs.declared.Localized.{Localized}
 use Rattle.patch.specs.declared.compose.Attempt.{Attempt}
 use Rattle.patch.specs.declared.compose.Attempt.the-variants.{Bytes, Refused}
 
--- what becomes of a text that was written: condition 28
+-- what becomes of a text that was written: condition 28. It is judged without comparing names, since what was written has none twice in an object
 abbrev pub judgedOutcome : (words room : ℕ) → List ℕ → Outcome
-judgedOutcome words room text = byJudge base words room text (judgedOf base words text)
+judgedOutcome words room text = byJudge base words room text (judgedOf (loose base) words text)
 
 -- the outcome is that of judging the first n bytes of the output, for a table of so many words
 pub record Composed (words room : ℕ) (o : Outcome) (out : List ℕ) (n : ℕ) : Type 0 where

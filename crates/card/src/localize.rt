@@ -1,6 +1,6 @@
 // Localizing (docs/RULES.md, 6): a card text and a language become the localized card and its rows, or a refusal.
-use crate::judge::judge;
 use crate::judge::judge_kept;
+use crate::judge::judge_loose;
 use answers::written::by_verdict;
 use answers::written::bytes_used;
 use contact::LocalRefusal;
@@ -17,12 +17,12 @@ ghost use Rattle.contact.specs.Localize.{localizedOf};
 ghost use Rattle.contact.specs.Contract.{Localizes};
 ghost use Rattle.card.specs.Localizing.{judgedOutcome, Yields, Answers};
 
-// 28, or the rows: the first n bytes of the output are judged as any text is.
+// 28, or the rows: the first n bytes of the output are judged. What was written has no name twice in an object, so its names aren't compared.
 fn judge_written(out: &[u8], n: usize, table: &mut [u32]) -> Localized
     requires { ⌜ n ≤ length (now out) ⌝ }
     ensures { λ r. ⌜ ((room : ℕ) → Yields (length (now (table .entry))) (judgedOutcome (length (now (table .entry))) room (take n (now (out .entry)))) r (now (table .exit))) ⌝ }
 {
-    by_verdict(judge(&out[..n], table), n)
+    by_verdict(judge_loose(&out[..n], table), n)
 }
 
 // All but clearing the output: conditions 1 to 14 on the card, 21 to 27 as it is written, and 28 on what is written.

@@ -2,7 +2,7 @@
 --     Sheet         the refusals and the lines of the sheet
 --     Reading       demand 2
 --     Localizing    demand 3
---     AnyOrder      judging, of the entries of a PatchObject in another order
+--     AnyOrder      judging and localizing, of the entries of a PatchObject in another order
 -- Assumes nothing.
 pub mod Sheet
 pub mod Reading
@@ -20,7 +20,6 @@ use Rattle.laws.proofs.Orders.{before-earlier}
 use Rattle.text.specs.Limits.{Limits, rowWords, base}
 use Rattle.text.specs.Tree.{Forest, size, rowsOf}
 use Rattle.text.specs.Reader.{Read, good, bad}
-use Rattle.text.specs.Grammar.{rootOf}
 use Rattle.text.specs.declared.Paper.{Paper}
 use Rattle.text.specs.Sheet.{numbers}
 use Rattle.text.specs.Whole.{wholeOf, sheetOf, tableOf}
@@ -33,6 +32,7 @@ use Rattle.text.proofs.Rows.{row-filled, one-value}
 use Rattle.text.proofs.Promise.{rows-length, whole-good}
 use Rattle.contact.specs.Verdict.{Judged, passed, failed, judgedOf, sheetOfJudged, tableOfJudged, paperOfVerdict}
 use Rattle.contact.specs.Localize.{Outcome, done, denied, localizedOf, sheetOfOutcome, tableOfOutcome, outputOfOutcome, answerOfOutcome, paperOfLocalized}
+use Rattle.contact.specs.Places.{keyPlace}
 use Rattle.contact.specs.Services.{Call, read, judge, localize, wordsOf, roomOf, leaves, served}
 use Rattle.contact.specs.Demands.{Lines, Ends, acceptance, refusal, Demands}
 use Rattle.contact.proofs.Judging.{judging, read-documents}
@@ -43,12 +43,12 @@ use Rattle.contact.proofs.Patching.Start.{patch-iff}
 use Rattle.contact.proofs.Patching.Ways.{find-iff}
 use Rattle.contact.proofs.Patching.Asked.{one-asking}
 use Rattle.contact.proofs.Patching.Refused.{accepted-iff}
-use Rattle.contact.proofs.Patching.Together.{order-of-texts}
-use Rattle.contact.proofs.Patching.Contract.{one-outcome, one-order, output-fits}
+use Rattle.contact.proofs.Patching.Places.{key-places, key-of-place}
+use Rattle.contact.proofs.Patching.Contract.{one-outcome, output-fits}
 use Rattle.contact.proofs.Patching.Readback.{passed-text}
 use Rattle.contact.proofs.Demands.Sheet.{OnLine, on-line, text-line, card-line, local-line}
 use Rattle.contact.proofs.Demands.Reading.{card-passed, passed-card, read-passes, read-rows, read-describes, read-words, read-long, read-fault, read-short, judge-unread, judge-passes, judge-rows, judge-offends}
-use Rattle.contact.proofs.Demands.AnyOrder.{reordered-only, order-card, order-number}
+use Rattle.contact.proofs.Demands.AnyOrder.{order-number, order-served, order-allowed}
 use Rattle.contact.proofs.Demands.Localizing.{of-doc, localize-own, localize-patched, localize-accepted, localize-would, localize-refused, localize-key, refused-answer, localize-again, localize-room, localize-inner}
 
 -- ---- demand 1
@@ -94,10 +94,10 @@ module _ (L : Limits) (unique : L .unique ≡ true) where
       go (denied r) e = refused-ends (localize t lang words room) (local-line r)
       go (done text g) e =
           let (f, pass) = passed-text L words room unique t lang (done text g) e (λ r z. let n : _≡_ {A = ℕ} 0 1 = cc in omega arith) in
-          let a = accepted-iff L words room (docOf t f) lang text g .0 (of-doc L unique words room t lang f pass (done text g) e) in
+          let a = accepted-iff L words room (keyPlace t f lang) (docOf t f) lang text g .0 (of-doc L unique words room t lang f pass (done text g) e) in
           let c = passed-card L words text g (a .accepted .reads) in
           accepted-ends (localize t lang words room) (rowsOf g) text (size g) (rows-length g) (rows-fit words g (c .readable .enough))
-          (output-fits L words room (docOf t f) lang text g (of-doc L unique words room t lang f pass (done text g) e))
+          (output-fits L words room (keyPlace t f lang) (docOf t f) lang text g (of-doc L unique words room t lang f pass (done text g) e))
 
   all-ends : (c : Call) → Ends c (served L c)
   all-ends (read t words) = read-ends t words
@@ -138,20 +138,15 @@ module _ (L : Limits) (unique : L .unique ≡ true) where
     localizing = record {
       own = λ t lang words room. localize-own L unique words room t lang;
       order-judged = λ t u lang words f r o. order-number L words t u lang f r o;
-      any-order = λ t u lang words room f c o.
-          let g = rootOf (o .derives) in
-          let d = order-card L words t u lang f c o in
-          let only = reordered-only L words t u lang f (c .readable) o in
-          let e = order-of-texts L words room t u lang f g (card-passed L words t f c) (card-passed L words u g d) only in rw e;
-      any-order-allowed = λ t u lang words room f c o a b x y n m.
-          let g = rootOf (o .derives) in
-          let d = order-card L words t u lang f c o in
-          one-order t u f g (card-passed L words t f c) (card-passed L words u g d) (reordered-only L words t u lang f (c .readable) o);
+      any-order = λ t u lang words room f c o. order-served L unique words room t u lang f c o;
+      any-order-allowed = λ t u lang words room f c o. order-allowed L unique words room t u lang f c o;
       patched = λ t lang words room f c. localize-patched L unique words room t lang f (card-passed L words t f c);
       accepted = λ t lang words room f c. localize-accepted L unique words room t lang f (card-passed L words t f c);
       refused = λ t lang words room f c. localize-refused L unique words room t lang f (card-passed L words t f c);
       refused-answer = λ t lang words room f c. refused-answer L unique words room t lang f (card-passed L words t f c);
-      key-at-fault = λ t lang words room f c. localize-key L unique words room t lang f (card-passed L words t f c);
+      key-at-fault = λ t lang words room f c. localize-key L unique words room t lang f (card-passed L words t f c) c;
+      key-places = λ t lang words f c. key-places L unique words t f c lang;
+      key-of-place = λ t lang words f c. key-of-place L unique words t f c lang;
       language = patch-iff;
       keys = λ key. key-iff key;
       asking = λ ms es fs x y. one-asking x y;

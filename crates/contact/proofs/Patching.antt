@@ -24,6 +24,7 @@ pub mod Start
 pub mod Steps
 pub mod Entering
 pub mod Refused
+pub mod Places
 pub mod Public
 pub mod Fine
 pub mod Together

@@ -93,6 +93,11 @@ pub data BreaksWith (d : Doc) (ms : Members) : (number : ℕ) → (key : Name) �
 abbrev pub Applicable : Doc → Members → Type 0
 Applicable d ms = (number : ℕ) (key : Name) → ¬ BreaksWith d ms number key
 
+-- of the keys that break the condition of this number the key is the smallest in byte order
+pub record SmallestKey (d : Doc) (ms : Members) (number : ℕ) (key : Name) : Type 0 where
+  pub breaks : BreaksWith d ms number key
+  pub no-earlier : (other : Name) → BreaksWith d ms number other → ¬ Earlier other key
+
 -- the smallest number that is broken, and of the keys that break it the smallest in byte order
 pub record FirstBroken (d : Doc) (ms : Members) (number : ℕ) (key : Name) : Type 0 where
   pub breaks : BreaksWith d ms number key
@@ -122,21 +127,23 @@ pub data LeftOutOf (n : Name) : Doc → Doc → Type 0 where
 
 -- ---- the refusals
 
--- the second number that the sheet has for a refusal: 0 for 21 to 26, for 27 the bytes needed, for 28 the number of the refusal inside
+-- the second number that the sheet has for a refusal: 0 for 21, for 22 to 26 the place of the key, for 27 the bytes needed, for 28 the number of the
+-- refusal inside
 pub data SecondNumber : LocalRefusal → ℕ → Type 0 where
   no-language : SecondNumber NoLanguage 0
-  bad-key : SecondNumber BadKey 0
-  own-localizations : SecondNumber OwnLocalizations 0
-  clash : SecondNumber Clash 0
-  in-array : SecondNumber InArray 0
-  no-object : SecondNumber NoObject 0
+  bad-key : {p : ℕ} → SecondNumber (BadKey p) p
+  own-localizations : {p : ℕ} → SecondNumber (OwnLocalizations p) p
+  clash : {p : ℕ} → SecondNumber (Clash p) p
+  in-array : {p : ℕ} → SecondNumber (InArray p) p
+  no-object : {p : ℕ} → SecondNumber (NoObject p) p
   needed : {n : ℕ} → SecondNumber (Short n) n
   inside : {r : CardRefusal} → SecondNumber (Inner r) (refusedCard r .number)
 
-module _ (L : Limits) (words room : ℕ) where
+-- `place` says where a key stands: keys at fault are named by their places
+module _ (L : Limits) (words room : ℕ) (place : Name → ℕ) where
   -- 22 to 28, of a document and the members of a PatchObject: the condition of this number is broken, and calls for this refusal
   pub data BrokenPatch (d : Doc) (ms : Members) : ℕ → LocalRefusal → Type 0 where
-    withKey : {number : ℕ} {key : Name} → BreaksWith d ms number key → BrokenPatch d ms number (keyRefusal number key)
+    withKey : {number : ℕ} {key : Name} → SmallestKey d ms number key → BrokenPatch d ms number (keyRefusal number (place key))
     short : room < length (written (applied d (entriesOf ms))) → BrokenPatch d ms 27 (Short (length (written (applied d (entriesOf ms)))))
     -- what would be written is no card: for its first fault as a text, or for the first rule that it breaks (`CardAnswer`, specs/Judging.antt)
     unfit : {r : CardRefusal} {table : List ℕ} → CardAnswer L words (written (applied d (entriesOf ms))) (refusedCard r) table → BrokenPatch d ms 28 (Inner r)

@@ -21,6 +21,7 @@ use Rattle.text.specs.Tree.{Forest, size, treeRows}
 use Rattle.text.specs.Seats.{Head, Seat, top, Sits}
 use Rattle.text.specs.Standing.{RowAt}
 use Rattle.text.specs.Sheet.{numbers}
+use Rattle.text.specs.declared.Paper.{Paper}
 use Rattle.text.specs.Utf8.{utf8, Utf8}
 use Rattle.text.specs.Whole.{Reads}
 use Rattle.text.specs.Doc.{Name, Doc, Members, Property, docOf, kindOf, tokenOf, childrenOf, countOf}
@@ -34,11 +35,12 @@ use Rattle.text.specs.declared.Reading.{Reading}
 use Rattle.contact.specs.Pointer.{Pointer, pointerOf, find}
 use Rattle.contact.specs.PointerText.{PointerText}
 use Rattle.contact.specs.Patch.{Entry}
-use Rattle.contact.specs.Localize.{start, patchedDoc}
+use Rattle.contact.specs.Localize.{start, patchedDoc, paperOfLocalized}
 use Rattle.contact.specs.Signatures.{AsSigned}
 use Rattle.contact.specs.Breaches.{Sees}
 use Rattle.contact.specs.Judging.{CardText, Offends, Judges}
-use Rattle.contact.specs.Conditions.{LooseTilde, PointsAt, PatchOf, PatchUnder, SecondNumber, BrokenCondition, Applicable, FirstBroken, Smallest}
+use Rattle.contact.specs.Places.{KeyStands, keyPlace}
+use Rattle.contact.specs.Conditions.{LooseTilde, HasKey, PointsAt, PatchOf, PatchUnder, SecondNumber, BrokenCondition, Applicable, FirstBroken, Smallest}
 use Rattle.contact.specs.Entries.{Asked}
 use Rattle.contact.specs.Patching.{OrderOnly, PatchedCard, WrittenCard}
 use Rattle.contact.specs.Contract.{Localizes}
@@ -171,6 +173,18 @@ pub record Reordering (L : Limits) (lang : Name) (d : Doc) (u : List ℕ) : Type
   pub order : OrderOnly lang d document
   pub short : length u ≤ L .bytes
 
+-- the line of the sheet names a key
+abbrev pub NamesKey : Paper → Type 0
+NamesKey p = Within 22 26 (p .number)
+
+-- answers for the texts t and u, of which f and g are the trees: they are the same, but that of 22 to 26 the key is, and each has the key's place in its
+-- own text
+pub record SameButPlace (lang : Name) (t : List ℕ) (f : Forest) (u : List ℕ) (g : Forest) (a b : Paper) : Type 0 where
+  pub number : a .number ≡ b .number
+  pub written : a .written ≡ b .written
+  pub second : ¬ NamesKey a → a .second ≡ b .second
+  pub key : NamesKey a → (key : Name) × KeyStands t f lang key (a .second) × KeyStands u g lang key (b .second)
+
 -- demand 3, of localizing a text
 pub record Localizing (L : Limits) (serve : Call → Left) : Type 0 where
   -- the card's own refusal comes first
@@ -180,30 +194,41 @@ pub record Localizing (L : Limits) (serve : Call → Left) : Type 0 where
   -- refused by one number;
   pub order-judged : (t u : List ℕ) (lang : Name) (words : ℕ) (f : Forest) → Readable L words t f → Reordering L lang (docOf t f) u
       → serve (judge t words) .answer .number ≡ serve (judge u words) .answer .number
-  -- and where the one passes, both have the same answer, table and output, refusals too
-  pub any-order : (t u : List ℕ) (lang : Name) (words room : ℕ) (f : Forest) → CardText L words t f → Reordering L lang (docOf t f) u
-      → serve (localize t lang words room) ≡ serve (localize u lang words room)
-  -- the same of what the contract allows: also the answer itself, with 28's inner place
-  pub any-order-allowed : (t u : List ℕ) (lang : Name) (words room : ℕ) (f : Forest) → CardText L words t f → Reordering L lang (docOf t f) u
-      → (a b : Localized) (x y o q : List ℕ)
-      → Localizes L words room t lang a x o → Localizes L words room u lang b y q → (a ≡ b) × (x ≡ y) × (o ≡ q)
+  -- and where the one passes, both have the same number, name the same key, and have the same table and output
+  pub any-order : (t u : List ℕ) (lang : Name) (words room : ℕ) (f : Forest) → CardText L words t f → (o : Reordering L lang (docOf t f) u)
+      → SameButPlace lang t f u (rootOf (o .derives)) (serve (localize t lang words room) .answer) (serve (localize u lang words room) .answer)
+      × (serve (localize t lang words room) .table ≡ serve (localize u lang words room) .table)
+      × (serve (localize t lang words room) .output ≡ serve (localize u lang words room) .output)
+  -- the same of what the contract allows: where no key is named also the answer itself, with 28's inner place
+  pub any-order-allowed : (t u : List ℕ) (lang : Name) (words room : ℕ) (f : Forest) → CardText L words t f → (r : Reordering L lang (docOf t f) u)
+      → (a b : Localized) (x y o q : List ℕ) → Localizes L words room t lang a x o → Localizes L words room u lang b y q
+      → SameButPlace lang t f u (rootOf (r .derives)) (paperOfLocalized a) (paperOfLocalized b) × (¬ NamesKey (paperOfLocalized a) → a ≡ b)
+      × (x ≡ y) × (o ≡ q)
   -- all patches or none: what is accepted is patched by all entries, as the set-or-remove definition says, and is judged as a whole
   pub patched : (t : List ℕ) (lang : Name) (words room : ℕ) (f : Forest) → CardText L words t f → Passes serve (localize t lang words room)
       → Localization L serve words room t f lang
   -- it is accepted exactly when none of the conditions 21 to 28 is broken
   pub accepted : (t : List ℕ) (lang : Name) (words room : ℕ) (f : Forest) → CardText L words t f
-      → Passes serve (localize t lang words room) ↔ ((n : ℕ) (r : LocalRefusal) → ¬ BrokenCondition L words room (docOf t f) lang n r)
+      → Passes serve (localize t lang words room) ↔ ((n : ℕ) (r : LocalRefusal) → ¬ BrokenCondition L words room (keyPlace t f lang) (docOf t f) lang n r)
   -- and else refused by the broken condition of smallest number, with the sheet's second number
   pub refused : (t : List ℕ) (lang : Name) (words room : ℕ) (f : Forest) → CardText L words t f → (n second : ℕ) → 0 < n
       → (serve (localize t lang words room) .answer ≡ numbers n second 0)
-      ↔ ((r : LocalRefusal) × SecondNumber r second × Smallest (BrokenCondition L words room (docOf t f) lang) n r)
+      ↔ ((r : LocalRefusal) × SecondNumber r second × Smallest (BrokenCondition L words room (keyPlace t f lang) (docOf t f) lang) n r)
   -- the same of the answer that the contract allows: it is that refusal itself, with 28's inner place
   pub refused-answer : (t : List ℕ) (lang : Name) (words room : ℕ) (f : Forest) → CardText L words t f → (a : Localized) (x o : List ℕ)
-      → Localizes L words room t lang a x o → (r : LocalRefusal) → (a ≡ Denied r) ↔ ((n : ℕ) × Smallest (BrokenCondition L words room (docOf t f) lang) n r)
-  -- a refusal by 22 to 26 is about one key: of those that break the condition on the card without its localizations the smallest in byte order
-  pub key-at-fault : (t : List ℕ) (lang : Name) (words room : ℕ) (f : Forest) → CardText L words t f → (n : ℕ) → Within 22 26 n
-      → (serve (localize t lang words room) .answer ≡ numbers n 0 0)
-      ↔ ((ms : Members) × (key : Name) × PatchOf (docOf t f) lang ms × FirstBroken (start (docOf t f)) ms n key)
+      → Localizes L words room t lang a x o → (r : LocalRefusal)
+      → (a ≡ Denied r) ↔ ((n : ℕ) × Smallest (BrokenCondition L words room (keyPlace t f lang) (docOf t f) lang) n r)
+  -- a refusal by 22 to 26 names one key: of those that break the condition on the card without its localizations the smallest in byte order; and it has
+  -- the place at which that key stands in the text
+  pub key-at-fault : (t : List ℕ) (lang : Name) (words room : ℕ) (f : Forest) → CardText L words t f → (n place : ℕ) → Within 22 26 n
+      → (serve (localize t lang words room) .answer ≡ numbers n place 0)
+      ↔ ((ms : Members) × (key : Name) × PatchOf (docOf t f) lang ms × FirstBroken (start (docOf t f)) ms n key × KeyStands t f lang key place)
+  -- each key of the PatchObject stands at one place, which is the one that is found
+  pub key-places : (t : List ℕ) (lang : Name) (words : ℕ) (f : Forest) → CardText L words t f → (ms : Members) → PatchOf (docOf t f) lang ms
+      → (key : Name) → HasKey key ms → (place : ℕ) → KeyStands t f lang key place ↔ (place ≡ keyPlace t f lang key)
+  -- and no other key stands at that place, so that a place names its key
+  pub key-of-place : (t : List ℕ) (lang : Name) (words : ℕ) (f : Forest) → CardText L words t f → (ms : Members) → PatchOf (docOf t f) lang ms
+      → (key other : Name) (place : ℕ) → KeyStands t f lang key place → KeyStands t f lang other place → key ≡ other
   -- the conditions speak of the PatchObject that the card has for the language,
   pub language : (card : Doc) (lang : Name) (ms : Members) → PatchOf card lang ms ↔ PatchUnder lang ms card
   -- and of the pointers that keys write: each key that has no loose `~` writes one, and any other writes none

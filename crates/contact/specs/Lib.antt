@@ -19,6 +19,7 @@ pub mod Pointer
 pub mod PointerText
 pub mod Patch
 pub mod Faults
+pub mod Places
 pub mod Localize
 pub mod Contract
 -- What is shown of it: the conditions in words, what a patched card is, and that it is read back.

@@ -18,22 +18,23 @@ use Rattle.text.specs.Sheet.{numbers}
 use Rattle.contact.specs.Pointer.{Pointer, last, down, find}
 use Rattle.contact.specs.Patch.{Entry, entriesOf, without, inObject, applied}
 use Rattle.contact.specs.Faults.{PatchFault, allKept, brokenBy, faultIn}
+use Rattle.contact.specs.Places.{keyPlace}
 use Rattle.contact.specs.declared.LocalRefusal.{LocalRefusal}
 use Rattle.contact.specs.declared.LocalRefusal.the-variants.{Given, NoLanguage, BadKey, OwnLocalizations, Clash, InArray, NoObject, Short, Inner}
 use Rattle.contact.specs.declared.Localized.{Localized}
 use Rattle.contact.specs.declared.Localized.the-variants.{Written, Denied}
 
--- ---- the sheet's lines 21 to 28; 28 hands out the inner refusal's number alone
+-- ---- the sheet's lines 21 to 28; 22 to 26 hand out the place of a key, 28 hands out the inner refusal's number alone
 
 -- the numbers of a refusal
 unfoldable pub refusedLocal : LocalRefusal → Paper
 refusedLocal (Given r) = refusedCard r
 refusedLocal NoLanguage = numbers 21 0 0
-refusedLocal BadKey = numbers 22 0 0
-refusedLocal OwnLocalizations = numbers 23 0 0
-refusedLocal Clash = numbers 24 0 0
-refusedLocal InArray = numbers 25 0 0
-refusedLocal NoObject = numbers 26 0 0
+refusedLocal (BadKey p) = numbers 22 p 0
+refusedLocal (OwnLocalizations p) = numbers 23 p 0
+refusedLocal (Clash p) = numbers 24 p 0
+refusedLocal (InArray p) = numbers 25 p 0
+refusedLocal (NoObject p) = numbers 26 p 0
 refusedLocal (Short n) = numbers 27 n 0
 refusedLocal (Inner r) = numbers 28 (refusedCard r .number) 0
 
@@ -42,10 +43,11 @@ unfoldable pub paperOfLocalized : Localized → Paper
 paperOfLocalized (Written rows n) = numbers 0 rows n
 paperOfLocalized (Denied r) = refusedLocal r
 
--- the refusal of a number from 22 to 26 that is broken by a key: it doesn't name the key
-abbrev pub keyRefusal : (number : ℕ) → (key : Name) → LocalRefusal
-keyRefusal number key =
-    cond (eqb number 22) BadKey (cond (eqb number 23) OwnLocalizations (cond (eqb number 24) Clash (cond (eqb number 25) InArray NoObject)))
+-- the refusal of a number from 22 to 26, with the place of the key that breaks it
+abbrev pub keyRefusal : (number place : ℕ) → LocalRefusal
+keyRefusal number p =
+    cond (eqb number 22) (BadKey p)
+    (cond (eqb number 23) (OwnLocalizations p) (cond (eqb number 24) (Clash p) (cond (eqb number 25) (InArray p) (NoObject p))))
 
 -- ---- localizing
 
@@ -78,10 +80,11 @@ module _ (L : Limits) (words room : ℕ) where
       let all = byJudge text (judgedOf L words text) in
       cond (ltb room (length text)) (denied (Short (length text))) all
 
-  -- a broken condition refuses; if none is broken, what the entries make of d is written
+module _ (L : Limits) (words room : ℕ) (place : Name → ℕ) where
+  -- a broken condition refuses, with the place of the key; if none is broken, what the entries make of d is written
   unfoldable pub byFault : (d : Doc) → List Entry → PatchFault → Outcome
-  byFault d es allKept = byRoom (written (applied d es))
-  byFault d es (brokenBy number key) = denied (keyRefusal number key)
+  byFault d es allKept = byRoom L words room (written (applied d es))
+  byFault d es (brokenBy number key) = denied (keyRefusal number (place key))
 
   -- 22 to 26, of d, the card without its localizations
   unfoldable pub byEntries : (d : Doc) → Members → List Entry → Outcome
@@ -102,10 +105,11 @@ module _ (L : Limits) (words room : ℕ) where
   unfoldable pub localizedDoc : (card : Doc) → (lang : Name) → Outcome
   localizedDoc card lang = withPatch (start card) (find (patchAt lang) card)
 
-  -- the card's own refusal comes first
+module _ (L : Limits) (words room : ℕ) where
+  -- the card's own refusal comes first; a key is named by its place in the text
   unfoldable pub localizedJudged : (text : List ℕ) → (lang : Name) → Judged → Outcome
   localizedJudged text lang (failed r) = denied (Given r)
-  localizedJudged text lang (passed f) = localizedDoc (docOf text f) lang
+  localizedJudged text lang (passed f) = localizedDoc L words room (keyPlace text f lang) (docOf text f) lang
 
   -- a text localized, for a table of so many words and an output of so many bytes
   unfoldable pub localizedOf : (text : List ℕ) → (lang : Name) → Outcome

@@ -22,16 +22,16 @@ pub enum Verdict {
     Failed(CardRefusal),
 }
 
-// Why no localized card is written: the card's own refusal, then numbers 21 to 28 of the sheet, in its order. 27 has the bytes needed, and
-// 28 the refusal of the localized card, whose place is one in that card's text.
+// Why no localized card is written: the card's own refusal, then numbers 21 to 28 of the sheet, in its order. 22 to 26 have the place of the key at
+// fault, of its opening quote in the card text; 27 has the bytes needed, and 28 the refusal of the localized card, whose place is one in that card's text.
 pub enum LocalRefusal {
     Given(CardRefusal),
     NoLanguage,
-    BadKey,
-    OwnLocalizations,
-    Clash,
-    InArray,
-    NoObject,
+    BadKey(usize),
+    OwnLocalizations(usize),
+    Clash(usize),
+    InArray(usize),
+    NoObject(usize),
     Short(usize),
     Inner(CardRefusal),
 }

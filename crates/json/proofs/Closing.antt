@@ -7,7 +7,8 @@ use native.Mathlib.Omega.{arith}
 use lib.ListN.{length}
 use Rattle.laws.specs.Earliest.{Earliest, nowhere, found, firstRepeat}
 use Rattle.text.specs.Tree.{Bracket, square, curly, bracketKind, none, node, size}
-use Rattle.text.specs.Reader.{Read, closeOf}
+use Rattle.text.specs.Reader.{Read, bad, closeOf}
+use Rattle.text.specs.declared.Refusal.{Refusal}
 use Rattle.text.proofs.Stores.{rows-close}
 use Rattle.repeats.specs.Quoted.{tailAt}
 use Rattle.repeats.specs.Closed.{settle}
@@ -65,6 +66,9 @@ took-from R t at from n old new (Next to after) h g =
 -- an answer by its case
 pub took-next : (R : Read) (t : List ℕ) (at n : ℕ) (old new : List ℕ) {r : Progress} {to after : ℕ} → Took R t at n old new r → r ≡ Next to after → Gone R t at n old new to after
 took-next R t at n old new g e = rw e at g
+
+pub took-stop : (R : Read) (t : List ℕ) (at n : ℕ) (old new : List ℕ) {r : Progress} {x : Refusal} → Took R t at n old new r → r ≡ Stop x → R ≡ bad x
+took-stop R t at n old new g e = rw e at g
 
 pub further-next : (end : ℕ) {r : Progress} {to after : ℕ} → Further end r → r ≡ Next to after → Further end (Next to after)
 further-next end g e = rw e at g

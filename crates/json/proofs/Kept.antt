@@ -14,7 +14,7 @@ use lib.ListN.{length, take, drop, replicate}
 use lib.Seq.{sets, sets-eq, length-sets, drop-length, take-append-seam}
 use borrow.Rule.Slice.PartMut.{midOf, putMid, mid-len, post-is}
 use Rattle.laws.specs.Lists.{filled}
-use Rattle.text.specs.Limits.{Limits, rowWords, base}
+use Rattle.text.specs.Limits.{Limits, rowWords}
 use Rattle.text.specs.Tree.{Forest, size, rowsOf}
 use Rattle.text.specs.Standing.{StandsTo}
 use Rattle.text.specs.Promised.{Filled}
@@ -61,24 +61,24 @@ module _ (f : Forest) (old : List ℕ) (room : rowWords * size f ≤ length old)
 
 -- ---- reading
 
-module _ {t old : List ℕ} where
-  pub kept-rows : {n : ℕ} {new : List ℕ} → Ended (wholeOf base (length old) t) old new (Rows n) → ReadsRows base t old (Rows n) new
+module _ {L : Limits} {t old : List ℕ} where
+  pub kept-rows : {n : ℕ} {new : List ℕ} → Ended (wholeOf L (length old) t) old new (Rows n) → ReadsRows L t old (Rows n) new
   unfolding paper sheetOf
   kept-rows (s, few) = record { answered = rw (s .is, s .count); left = rw (s .is) (s .table) }
 
-  pub kept-none : (mid : List ℕ) {r : Refusal} {new : List ℕ} → Ended (wholeOf base (length old) t) old mid (Refused r) → length mid ≡ length old
-      → new ≡ replicate (length mid) 0 → ReadsRows base t old (Refused r) new
+  pub kept-none : (mid : List ℕ) {r : Refusal} {new : List ℕ} → Ended (wholeOf L (length old) t) old mid (Refused r) → length mid ≡ length old
+      → new ≡ replicate (length mid) 0 → ReadsRows L t old (Refused r) new
   unfolding paper sheetOf
   kept-none mid s long e = record { answered = rw s; left = e ∙ rw (s, long) }
 
   -- what the reading layer promises is said of the table that is cleared behind the rows
-  as-read : {a : Reading} {new : List ℕ} → ReadsRows base t old a new → Reads base (length old) t a (tableOf (length old) (wholeOf base (length old) t))
+  as-read : {a : Reading} {new : List ℕ} → ReadsRows L t old a new → Reads L (length old) t a (tableOf (length old) (wholeOf L (length old) t))
   as-read h = record { answered = h .answered; left = refl }
 
-  module _ {n : ℕ} {new : List ℕ} (h : ReadsRows base t old (Rows n) new) where
-    pub rows-there : (s : Stored (wholeOf base (length old) t) old new n) × (n * rowWords ≤ length old) × Filled base t new n (s .trees)
+  module _ {n : ℕ} {new : List ℕ} (h : ReadsRows L t old (Rows n) new) where
+    pub rows-there : (s : Stored (wholeOf L (length old) t) old new n) × (n * rowWords ≤ length old) × Filled L t new n (s .trees)
     rows-there =
-        let a = rows-tree base (length old) t _ n (as-read h) in
+        let a = rows-tree L (length old) t _ n (as-read h) in
         let is : new ≡ sets old 0 (rowsOf (a .tree)) = h .left ∙ ap (keptOf old) (a .whole) in
         let stay = rows-stay (a .tree) old (omega (arith, a .room, a .count)) is in (
           record { trees = a .tree; to = a .end; is = a .whole; count = sym (a .count); table = is },
@@ -87,7 +87,7 @@ module _ {t old : List ℕ} where
         )
 
     pub read-cleared : {rest : List ℕ} → rest ≡ replicate (length (midOf (n * rowWords) (length new - n * rowWords) new)) 0
-        → Reads base (length old) t (Rows n) (putMid (n * rowWords) (length new - n * rowWords) new rest)
+        → Reads L (length old) t (Rows n) (putMid (n * rowWords) (length new - n * rowWords) new rest)
     unfolding tableOf
     read-cleared clear =
         let (s, room, filled) = rows-there in
@@ -96,10 +96,10 @@ module _ {t old : List ℕ} where
           left = tail-cleared (s .trees) old (omega (arith, s .count)) (s .table) n (s .count) clear ∙ rw (s .is);
         }
 
-  module _ {r : Refusal} {new : List ℕ} (h : ReadsRows base t old (Refused r) new) where
-    pub refused-there : (wholeOf base (length old) t ≡ bad r) × (new ≡ replicate (length old) 0)
-    refused-there = let w = refusal-is base (length old) t _ r (as-read h) .whole in (w, h .left ∙ ap (keptOf old) w)
+  module _ {r : Refusal} {new : List ℕ} (h : ReadsRows L t old (Refused r) new) where
+    pub refused-there : (wholeOf L (length old) t ≡ bad r) × (new ≡ replicate (length old) 0)
+    refused-there = let w = refusal-is L (length old) t _ r (as-read h) .whole in (w, h .left ∙ ap (keptOf old) w)
 
-    pub read-refused : Reads base (length old) t (Refused r) new
+    pub read-refused : Reads L (length old) t (Refused r) new
     unfolding tableOf
     read-refused = record { answered = h .answered; left = refused-there .1 ∙ rw (refused-there .0, sub-zero) }

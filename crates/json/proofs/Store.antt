@@ -16,12 +16,16 @@ use lib.Seq.{slice, length-slice, getD-set-other, getD-take, getD-drop, ext-getD
 use borrow.Rule.Slice.PartMut.{midOf, putMid, mid-len, take-put}
 use Rattle.laws.proofs.Slices.{slice-none, slice-split, slice-set, slice-at, slice-agree}
 use Rattle.text.specs.Limits.{base}
-use Rattle.json.specs.Readers.{Enough, KeptBelow, Added, StoreAsks}
+use Rattle.json.specs.Readers.{Enough, KeptBelow, Added, RoomFor, StoreAsks, ItemAsks}
 
 -- each name has its own value, but the outermost has none, and four bytes: so the store has room for one more
-pub store-room : (bytes words end at n : ℕ) → Enough bytes words → n ≤ base .values → end < n → at ≤ bytes → 4 * end < at → end < words
-store-room bytes words end at n (inl h) few fewer inside spread = omega arith
-store-room bytes words end at n (inr h) few fewer inside spread = omega arith
+enough-room : (bytes words end at n : ℕ) → Enough bytes words → n ≤ base .values → end < n → at ≤ bytes → 4 * end < at → end < words
+enough-room bytes words end at n (inl h) few fewer inside spread = omega arith
+enough-room bytes words end at n (inr h) few fewer inside spread = omega arith
+
+pub store-room : (t names : List ℕ) (end at n : ℕ) → ItemAsks t names end at n → RoomFor names end
+store-room t names end at n p =
+    record { upto = p .held; more = λ h. enough-room (length t) (length names) end at n (p .store .enough h) (p .few) (p .fewer) (p .inside) (p .spread) }
 
 pub store-kept : {t names : List ℕ} → StoreAsks t names → (names′ : List ℕ) → length names′ ≡ length names → StoreAsks t names′
 store-kept s names′ e = record { short = s .short; enough = rw e (s .enough); most = rw e (s .most) }

@@ -11,7 +11,7 @@ use lib.Dec.{eqb}
 use borrow.Author.Tests.{le-leb, lt-leb, eq-eqb, ne-eqb}
 use borrow.Author.Needs.{needs}
 use Rattle.laws.specs.Earliest.{firstRepeat}
-use Rattle.text.specs.Limits.{Limits, base}
+use Rattle.text.specs.Limits.{Limits, comparing, loose}
 use Rattle.text.specs.Text.{byteAt}
 use Rattle.text.specs.Strings.{stringEnd}
 use Rattle.text.specs.Tokens.{skip, isDigit, kindBy, tokenAt}
@@ -23,8 +23,8 @@ use Rattle.text.specs.declared.Token.the-variants.{End, No2, No3}
 use Rattle.text.specs.declared.Refusal.the-variants.{Grammar, Character, Deep, Many}
 use Rattle.text.proofs.Laws.{value-parts}
 use Rattle.repeats.specs.Quoted.{tailAt}
-use Rattle.repeats.specs.Closed.{loose, strictItem, ownName, settle}
-use Rattle.repeats.proofs.Gathering.{container-law}
+use Rattle.repeats.specs.Closed.{strictItem, ownName, asideName, settle}
+use Rattle.repeats.proofs.Gathering.{aside-law}
 use Rattle.repeats.proofs.Fair.{value-fair}
 use Rattle.json.specs.Readers.{containerOf, bracketOf, containerAt, itemsAt, namesAt}
 use Rattle.json.specs.declared.containers.Container.{Container}
@@ -49,6 +49,11 @@ module _ (L : Limits) (t : List ℕ) (kind ns ne at n : ℕ) where
     pub scalar-no3 : (p : ℕ) → tokenAt t kind at ≡ No3 p → scalarAt L t kind ns ne at n ≡ bad (Character p)
     unfolding scalarAt scalarWith
     scalar-no3 p e = rw (lt-leb _ _ h, e)
+
+-- whether names are compared is nothing to it
+pub scalar-alike : (compare : Bool) (L : Limits) (t : List ℕ) (kind ns ne at n : ℕ) → scalarAt (comparing compare L) t kind ns ne at n ≡ scalarAt L t kind ns ne at n
+unfolding scalarAt
+scalar-alike compare L t kind ns ne at n = refl
 
 -- ---- kinds ----
 
@@ -104,34 +109,38 @@ module _ (L : Limits) (t : List ℕ) (ns ne at n depth : ℕ) where
 
 -- ---- containers ----
 
-module _ (t : List ℕ) (ns ne at n : ℕ) where
-  pub container-deep : (of : Container) (depth : ℕ) → depth ≡ 0 → containerAt of base t depth ns ne at n ≡ bad (Deep at)
+module _ (L : Limits) (t : List ℕ) (ns ne at n : ℕ) where
+  pub container-deep : (of : Container) (depth : ℕ) → depth ≡ 0 → containerAt of L t depth ns ne at n ≡ bad (Deep at)
   unfolding arrayAt objectAt deep
   container-deep Array depth h = rw h
   container-deep Object depth h = rw h
 
   -- where one may be opened, the two go the same way
   opened : (of : Container) (depth : ℕ)
-      → containerAt of base t (suc depth) ns ne at n ≡ container base (bracketOf of) (insideOf t (strictItem base t (valueAt base t depth) (bracketOf of)) (closing (bracketOf of))) ns ne at n
+      → containerAt of L t (suc depth) ns ne at n ≡ container L (bracketOf of) (insideOf t (strictItem L t (valueAt L t depth) (bracketOf of)) (closing (bracketOf of))) ns ne at n
   unfolding arrayAt objectAt elementsAt membersAt
   opened Array depth = refl
   opened Object depth = refl
 
-  pub container-many : (of : Container) (depth : ℕ) → (depth ≡ 0 → ⊥) → base .values ≤ n → containerAt of base t depth ns ne at n ≡ bad (Many at)
+  pub container-many : (of : Container) (depth : ℕ) → (depth ≡ 0 → ⊥) → L .values ≤ n → containerAt of L t depth ns ne at n ≡ bad (Many at)
   unfolding container
   container-many of zero h m = absurd (h refl)
   container-many of (suc depth) h m = opened of depth ∙ rw (le-leb _ _ m)
 
-  -- its items are read without comparing names, and then its names are looked through
-  pub container-open : (of : Container) (depth : ℕ) → (depth ≡ 0 → ⊥) → n < base .values
-      → containerAt of base t depth ns ne at n
-      ≡ closeOf (bracketOf of) ns ne at (settle (firstRepeat (tailAt t 1) (namesAt of t (depth - 1) (at + 1) (n + 1))) (itemsAt of t (depth - 1) (at + 1) (n + 1)))
+-- its items are read without comparing names, and then those that were put aside are looked through
+module _ (compare : Bool) (M : Limits) (t : List ℕ) (ns ne at n : ℕ) where
+  abbrev L : Limits
+  L = comparing compare M
+
+  pub container-open : (of : Container) (depth : ℕ) → (depth ≡ 0 → ⊥) → n < M .values
+      → containerAt of L t depth ns ne at n
+      ≡ closeOf (bracketOf of) ns ne at (settle (firstRepeat (tailAt t 1) (namesAt L of t (depth - 1) (at + 1) (n + 1))) (itemsAt L of t (depth - 1) (at + 1) (n + 1)))
   unfolding container
   container-open of zero h m = absurd (h refl)
   container-open of (suc depth) h m =
       rw sub-one
-      (opened of depth
-      ∙ rw (lt-leb _ _ m) (ap (closeOf (bracketOf of) ns ne at) (container-law base refl t (valueAt base t depth) (value-fair base t depth) (bracketOf of) (at + 1) (n + 1))))
+      (opened L t ns ne at n of depth
+      ∙ rw (lt-leb _ _ m) (ap (closeOf (bracketOf of) ns ne at) (aside-law M t (valueAt L t depth) (value-fair L t depth) compare (bracketOf of) (at + 1) (n + 1))))
 
 -- ---- a member's name and colon ----
 
@@ -144,38 +153,46 @@ module _ (t : List ℕ) (value : Reader) (at end n x : ℕ) (e : x ≡ skip t en
   unfolding colonAt
   colon-there h = rw (← e, eq-eqb _ _ h)
 
-module _ (t : List ℕ) (value : Reader) (done : Forest) (at n : ℕ) where
-  pub member-none : (byteAt t at ≡ 34 → ⊥) → memberOf (loose base) t value done at n ≡ bad (Grammar at)
+module _ (L : Limits) (t : List ℕ) (value : Reader) (done : Forest) (at n : ℕ) where
+  pub member-none : (byteAt t at ≡ 34 → ⊥) → memberOf (loose L) t value done at n ≡ bad (Grammar at)
   unfolding memberOf
   member-none h = rw (ne-eqb _ _ h)
 
   module _ (h : byteAt t at ≡ 34) where
-    pub member-no2 : (p : ℕ) → stringEnd t (at + 1) ≡ No2 p → memberOf (loose base) t value done at n ≡ bad (Grammar p)
+    pub member-no2 : (p : ℕ) → stringEnd t (at + 1) ≡ No2 p → memberOf (loose L) t value done at n ≡ bad (Grammar p)
     unfolding memberOf memberWith
     member-no2 p e = rw (eq-eqb _ _ h, e)
 
-    pub member-no3 : (p : ℕ) → stringEnd t (at + 1) ≡ No3 p → memberOf (loose base) t value done at n ≡ bad (Character p)
+    pub member-no3 : (p : ℕ) → stringEnd t (at + 1) ≡ No3 p → memberOf (loose L) t value done at n ≡ bad (Character p)
     unfolding memberOf memberWith
     member-no3 p e = rw (eq-eqb _ _ h, e)
 
-    pub member-closed : (end : ℕ) → stringEnd t (at + 1) ≡ End end → memberOf (loose base) t value done at n ≡ colonAt t value at end n
+    pub member-closed : (end : ℕ) → stringEnd t (at + 1) ≡ End end → memberOf (loose L) t value done at n ≡ colonAt t value at end n
     unfolding memberOf memberWith
     member-closed end e = rw (eq-eqb _ _ h, e)
 
--- and the name that it closes
-module _ (t : List ℕ) (at : ℕ) where
-  pub own-none : (byteAt t at ≡ 34 → ⊥) → ownName t curly at ≡ []
-  own-none h = rw (ne-eqb _ _ h)
+-- and the name that it closes; where none is closed, none is put aside
+pub neither : (b : Bool) → _≡_ {A = List ℕ} (cond b [] []) []
+neither true = refl
+neither false = refl
+
+module _ (L : Limits) (t : List ℕ) (at : ℕ) where
+  none-aside : ownName t curly at ≡ [] → asideName L t curly at ≡ []
+  none-aside e = rw e (neither (L .unique))
+
+  pub own-none : (byteAt t at ≡ 34 → ⊥) → asideName L t curly at ≡ []
+  own-none h = none-aside (rw (ne-eqb _ _ h))
 
   module _ (h : byteAt t at ≡ 34) where
-    pub own-no2 : (p : ℕ) → stringEnd t (at + 1) ≡ No2 p → ownName t curly at ≡ []
-    own-no2 p e = rw (eq-eqb _ _ h, e)
+    pub own-no2 : (p : ℕ) → stringEnd t (at + 1) ≡ No2 p → asideName L t curly at ≡ []
+    own-no2 p e = none-aside (rw (eq-eqb _ _ h, e))
 
-    pub own-no3 : (p : ℕ) → stringEnd t (at + 1) ≡ No3 p → ownName t curly at ≡ []
-    own-no3 p e = rw (eq-eqb _ _ h, e)
+    pub own-no3 : (p : ℕ) → stringEnd t (at + 1) ≡ No3 p → asideName L t curly at ≡ []
+    own-no3 p e = none-aside (rw (eq-eqb _ _ h, e))
 
-    pub own-closed : (end : ℕ) → stringEnd t (at + 1) ≡ End end → ownName t curly at ≡ at ∷ []
-    own-closed end e = rw (eq-eqb _ _ h, e)
+module _ (t : List ℕ) (at : ℕ) (h : byteAt t at ≡ 34) where
+  pub own-closed : (end : ℕ) → stringEnd t (at + 1) ≡ End end → ownName t curly at ≡ at ∷ []
+  own-closed end e = rw (eq-eqb _ _ h, e)
 
 -- ---- a value that is accepted is one row or more ----
 

@@ -1,22 +1,22 @@
 -- What the readers of a text's parts ask, and what they answer. Assumes nothing: these are definitions.
 use Prim.Native.Nat.{ℕ, _+_, _-_, _*_, _≤_, _<_}
 use mathlib.Core.Path.{_≡_}
-use mathlib.Core.List.{List}
+use mathlib.Core.List.{List, [], _∷_}
 use mathlib.Core.Logic.{_⊎_}
 use mathlib.Core.Bool.{Bool, true, cond}
-use lib.Dec.{eqb}
+use lib.Dec.{eqb, ltb}
 use lib.ListN.{length, getD}
 use lib.Seq.{sets, slice}
 use Rattle.laws.specs.Lists.{RunIn}
 use Rattle.laws.specs.Earliest.{Climbs, Earliest, nowhere, found, firstRepeat}
-use Rattle.text.specs.Limits.{Limits, rowWords, base}
+use Rattle.text.specs.Limits.{Limits, comparing, rowWords, base}
 use Rattle.text.specs.Tree.{Bracket, square, curly, Forest, size, rowOf, rowsOf}
 use Rattle.text.specs.Grammar.{closing}
 use Rattle.text.specs.Reader.{Read, good, bad, Reader, ItemReader, colonAt, insideOf, valueAt, arrayAt, objectAt}
 use Rattle.text.specs.declared.Refusal.{Refusal}
 use Rattle.text.specs.declared.Refusal.the-variants.{Repeated}
 use Rattle.repeats.specs.Quoted.{tailAt}
-use Rattle.repeats.specs.Closed.{looseItem, ownName, namesIn}
+use Rattle.repeats.specs.Closed.{looseItem, asideName, namesAside}
 use Rattle.json.specs.Rows.{Word, Row}
 use Rattle.json.specs.declared.containers.Container.{Container}
 use Rattle.json.specs.declared.containers.Container.the-variants.{Array, Object}
@@ -27,6 +27,10 @@ use Rattle.json.specs.declared.values.Progress.the-variants.{Next, Stop}
 use Rattle.json.specs.declared.values.Gathered.{Gathered}
 
 -- ---- the store of names ----
+
+-- the limits of a reading, by the store that it was lent: one without words says that names aren't compared
+abbrev pub limitsIn : (names : List ℕ) → Limits
+limitsIn names = comparing (ltb 0 (length names)) base
 
 -- Words enough for the names that stand in the store at once: each has a value of its own, and each takes four bytes of the text or more.
 abbrev pub Enough : (bytes words : ℕ) → Type 0
@@ -44,10 +48,15 @@ pub record Added (ps : List ℕ) (top : ℕ) (old : List ℕ) (end : ℕ) (new :
   pub room : end ≤ length new
   pub is : slice top end new ≡ ps
 
--- What is asked of the store before a text is read: it has words enough, but no more than a text may have values, and places fit a word.
+-- there is room for one name more behind those up to `end`, unless the store has no words
+pub record RoomFor (names : List ℕ) (end : ℕ) : Type 0 where
+  pub upto : end ≤ length names
+  pub more : 0 < length names → end < length names
+
+-- What is asked of the store before a text is read: it has words enough or none, but no more than a text may have values, and places fit a word.
 pub record StoreAsks (t names : List ℕ) : Type 0 where
   pub short : length t < 4294967295
-  pub enough : Enough (length t) (length names)
+  pub enough : 0 < length names → Enough (length t) (length names)
   pub most : length names ≤ base .values
 
 -- and that the text is within the limit of bytes
@@ -57,11 +66,13 @@ TextAsks t names = StoreAsks t names × (length t ≤ base .bytes)
 -- ---- what is asked of the readers ----
 
 -- What is asked of a reader at a place, with n values before it and the names of the containers around it up to `top`: the place is inside the text or at
--- its end, and the values so far are within the limit; each name has its own value, but the outermost value has none, and four bytes of the text.
+-- its end, and the values so far are within the limit; the names stand in the store; each has its own value, but the outermost value has none, and four
+-- bytes of the text.
 pub record ItemAsks (t names : List ℕ) (top at n : ℕ) : Type 0 where
   pub store : StoreAsks t names
   pub inside : at ≤ length t
   pub few : n ≤ base .values
+  pub held : top ≤ length names
   pub fewer : top < n
   pub spread : 4 * top < at
 
@@ -76,6 +87,7 @@ pub record ValueAsks (t names : List ℕ) (top ns ne at n : ℕ) : Type 0 where
   pub places : NamePlaces t ns ne
   pub inside : at ≤ length t
   pub few : n ≤ base .values
+  pub held : top ≤ length names
   pub fewer : top ≤ n
   pub spread : 4 * top ≤ at
 
@@ -89,7 +101,7 @@ ScalarAsks t kind ns ne at n = Word (length t) × (at ≤ length t) × Row n kin
 
 -- the refusal of a value, where there are as many as there may be
 abbrev pub Overfull : (t : List ℕ) (depth at : ℕ) → Refusal → Type 0
-Overfull t depth at r = (ns ne n : ℕ) → base .values ≤ n → valueAt base t depth ns ne at n ≡ bad r
+Overfull t depth at r = (compare : Bool) (ns ne n : ℕ) → base .values ≤ n → valueAt (comparing compare base) t depth ns ne at n ≡ bad r
 
 -- ---- values ----
 
@@ -150,15 +162,15 @@ containerAt Array = arrayAt
 containerAt Object = objectAt
 
 -- that of one item whose name isn't compared with those before it
-abbrev pub itemOf : Container → List ℕ → (depth : ℕ) → ItemReader
-itemOf of t depth = looseItem base t (valueAt base t depth) (bracketOf of)
+abbrev pub itemOf : Limits → Container → List ℕ → (depth : ℕ) → ItemReader
+itemOf L of t depth = looseItem L t (valueAt L t depth) (bracketOf of)
 
--- that of all that is inside, from after its bracket to after its closing byte, and the names that it closes
-abbrev pub itemsAt : Container → List ℕ → (depth at n : ℕ) → Read
-itemsAt of t depth = insideOf t (itemOf of t depth) (closing (bracketOf of))
+-- that of all that is inside, from after its bracket to after its closing byte, and the names that it puts aside
+abbrev pub itemsAt : Limits → Container → List ℕ → (depth at n : ℕ) → Read
+itemsAt L of t depth = insideOf t (itemOf L of t depth) (closing (bracketOf of))
 
-abbrev pub namesAt : Container → List ℕ → (depth at n : ℕ) → List ℕ
-namesAt of t depth = namesIn base t (valueAt base t depth) (bracketOf of)
+abbrev pub namesAt : Limits → Container → List ℕ → (depth at n : ℕ) → List ℕ
+namesAt L of t depth = namesAside L t (valueAt L t depth) (bracketOf of)
 
 -- what was read, given the earliest name that repeats one: `settle` of the reading, said of the answer
 abbrev pub settled : Earliest → Progress → Progress
@@ -195,8 +207,8 @@ ItemIn t end at (Wrong r last) = Prim.Unit {0}
 
 -- what an item's beginning says of the item
 abbrev pub Begun : Container → List ℕ → (at : ℕ) → ItemStart → Type 0
-Begun of t at (At ns ne from last) = (depth n : ℕ) (done : Forest) → itemOf of t depth done at n ≡ valueAt base t depth ns ne from n
-Begun of t at (Wrong r last) = (depth n : ℕ) (done : Forest) → itemOf of t depth done at n ≡ bad r
+Begun of t at (At ns ne from last) = (L : Limits) (depth n : ℕ) (done : Forest) → itemOf L of t depth done at n ≡ valueAt L t depth ns ne from n
+Begun of t at (Wrong r last) = (L : Limits) (depth n : ℕ) (done : Forest) → itemOf L of t depth done at n ≡ bad r
 
 -- where the names end then
 abbrev pub lastOf : ItemStart → ℕ
@@ -207,13 +219,18 @@ lastOf (Wrong r last) = last
 pub record ItemRead (of : Container) (t : List ℕ) (end at : ℕ) (names names′ : List ℕ) (r : ItemStart) : Type 0 where
   pub inside : ItemIn t end at r
   pub is : Begun of t at r
-  pub added : Added (ownName t (bracketOf of) at) end names (lastOf r) names′
+  pub added : Added (asideName (limitsIn names) t (bracketOf of) at) end names (lastOf r) names′
+
+-- a name's place was put behind those up to `end`, and they end at `last` then; in a store without words it is not
+pub record Put (names : List ℕ) (end at : ℕ) (names′ : List ℕ) (last : ℕ) : Type 0 where
+  pub one : last ≤ end + 1
+  pub added : Added (cond (limitsIn names .unique) (at ∷ []) []) end names last names′
 
 -- what is asked where a name may be put behind those up to `end`: the place is inside the text or at its end and fits a word, and the store has room
 pub record NameAsks (t names : List ℕ) (end at : ℕ) : Type 0 where
   pub short : Word (length t)
   pub inside : at ≤ length t
-  pub room : end < length names
+  pub room : RoomFor names end
 
 -- what is told behind a name from `start` on whose token ends at `to`, the last of those up to `end`: the place of the value, or the refusal
 pub record Past (t : List ℕ) (start to end ns ne from last : ℕ) : Type 0 where
@@ -233,13 +250,13 @@ abbrev pub Further : (end : ℕ) → Progress → Type 0
 Further end (Next to after) = (end < after) × (4 * end < to)
 Further end (Stop r) = Prim.Unit {0}
 
--- the answer on one item, and the name that it closed
+-- the answer on one item, and the name that it put aside
 pub record ItemTook (of : Container) (t : List ℕ) (depth end at n : ℕ) (old new names names′ : List ℕ) (r : Gathered) : Type 0 where
-  pub took : (done : Forest) → Took (itemOf of t depth done at n) t at n old new (r .read)
+  pub took : (done : Forest) → Took (itemOf (limitsIn names) of t depth done at n) t at n old new (r .read)
   pub further : Further (r .end) (r .read)
-  pub added : Added (ownName t (bracketOf of) at) end names (r .end) names′
+  pub added : Added (asideName (limitsIn names) t (bracketOf of) at) end names (r .end) names′
 
--- the answer on all items of a container, and the names that they closed
+-- the answer on all items of a container, and the names that they put aside
 pub record ItemsTook (of : Container) (t : List ℕ) (depth top from first : ℕ) (old new names names′ : List ℕ) (r : Gathered) : Type 0 where
-  pub took : Took (itemsAt of t depth from first) t from first old new (r .read)
-  pub added : Added (namesAt of t depth from first) top names (r .end) names′
+  pub took : Took (itemsAt (limitsIn names) of t depth from first) t from first old new (r .read)
+  pub added : Added (namesAt (limitsIn names) of t depth from first) top names (r .end) names′

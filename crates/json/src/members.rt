@@ -8,7 +8,8 @@ use text::Refusal;
 use text::Token;
 ghost use Prim.Native.Nat.{_<_, _≤_};
 ghost use lib.ListN.{length};
-ghost use Rattle.json.specs.Readers.{Coloned, NameAsks, ItemRead};
+ghost use Rattle.json.specs.Rows.{Word};
+ghost use Rattle.json.specs.Readers.{Coloned, RoomFor, Put, NameAsks, ItemRead};
 ghost use Rattle.json.specs.declared.containers.Container.the-variants.{Object};
 
 // How an item begins: the places of its name, 0 and 0 where it has none, and the place of its value; or the refusal. Last, where the names end that were
@@ -32,6 +33,18 @@ fn colon(text: &[u8], start: usize, to: usize, end: usize) -> ItemStart
     ItemStart::At(start, ne, from, end)
 }
 
+// The place of a name, put behind those up to `end`, and where they end then. A store without words takes none: then names aren't compared.
+fn put_name(names: &mut [u32], end: usize, at: usize) -> usize
+    requires { ⌜ Word at × RoomFor (now names) end ⌝ }
+    ensures { λ r. ⌜ Put (now (names .entry)) end at (now (names .exit)) r ⌝ }
+{
+    if end < names.len() {
+        names[end] = at as u32;
+        return end + 1;
+    }
+    end
+}
+
 // The name at a place, put behind the names up to `end` once it is closed, whatever follows it.
 pub(crate) fn read_key(text: &[u8], names: &mut [u32], end: usize, at: usize) -> ItemStart
     requires { ⌜ NameAsks (now text) (now names) end at ⌝ }
@@ -44,8 +57,8 @@ pub(crate) fn read_key(text: &[u8], names: &mut [u32], end: usize, at: usize) ->
         Token::No2(p) => ItemStart::Wrong(Refusal::Grammar(p), end),
         Token::No3(p) => ItemStart::Wrong(Refusal::Character(p), end),
         Token::End(to) => {
-            names[end] = at as u32;
-            colon(text, at + 1, to, end + 1)
+            let last = put_name(names, end, at);
+            colon(text, at + 1, to, last)
         }
     }
 }

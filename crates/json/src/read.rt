@@ -12,10 +12,10 @@ use text::Refusal;
 ghost use mathlib.Core.Path.{_≡_};
 ghost use Prim.Native.Nat.{_*_, _≤_};
 ghost use lib.ListN.{length};
-ghost use Rattle.text.specs.Limits.{base};
-ghost use Rattle.text.specs.Whole.{readOf, wholeOf, Reads};
-ghost use Rattle.json.specs.Readers.{TextAsks};
-ghost use Rattle.json.specs.Answers.{ReadsRows, Ended};
+ghost use Rattle.text.specs.Limits.{base, loose};
+ghost use Rattle.text.specs.Whole.{readOf, Reads};
+ghost use Rattle.json.specs.Readers.{limitsIn, TextAsks};
+ghost use Rattle.json.specs.Answers.{ReadsRows, Ended, Counted, inRoom, KeepsRows};
 
 // The bytes that a name takes at least, up to its value's first byte and with the bracket or comma before it; and the names of shorter texts, fourfold each
 // time: what is cleared for a text of more than 256 bytes is then no more than four times what it could use.
@@ -47,32 +47,56 @@ pub fn read(text: &[u8], table: &mut [u32]) -> Reading
 pub fn read_rows(text: &[u8], table: &mut [u32]) -> Reading
     ensures { λ r. ⌜ ReadsRows base (now (text .entry)) (now (table .entry)) r (now (table .exit)) ⌝ }
 {
-    match read_over(text, table) {
-        Reading::Rows(n) => Reading::Rows(n),
-        Reading::Refused(r) => {
-            clear_words(table);
-            Reading::Refused(r)
-        }
-    }
+    let read = read_sized(text, table);
+    keep_rows(table, read)
 }
 
-// The answer, and the rows in the table, which may hold anything after a refusal. That the table is too small is said last: the text is read all the same,
-// and what has no room isn't stored.
-fn read_over(text: &[u8], table: &mut [u32]) -> Reading
-    ensures { λ r. ⌜ Ended (wholeOf base (length (now (table .entry))) (now (text .entry))) (now (table .entry)) (now (table .exit)) r ⌝ }
+// The same, but names aren't compared: for a text that is known to have none twice in an object.
+pub fn read_loose(text: &[u8], table: &mut [u32]) -> Reading
+    ensures { λ r. ⌜ ReadsRows (loose base) (now (text .entry)) (now (table .entry)) r (now (table .exit)) ⌝ }
 {
-    match read_sized(text, table) {
-        Reading::Rows(n) => {
-            if table.len() < ROW_WORDS * n {
-                return Reading::Refused(Refusal::Small(n));
-            }
-            Reading::Rows(n)
-        }
-        Reading::Refused(r) => Reading::Refused(r),
-    }
+    let read = read_unnamed(text, table);
+    keep_rows(table, read)
 }
 
-// The same for a table of any size: read with a store of names that is sized by the text, since the store is cleared at each call.
+// The answer on a text whose rows were stored as far as the table has room: that it has too little is said last. After a refusal the table, which may hold
+// anything then, is cleared.
+fn keep_rows(table: &mut [u32], read: Reading) -> Reading
+    requires { ⌜ Counted read ⌝ }
+    ensures { λ r. ⌜ KeepsRows (now (table .entry)) read r (now (table .exit)) ⌝ }
+{
+    let answer = in_room(table.len(), read);
+    if let Reading::Refused(_) = answer {
+        clear_words(table);
+    }
+    answer
+}
+
+// The same answer, or that a table of so many words is too small.
+fn in_room(words: usize, read: Reading) -> Reading
+    requires { ⌜ Counted read ⌝ }
+    ensures { λ r. ⌜ r ≡ inRoom words read ⌝ }
+{
+    if let Reading::Rows(n) = read {
+        if words < ROW_WORDS * n {
+            return Reading::Refused(Refusal::Small(n));
+        }
+    }
+    read
+}
+
+// A text read without a store of names.
+fn read_unnamed(text: &[u8], table: &mut [u32]) -> Reading
+    ensures { λ r. ⌜ Ended (readOf (loose base) (now (text .entry))) (now (table .entry)) (now (table .exit)) r ⌝ }
+{
+    if BYTES < text.len() {
+        return Reading::Refused(Refusal::TooLong);
+    }
+    let mut names = [0u32; 0];
+    read_whole(text, table, &mut names)
+}
+
+// A text read with a store of names that is sized by it, since the store is cleared at each call.
 fn read_sized(text: &[u8], table: &mut [u32]) -> Reading
     ensures { λ r. ⌜ Ended (readOf base (now (text .entry))) (now (table .entry)) (now (table .exit)) r ⌝ }
 {
@@ -165,7 +189,7 @@ fn read_most(text: &[u8], table: &mut [u32]) -> Reading
 // A text within the limit of bytes: a value with white space around it.
 fn read_whole(text: &[u8], table: &mut [u32], names: &mut [u32]) -> Reading
     requires { ⌜ TextAsks (now text) (now names) ⌝ }
-    ensures { λ r. ⌜ Ended (readOf base (now (text .entry))) (now (table .entry)) (now (table .exit)) r ⌝ }
+    ensures { λ r. ⌜ Ended (readOf (limitsIn (now (names .entry))) (now (text .entry))) (now (table .entry)) (now (table .exit)) r ⌝ }
 {
     let from = skip(text, 0);
     let v = read_value(text, table, names, DEPTH, 0, 0, 0, from, 0);

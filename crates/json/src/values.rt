@@ -2,7 +2,8 @@
 // stands further on in the text.
 //
 // Members are read without comparing their names. The places of the names that were closed stand in `names`, those of the object at hand from `top` on
-// behind those of the objects around it, and are looked through once the object ends or a refusal ends it (crate `repeats`).
+// behind those of the objects around it, and are looked through once the object ends or a refusal ends it (crate `repeats`). If `names` has no words, none
+// are put aside, and so none repeats another.
 use crate::bytes::COMMA;
 use crate::bytes::peek;
 use crate::containers::Container;
@@ -26,7 +27,7 @@ ghost use Rattle.text.specs.Limits.{base};
 ghost use Rattle.text.specs.Text.{byteAt};
 ghost use Rattle.text.specs.Tokens as tokens;
 ghost use Rattle.text.specs.Reader.{scalarAt, valueAt};
-ghost use Rattle.json.specs.Readers.{ItemAsks, ValueAsks, ContainerAsks, ScalarAsks, Overfull, Took, TookIn, CloseAsks, Closes, containerAt, SettleAsks, Settles, ItemTook, ItemsTook};
+ghost use Rattle.json.specs.Readers.{limitsIn, ItemAsks, ValueAsks, ContainerAsks, ScalarAsks, Overfull, Took, TookIn, CloseAsks, Closes, containerAt, SettleAsks, Settles, ItemTook, ItemsTook};
 
 // What reading some of a text gives: the place after it and the number of values so far, or the refusal.
 pub enum Progress {
@@ -141,7 +142,7 @@ pub(crate) fn read_value(
     count: usize,
 ) -> Progress
     requires { ⌜ ValueAsks (now text) (now names) top ns ne at count ⌝ }
-    ensures { λ r. ⌜ TookIn (valueAt base (now (text .entry)) depth ns ne at count) (now (text .entry)) at count (now (table .entry)) (now (table .exit)) top (now (names .entry)) (now (names .exit)) r ⌝ }
+    ensures { λ r. ⌜ TookIn (valueAt (limitsIn (now (names .entry))) (now (text .entry)) depth ns ne at count) (now (text .entry)) at count (now (table .entry)) (now (table .exit)) top (now (names .entry)) (now (names .exit)) r ⌝ }
 {
     if VALUES <= count {
         return Progress::Stop(overfull(text, depth, at));
@@ -171,7 +172,7 @@ fn read_container(
     count: usize,
 ) -> Progress
     requires { ⌜ ContainerAsks (now text) (now names) top ns ne at count ⌝ }
-    ensures { λ r. ⌜ TookIn (containerAt of base (now (text .entry)) depth ns ne at count) (now (text .entry)) at count (now (table .entry)) (now (table .exit)) top (now (names .entry)) (now (names .exit)) r ⌝ }
+    ensures { λ r. ⌜ TookIn (containerAt of (limitsIn (now (names .entry))) (now (text .entry)) depth ns ne at count) (now (text .entry)) at count (now (table .entry)) (now (table .exit)) top (now (names .entry)) (now (names .exit)) r ⌝ }
 {
     if depth == 0 {
         return Progress::Stop(Refusal::Deep(at));

@@ -3,3 +3,4 @@ pub mod Children
 pub mod Cards
 pub mod Compose
 pub mod Drafts
+pub mod Sayable

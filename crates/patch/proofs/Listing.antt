@@ -1,8 +1,12 @@
--- Entries listed by their rows: walks along them, where their pointers lead, the conditions 22 to 26, their order, and where a name parts them. Assumes nothing.
-pub mod Entries
-pub mod Paths
+-- Entries listed by their rows: how they are listed, the conditions 22 to 26, their order and their places, clashes of neighbours, and where a name parts them.
+-- Assumes nothing.
+pub mod Filling
+pub mod Neighbours
+pub mod Kept
 pub mod Conditions
 pub mod Sorting
 pub mod Orders
+pub mod Places
 pub mod Runs
 pub mod Members
+pub mod Marks

@@ -8,3 +8,6 @@ pub mod Additions
 pub mod Leaving
 pub mod Patches
 pub mod Cards
+pub mod Meeting
+pub mod Passing
+pub mod Objects

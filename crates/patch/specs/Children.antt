@@ -2,14 +2,14 @@
 use Prim.Native.Nat.{ℕ, _+_, _≤_}
 use mathlib.Core.Path.{_≡_}
 use mathlib.Core.List.{List}
-use mathlib.Core.Option.{Option, none, some}
+use mathlib.Core.Option.{none}
 use Rattle.laws.specs.Lists.{partOf}
 use Rattle.text.specs.Tree.{Forest, size}
 use Rattle.text.specs.Firsts.{insideAt, belowAt}
 use Rattle.text.specs.Strings.{nameOf}
-use Rattle.text.specs.Doc.{Name, object, Property, membersOf, docOf}
+use Rattle.text.specs.Doc.{Name, object, membersOf, docOf}
 use Rattle.json.specs.Rows.{nameStartIn, nameEndIn}
-use Rattle.json.specs.Lookup.{KnownAt, firstMember, Standing}
+use Rattle.json.specs.Lookup.{KnownAt, Standing}
 use Rattle.json.specs.declared.lookup.Found.{Found}
 use Rattle.json.specs.declared.lookup.Found.the-variants.{Row, Nothing}
 use Rattle.contact.specs.Pointer.{child}
@@ -30,12 +30,6 @@ keyAt t table row = nameOf t (nameStartIn table row) (nameEndIn table row)
 pub record Held (table : List ℕ) (limit row : ℕ) (g : Forest) : Type 0 where
   pub value : KnownAt table row g
   pub within : row + size g ≤ limit
-
--- the property is there, and its value stands at row m
-pub record PropertyAt (t table : List ℕ) (limit : ℕ) (o : Option Property) (m : ℕ) : Type 0 where
-  pub found : Forest
-  pub held : Held table limit m found
-  pub is : o ≡ some (firstMember t found)
 
 -- the value g at a row is an object, and the first of its members that has the name stands at row m
 pub record ChildAt (t table : List ℕ) (limit row : ℕ) (n : Name) (g : Forest) (m : ℕ) : Type 0 where

@@ -1,7 +1,7 @@
 -- What is written of a card for a language, before it is judged again; and what the functions that write it promise. Assumes nothing: these are definitions.
 use Prim.Native.Nat.{ℕ, _≤_, _<_}
 use mathlib.Core.Path.{_≡_}
-use mathlib.Core.List.{List}
+use mathlib.Core.List.{List, []}
 use mathlib.Core.Bool.{true, cond}
 use mathlib.Core.Option.{Option, none, some}
 use lib.Dec.{ltb}
@@ -12,19 +12,23 @@ use Rattle.text.specs.Tree.{Forest}
 use Rattle.text.specs.Standing.{Stands}
 use Rattle.text.specs.Firsts.{insideAt}
 use Rattle.text.specs.Doc.{Name, Doc, scalar, array, object, Members, Property, membersOf, docOf}
+use Rattle.text.specs.Distinct.{DistinctMembers}
 use Rattle.text.specs.Writing.{written}
 use Rattle.contact.specs.Verdict.{passed, judgedOf}
 use Rattle.contact.specs.Pointer.{find}
 use Rattle.contact.specs.Patch.{entriesOf}
 use Rattle.contact.specs.Entries.{NoClash, ParentsThere}
+use Rattle.contact.specs.Conditions.{HasKey}
+use Rattle.contact.specs.Places.{quoteOf, keyPlace}
 use Rattle.contact.specs.Localize.{Outcome, denied, start, patchAt, patchedDoc, byRoom}
 use Rattle.contact.specs.declared.LocalRefusal.{LocalRefusal}
 use Rattle.contact.specs.declared.LocalRefusal.the-variants.{NoLanguage, Short}
-use Rattle.patch.specs.Written.{full, Wrote}
-use Rattle.patch.specs.Entries.{mostEntries, Listed}
+use Rattle.patch.specs.Written.{full}
+use Rattle.patch.specs.Entries.{mostEntries, width}
 use Rattle.patch.specs.Children.{Held}
-use Rattle.patch.specs.Conditions.{conditionOf}
-use Rattle.patch.specs.Patched.{BaseAt}
+use Rattle.patch.specs.Conditions.{Placed, placed, keyFault, walkFault}
+use Rattle.patch.specs.Marks.{ShortKeys}
+use Rattle.patch.specs.Patched.{Said, BaseAt}
 use Rattle.patch.specs.declared.conditions.Condition.{Condition}
 use Rattle.patch.specs.declared.conditions.Condition.the-variants.{Kept, Broken}
 use Rattle.patch.specs.declared.compose.Attempt.{Attempt}
@@ -32,39 +36,45 @@ use Rattle.patch.specs.declared.compose.Attempt.the-variants.{Bytes, Ref
 
 -- ---- the draft
 
--- the text of the localized card, or a refusal from 21 to 26
+-- the text of the localized card; or a refusal from 21 to 26, and what was written before it was found
 pub data Draft : Type 0 where
   draft : List ℕ → Draft
-  refusal : LocalRefusal → Draft
+  refusal : LocalRefusal → (tried : List ℕ) → Draft
 
--- 22 to 26: the first broken condition refuses; if all are kept, what the entries make of the card is written
-abbrev pub byCondition : Doc → Members → Condition → Draft
-byCondition card ms Kept = draft (written (patchedDoc card ms))
-byCondition card ms (Broken q) = refusal q
+-- what is found before anything is written: a key at fault, named by its place, or else what comes then
+abbrev pub unlessBroken : Condition → Draft → Draft
+unlessBroken Kept later = later
+unlessBroken (Broken q) later = refusal q []
 
--- the same, of these entries
-abbrev pub entriesDraft : Doc → Members → Draft
-entriesDraft card ms = byCondition card ms (conditionOf card ms)
+-- what is found while the text is written: it is a draft, unless a key is at fault
+abbrev pub unlessAstray : Condition → (text : List ℕ) → Draft
+unlessAstray Kept text = draft text
+unlessAstray (Broken q) text = refusal q text
+
+-- 22 to 26, of the members of a PatchObject: 22 to 24 ask the keys, 25 and 26 where they lead in the card without its localizations
+abbrev pub entriesDraft : (place : Name → ℕ) → Doc → Members → Draft
+entriesDraft place card ms =
+    unlessBroken (placed place (keyFault ms)) (unlessAstray (placed place (walkFault (start card) ms)) (written (patchedDoc card ms)))
 
 -- 21: what the card has for the language is no object
-abbrev pub valueDraft : Doc → (patch : Doc) → Draft
-valueDraft card (scalar kind token) = refusal NoLanguage
-valueDraft card (array ms) = refusal NoLanguage
-valueDraft card (object ms) = entriesDraft card ms
+abbrev pub valueDraft : (place : Name → ℕ) → Doc → (patch : Doc) → Draft
+valueDraft place card (scalar kind token) = refusal NoLanguage []
+valueDraft place card (array ms) = refusal NoLanguage []
+valueDraft place card (object ms) = entriesDraft place card ms
 
 -- 21: it has nothing for the language
-abbrev pub foundDraft : Doc → Option Property → Draft
-foundDraft card none = refusal NoLanguage
-foundDraft card (some p) = valueDraft card (p .content)
+abbrev pub foundDraft : (place : Name → ℕ) → Doc → Option Property → Draft
+foundDraft place card none = refusal NoLanguage []
+foundDraft place card (some p) = valueDraft place card (p .content)
 
--- the card as the PatchObject that it has for a language leaves it
-unfoldable pub draftOf : (card : Doc) → (lang : Name) → Draft
-draftOf card lang = foundDraft card (find (patchAt lang) card)
+-- the card as the PatchObject that it has for a language leaves it; `place` says where a key stands
+unfoldable pub draftOf : (place : Name → ℕ) → (card : Doc) → (lang : Name) → Draft
+draftOf place card lang = foundDraft place card (find (patchAt lang) card)
 
 -- what becomes of a draft: 27 and 28 are left to ask
 abbrev pub draftOutcome : Limits → (words room : ℕ) → Draft → Outcome
 draftOutcome L words room (draft t) = byRoom L words room t
-draftOutcome L words room (refusal q) = denied q
+draftOutcome L words room (refusal q tried) = denied q
 
 -- ---- contracts
 
@@ -82,28 +92,42 @@ Countable card ms =
 abbrev pub fittingOf : (count room : ℕ) → Attempt
 fittingOf count room = cond (ltb room count) (Refused (Short count)) (Bytes count)
 
--- a draft was written to an output as far as there is room, and the answer tells its length or 27; or its refusal was answered and nothing written
+-- A draft was written to an output as far as there is room, and the answer tells its length or 27; or its refusal was answered, and what was written before it
+-- was found stands in the output.
 abbrev pub Drafted : Draft → (old new : List ℕ) → Attempt → Type 0
 Drafted (draft t) old new r = (r ≡ fittingOf (length t) (length old)) × (new ≡ sets old 0 t)
-Drafted (refusal q) old new r = (r ≡ Refused q) × (new ≡ old)
+Drafted (refusal q tried) old new r = (r ≡ Refused q) × (new ≡ sets old 0 tried)
 
--- the card was written as the listed entries leave it, if they do not clash
-abbrev pub PutSorted : (card ctable : List ℕ) → (leave : ℕ) → (text table rows : List ℕ) → (n : ℕ) → (old new : List ℕ) → (r : ℕ) → Type 0
+-- the card was written as the listed entries leave it, which ascend and do not clash; or 25 or 26 was found
+abbrev pub PutSorted : (card ctable : List ℕ) → (leave : ℕ) → (text table rows : List ℕ) → (n : ℕ) → (old new : List ℕ) → Attempt → Type 0
 PutSorted card ctable leave text table rows n old new r =
-    (g : Forest) (ms : Members) → BaseAt card ctable leave 0 true g → Listed text table rows 0 n ms → NoClash (entriesOf ms)
-    → Wrote old 0 (written (patchedDoc (docOf card g) ms)) new r
+    (place : Name → ℕ) (g : Forest) (ms : Members) → BaseAt card ctable leave 0 true g → Said text table rows 0 n 0 ms → Placed text table rows n place
+    → Countable (docOf card g) ms
+    → Drafted (unlessAstray (placed place (walkFault (start (docOf card g)) ms)) (written (patchedDoc (docOf card g) ms))) old new r
 
--- what is asked to write the card as the PatchObject at a row leaves it: the row's number is below the table's words, and the list is no longer than the most
--- entries
-abbrev pub MakeAsks : (table : List ℕ) (patch : ℕ) (rows : List ℕ) → Type 0
-MakeAsks table patch rows = (patch < length table) × (length rows ≤ mostEntries)
+-- what is asked to write the card as the PatchObject at a row leaves it: the row's number is below the table's words, and the lists are equally long, no longer
+-- than the most entries
+abbrev pub MakeAsks : (table : List ℕ) (patch : ℕ) (rows cues walks : List ℕ) → Type 0
+MakeAsks table patch rows cues walks =
+    (patch < length table) × (length rows ≤ mostEntries) × (length rows ≤ length cues) × (length rows ≤ length walks)
 
--- the card as the PatchObject at a row of a table leaves it was written, or was not
+-- the PatchObject at a row has no more entries than this
+abbrev pub FewerThan : (table : List ℕ) (patch most : ℕ) → Type 0
+FewerThan table patch most = (p : Forest) → Held table mostEntries patch p → width (insideAt p) ≤ most
+
+-- `place` says where the key of each entry of the PatchObject stands
+abbrev pub PlacesOf : (text : List ℕ) → (entries : Forest) → (place : Name → ℕ) → Type 0
+PlacesOf text entries place = (key : Name) → HasKey key (membersOf text entries) → place key ≡ quoteOf text key entries
+
+-- The card as the PatchObject at a row of a table leaves it was written, or was not. Its names and those of the card are distinct, and its text is no longer than
+-- a card's.
 abbrev pub Makes : (card ctable : List ℕ) → (leave : ℕ) → (text table : List ℕ) → (patch : ℕ) → (old new : List ℕ) → Attempt → Type 0
 Makes card ctable leave text table patch old new r =
-    (g p : Forest) → BaseAt card ctable leave 0 true g → Held table mostEntries patch p → Countable (docOf card g) (membersOf text (insideAt p))
-    → Drafted (entriesDraft (docOf card g) (membersOf text (insideAt p))) old new r
+    (place : Name → ℕ) (g p : Forest) → BaseAt card ctable leave 0 true g → Held table mostEntries patch p → DistinctMembers (membersOf text (insideAt p))
+    → PlacesOf text (insideAt p) place → ShortKeys text → Countable (docOf card g) (membersOf text (insideAt p))
+    → Drafted (entriesDraft place (docOf card g) (membersOf text (insideAt p))) old new r
 
 -- the card as the PatchObject of a language leaves it
 abbrev pub MakesFor : (text table : List ℕ) → (lang : Name) → (old new : List ℕ) → Attempt → Type 0
-MakesFor text table lang old new r = (f : Forest) → CardIn text table f → Drafted (draftOf (docOf text f) lang) old new r
+MakesFor text table lang old new r =
+    (f : Forest) → CardIn text table f → Drafted (draftOf (keyPlace text f lang) (docOf text f) lang) old new r

@@ -1,15 +1,17 @@
 -- The entries of a PatchObject by the rows at which they stand, in an order that may be another than the text's.
 -- Assumes nothing: these are definitions.
 use Prim.Native.Nat.{ℕ, _+_, _<_, _≤_}
+use mathlib.Core.Path.{_≡_}
 use mathlib.Core.List.{List, [], _∷_}
 use lib.ListN.{length, getD}
 use Rattle.laws.specs.declared.Order.{Order}
 use Rattle.text.specs.Limits.{base}
 use Rattle.text.specs.Strings.{nameOf}
-use Rattle.text.specs.Tree.{Forest}
-use Rattle.text.specs.Firsts.{HasFirst, Kinds, nameStart, nameEnd}
+use Rattle.text.specs.Tree.{Forest, leaf, node}
+use Rattle.text.specs.Tree as T
+use Rattle.text.specs.Firsts.{HasFirst, Kinds, nameStart, nameEnd, belowAt, restAt}
 use Rattle.text.specs.Standing.{Stands, StandsTo}
-use Rattle.text.specs.Doc.{Members, empty, member, labelAt, docOf, membersOf}
+use Rattle.text.specs.Doc.{Members, empty, member, labelAt, docOf}
 use Rattle.contact.specs.Pointer.{pointerOf}
 use Rattle.contact.specs.Patch.{Entry, entry, changeOf}
 use Rattle.pointers.specs.Pointers.{pointerOrder, strip}
@@ -34,13 +36,19 @@ rowOrder t table row other = pointerOrder (pointerOf (keyAt t table row)) (point
 abbrev pub mostEntries : ℕ
 mostEntries = base .values
 
--- the list has n words, no more than there can be entries
-abbrev pub Listable : (rows : List ℕ) (n : ℕ) → Type 0
-Listable rows n = (n ≤ length rows) × (n ≤ mostEntries)
+-- how many values there are, not looking inside them
+abbrev pub width : Forest → ℕ
+width T.none = 0
+width (leaf kind ns ne from to rest) = width rest + 1
+width (node b ns ne from to inside rest) = width rest + 1
 
--- the members that stand between two rows are listed by the first n words, where a card can have those rows and the list has room for as many; and n is
+-- the words i up to n of a list are the rows of these values, one after the other, of which the first stands at row k
+pub data RowsOf (rows : List ℕ) : (i n k : ℕ) → Forest → Type 0 where
+  no-more : {n k : ℕ} → RowsOf rows n n k T.none
+  one-more : {i n k : ℕ} (f : Forest) → i < n → HasFirst f → getD rows i 0 ≡ k → RowsOf rows (i + 1) n (k + 1 + belowAt f) (restAt f) → RowsOf rows i n k f
+
+-- the first n words are the rows of the values that stand between two rows, where a card can have those rows and the list has room for so many; and n is
 -- never too many
 pub record Collected (table : List ℕ) (from end : ℕ) (rows : List ℕ) (n : ℕ) : Type 0 where
   pub inside : n ≤ length rows
-  pub all : (t : List ℕ) (f : Forest) → StandsTo table from end f → Kinds f → end ≤ mostEntries → end ≤ from + length rows
-      → Listed t table rows 0 n (membersOf t f)
+  pub all : (f : Forest) → StandsTo table from end f → end ≤ mostEntries → width f ≤ length rows → RowsOf rows 0 n from f

@@ -1,9 +1,10 @@
 pub mod Children
 pub mod Entries
-pub mod Paths
+pub mod Neighbours
+pub mod Conditions
+pub mod Marks
 pub mod Runs
 pub mod Written
 pub mod Copied
-pub mod Conditions
 pub mod Patched
 pub mod Drafts

@@ -6,38 +6,44 @@ use mathlib.Core.Bool.{Bool, true, false, cond}
 use mathlib.Core.List.{List, [], _∷_, _++_}
 use mathlib.Core.Option.{Option, none, some}
 use lib.Dec.{eqb}
-use Rattle.laws.specs.Lists.{RunIn}
+use lib.ListN.{length, getD}
 use Rattle.laws.specs.Order.{same}
 use Rattle.text.specs.Text.{bytes}
 use Rattle.text.specs.Tree.{Forest, leaf, node, size}
 use Rattle.text.specs.Tree as T
-use Rattle.text.specs.Firsts.{nameStart, nameEnd, insideAt, belowAt}
+use Rattle.text.specs.Firsts.{nameStart, nameEnd, insideAt, belowAt, restAt}
 use Rattle.text.specs.Strings.{nameOf}
-use Rattle.text.specs.Doc.{Name, Doc, Members, member, Property, seek, membersOf, labelAt, docOf}
+use Rattle.text.specs.Distinct.{Distinct}
+use Rattle.text.specs.Doc.{Name, Doc, object, Members, empty, member, Property, seek, membersOf, labelAt, docOf}
 use Rattle.text.specs.Writing.{spelled, written, writtenMembers}
 use Rattle.contact.specs.Pointer.{Pointer, last, down, pointerOf, firstPart}
-use Rattle.contact.specs.Patch.{Change, remove, set, Entry, entry, changeOf, without, mine, under, applied, added}
+use Rattle.contact.specs.Patch.{Change, remove, set, Entry, entry, changeOf, walk, without, mine, under, applied, added}
 use Rattle.contact.specs.Localize.{start, patchedDoc}
 use Rattle.pointers.specs.Pointers.{strip}
 use Rattle.patch.specs.Entries.{Listed, stripped}
 use Rattle.patch.specs.Runs.{InOrder}
 use Rattle.patch.specs.Written.{Wrote}
 use Rattle.json.specs.Lookup.{KnownAt}
+use Rattle.json.specs.Cursors.{rest, cursor}
+use Rattle.patch.specs.Children.{keyBytes}
+use Rattle.patch.specs.Conditions.{walkCode, Walked}
+use Rattle.patch.specs.Marks.{met, Around, RunCued, ShortKeys, pointAt, Waiting, Mark, Marked, Ahead}
 use Rattle.patch.specs.Copied.{headOf, labelIn}
-use Rattle.pointers.specs.declared.parts.Onward.{Onward}
-use Rattle.pointers.specs.declared.parts.Onward.the-variants.{Last, Part}
+use Rattle.pointers.specs.declared.keys.After.{After}
+use Rattle.pointers.specs.declared.keys.After.the-variants.{Nothing, At}
 use Rattle.patch.specs.declared.writing.Pen.{Pen}
 
 -- ---- a run of entries
 
--- what is asked to write a value as a run leaves it: the run is inside the list, and no more parts were taken than there are rows before the value
-abbrev pub RunAsks : (rows : List ℕ) (lo hi parts row : ℕ) → Type 0
-RunAsks rows lo hi parts row = RunIn rows lo hi × (parts ≤ row)
+-- what is asked to write a value as a run leaves it: the run is inside the lists
+abbrev pub RunAsks : (rows cues walks : List ℕ) (lo hi : ℕ) → Type 0
+RunAsks rows cues walks lo hi = RunCued rows cues lo hi × (hi ≤ length walks)
 
--- the members that are listed by the run; their entries, without the parts that were taken, ascend
+-- the members that are listed by the run; their entries, without the parts that were taken, ascend, and their keys are short
 pub record Said (t table rows : List ℕ) (lo hi parts : ℕ) (ms : Members) : Type 0 where
   pub listed : Listed t table rows lo hi ms
   pub ascending : InOrder (stripped parts ms)
+  pub short : ShortKeys t
 
 -- ---- the card at its root is taken without its localizations, which stand at the row `leave`
 
@@ -72,10 +78,12 @@ LeavesOut t leave root m (leaf kind ns ne from to rest) = OutAt (isOut root (nam
 LeavesOut t leave root m (node b ns ne from to inside rest) =
     OutAt (isOut root (nameOf t ns ne)) leave m (size inside) × LeavesOut t leave root (m + 1 + size inside) rest
 
--- a value stands at a row, and so it is with the members inside it
+-- a value stands at a row, and so it is with the members inside it; its names are distinct, and its rows no more than can be marked
 pub record BaseAt (t table : List ℕ) (leave row : ℕ) (root : Bool) (g : Forest) : Type 0 where
   pub value : KnownAt table row g
   pub out : LeavesOut t leave root (row + 1) (insideAt g)
+  pub distinct : Distinct (docOf t g)
+  pub few : row + 1 + belowAt g ≤ met
 
 -- ---- what becomes of a member
 
@@ -120,9 +128,9 @@ isLast (last n) = true
 isLast (down n p) = false
 
 -- the same, of what follows a part
-abbrev pub isEnd : Onward → Bool
-isEnd Last = true
-isEnd (Part c) = false
+abbrev pub isNothing : After → Bool
+isNothing Nothing = true
+isNothing (At to) = false
 
 -- is there a first entry, and does its pointer end so?
 abbrev pub endsFirst : List Entry → Bool
@@ -130,9 +138,13 @@ endsFirst [] = false
 endsFirst (entry p c ∷ es) = isLast p
 
 -- the test of it: there is one if it ends
-pub record Ending (t table rows : List ℕ) (lo hi parts : ℕ) (r : Bool) : Type 0 where
+pub record Ending (t table rows cues : List ℕ) (lo hi : ℕ) (r : Bool) : Type 0 where
   pub some : r ≡ true → lo < hi
-  pub is : (ms : Members) → Said t table rows lo hi parts ms → r ≡ endsFirst (stripped parts ms)
+  pub is : (parts : ℕ) (ms : Members) → Said t table rows lo hi parts ms → Waiting t table rows cues lo hi parts → r ≡ endsFirst (stripped parts ms)
+
+-- where a walk ends that reaches a value of this kind, which is no object
+abbrev pub strayOf : (kind : ℕ) → ℕ
+strayOf kind = cond (eqb kind 6) 1 2
 
 -- ---- the bytes of one member
 
@@ -158,25 +170,28 @@ pub record Passed (old : List ℕ) (from : Pen) (o : Option Doc) (label new : Li
   pub wrote : Wrote old (from .to) (piece o (from .first) label) new (r .to)
   pub next : r .first ≡ since o (from .first)
 
--- the entry at row e, with what is left of its pointer, adds a member to the object at a row, or does not
-abbrev pub IsAdded : (t table : List ℕ) → (row leave : ℕ) → (ptable : List ℕ) → (e : ℕ) → Pointer → (r : Bool) → Type 0
-IsAdded t table row leave ptable e p r =
-    (root : Bool) (pt : List ℕ) (g h : Forest) → BaseAt t table leave row root g → KnownAt ptable e h
-    → adds (membersIn root t g) (entry p (changeOf (docOf pt h))) ≡ cond r (some (docOf pt h)) none
+-- the value of the entry at row e was written as a member, whose name is what is left of the entry's key at a place; or it is null
+abbrev pub PutAddition : (pt ptable : List ℕ) → (e place : ℕ) → (old : List ℕ) → (from : Pen) → (new : List ℕ) → (r : Pen) → Type 0
+PutAddition pt ptable e place old from new r =
+    (h : Forest) (d : Doc) → KnownAt ptable e h
+    → Passed old from (keptBy (some (changeOf (docOf pt h))) d) (spelled (firstPart (pointerOf (rest (keyBytes pt ptable e) (cursor place 0 0))))) new r
 
--- the member that the entry at row e adds was written, or it adds none
-abbrev pub PutAddition : (t table : List ℕ) → (row leave : ℕ) → (pt ptable : List ℕ) → (e parts : ℕ) → (old : List ℕ) → (from : Pen)
-    → (new : List ℕ) → (r : Pen) → Type 0
-PutAddition t table row leave pt ptable e parts old from new r =
-    (root : Bool) (g h : Forest) → BaseAt t table leave row root g → KnownAt ptable e h
-    → Passed old from (adds (membersIn root t g) (entryOf pt parts h)) (spelled (firstPart (pointerIn pt parts h))) new r
+-- what becomes of the entry at the place i of the list, if those that met no member add one or are lost: what it adds was written, and where its walk ends is
+-- marked
+pub record Settled (pt ptable rows cues : List ℕ) (i : ℕ) (walks walks′ : List ℕ) (old : List ℕ) (from : Pen) (new : List ℕ) (r : Pen) : Type 0 where
+  pub around : Around walks i (i + 1) walks′
+  pub is : (t table : List ℕ) (parts : ℕ) (all : Members) (h : Forest) → KnownAt ptable (getD rows i 0) h
+      → Mark t table pt ptable rows cues walks parts all empty i
+      → Passed old from (adds all (entryOf pt parts h)) (spelled (firstPart (pointerIn pt parts h))) new r
+      × (getD walks′ i 0 ≡ walkCode (walk (pointAt pt ptable rows parts i) (object all)))
 
--- the members that the run adds were written, and the closing brace
-abbrev pub PutAdditions : (t table : List ℕ) → (row leave : ℕ) → (pt ptable rows : List ℕ) → (lo hi parts : ℕ) → (old : List ℕ) → (from : Pen)
-    → (new : List ℕ) → (r : ℕ) → Type 0
-PutAdditions t table row leave pt ptable rows lo hi parts old from new r =
-    (root : Bool) (g : Forest) (ms : Members) → BaseAt t table leave row root g → Said pt ptable rows lo hi parts ms
-    → Wrote old (from .to) (writtenMembers (added (membersIn root t g) (stripped parts ms)) (from .first)) new r
+-- the members that the run adds were written, and the closing brace; and where the walks end is marked
+pub record PutAdditions (pt ptable rows cues : List ℕ) (lo hi : ℕ) (walks walks′ old : List ℕ) (from : Pen) (new : List ℕ) (r : ℕ) : Type 0 where
+  pub around : Around walks lo hi walks′
+  pub is : (t table : List ℕ) (parts : ℕ) (all ms : Members) → Said pt ptable rows lo hi parts ms
+      → Marked t table pt ptable rows cues walks lo hi parts all empty
+      → Wrote old (from .to) (writtenMembers (added all (stripped parts ms)) (from .first)) new r
+      × Walked pt ptable rows walks′ lo hi parts (object all)
 
 -- the member at a row was written with the value of the entry at row e, or left out if that is null
 abbrev pub PutReplaced : (t table : List ℕ) → (row : ℕ) → (pt ptable : List ℕ) → (e : ℕ) → (old : List ℕ) → (from : Pen) → (new : List ℕ) → (r : Pen)
@@ -184,23 +199,32 @@ abbrev pub PutReplaced : (t table : List ℕ) → (row : ℕ) → (pt ptable : L
 PutReplaced t table row pt ptable e old from new r =
     (h : Forest) (d : Doc) → KnownAt ptable e h → Passed old from (keptBy (some (changeOf (docOf pt h))) d) (labelIn t table row) new r
 
--- the member at hand was written as the entries leave it
-abbrev pub PutMember : (t table : List ℕ) → (row leave : ℕ) → (pt ptable rows : List ℕ) → (lo hi parts : ℕ) → (old : List ℕ) → (from : Pen)
-    → (new : List ℕ) → (r : Pen) → Type 0
-PutMember t table row leave pt ptable rows lo hi parts old from new r =
-    (root : Bool) (g : Forest) (ms : Members) → let n = nameOf t (nameStart g) (nameEnd g) in
-    KnownAt table row g → OutAt (isOut root n) leave row (belowAt g) → Said pt ptable rows lo hi parts ms
-    → Passed old from (stays root n (stripped parts ms) (docOf t g)) (labelAt t (nameStart g) (nameEnd g)) new r
+-- the marks of the entries outside a run are as they were
+abbrev pub Elsewhere : (lo hi : ℕ) → (cues cues′ walks walks′ : List ℕ) → Type 0
+Elsewhere lo hi cues cues′ walks walks′ = Around cues lo hi cues′ × Around walks lo hi walks′
 
--- the value at hand was written as the entries leave it
-abbrev pub PutValue : (t table : List ℕ) → (row leave : ℕ) → (pt ptable rows : List ℕ) → (lo hi parts : ℕ) → (old : List ℕ) → (at : ℕ)
-    → (new : List ℕ) → (r : ℕ) → Type 0
-PutValue t table row leave pt ptable rows lo hi parts old at new r =
-    (root : Bool) (g : Forest) (ms : Members) → BaseAt t table leave row root g → Said pt ptable rows lo hi parts ms
-    → Wrote old at (written (applied (based root (docOf t g)) (stripped parts ms))) new r
+-- the member at hand was written as the entries leave it, and those that it meets are marked: it is no longer ahead
+pub record PutMember (t table : List ℕ) (row leave : ℕ) (pt ptable rows : List ℕ) (lo hi : ℕ) (cues cues′ walks walks′ old : List ℕ) (from : Pen)
+    (new : List ℕ) (r : Pen) : Type 0 where
+  pub elsewhere : Elsewhere lo hi cues cues′ walks walks′
+  pub is : (root : Bool) (g : Forest) (ms : Members) (parts : ℕ) (all : Members) → let n = nameOf t (nameStart g) (nameEnd g) in
+      KnownAt table row g → OutAt (isOut root n) leave row (belowAt g) → row + 1 + belowAt g ≤ met → Said pt ptable rows lo hi parts ms
+      → Ahead all (basedAll root (membersOf t g))
+      → Marked t table pt ptable rows cues walks lo hi parts all (basedAll root (membersOf t g))
+      → Passed old from (stays root n (stripped parts ms) (docOf t g)) (labelAt t (nameStart g) (nameEnd g)) new r
+      × Marked t table pt ptable rows cues′ walks′ lo hi parts all (basedAll root (membersOf t (restAt g)))
 
--- the card was written: without its localizations, as the listed entries leave it
-abbrev pub PutCard : (t table : List ℕ) → (leave : ℕ) → (pt ptable rows : List ℕ) → (n : ℕ) → (old new : List ℕ) → (r : ℕ) → Type 0
-PutCard t table leave pt ptable rows n old new r =
-    (g : Forest) (ms : Members) → BaseAt t table leave 0 true g → Listed pt ptable rows 0 n ms → InOrder (stripped 0 ms)
-    → Wrote old 0 (written (patchedDoc (docOf t g) ms)) new r
+-- the value at hand was written as the entries leave it, and where their walks end is marked
+pub record PutValue (t table : List ℕ) (row leave : ℕ) (pt ptable rows : List ℕ) (lo hi : ℕ) (cues cues′ walks walks′ old : List ℕ) (at : ℕ)
+    (new : List ℕ) (r : ℕ) : Type 0 where
+  pub elsewhere : Elsewhere lo hi cues cues′ walks walks′
+  pub is : (root : Bool) (g : Forest) (ms : Members) (parts : ℕ) → BaseAt t table leave row root g → Said pt ptable rows lo hi parts ms
+      → Waiting pt ptable rows cues lo hi parts
+      → Wrote old at (written (applied (based root (docOf t g)) (stripped parts ms))) new r
+      × Walked pt ptable rows walks′ lo hi parts (based root (docOf t g))
+
+-- the card was written: without its localizations, as the listed entries leave it; and where their walks end is marked
+abbrev pub PutCard : (t table : List ℕ) → (leave : ℕ) → (pt ptable rows : List ℕ) → (n : ℕ) → (walks′ old new : List ℕ) → (r : ℕ) → Type 0
+PutCard t table leave pt ptable rows n walks′ old new r =
+    (g : Forest) (ms : Members) → BaseAt t table leave 0 true g → Said pt ptable rows 0 n 0 ms
+    → Wrote old 0 (written (patchedDoc (docOf t g) ms)) new r × Walked pt ptable rows walks′ 0 n 0 (start (docOf t g))

@@ -1,5 +1,5 @@
--- Entries in ascending order, and the place at which a run of them is parted by a name. Assumes nothing: these are definitions.
-use Prim.Native.Nat.{ℕ, _≤_}
+-- Entries in ascending order of which none is a prefix of another, and the place at which a run of them is parted by a name. Assumes nothing: these are definitions.
+use Prim.Native.Nat.{ℕ, _≤_, _<_}
 use mathlib.Core.Path.{_≡_}
 use mathlib.Core.Bool.{Bool, true, false}
 use mathlib.Core.List.{List, [], _∷_}
@@ -7,17 +7,20 @@ use Rattle.laws.specs.Order.{orderOf}
 use Rattle.laws.specs.declared.Order.{Order}
 use Rattle.laws.specs.declared.Order.the-variants.{Less, Same, More}
 use Rattle.text.specs.Doc.{Name, Members, empty, member}
-use Rattle.contact.specs.Pointer.{Pointer, firstPart}
+use Rattle.contact.specs.Pointer.{Pointer, firstPart, clash}
 use Rattle.contact.specs.Patch.{Change, Entry, entry}
 use Rattle.pointers.specs.Pointers.{pointerOrder}
 use Rattle.patch.specs.Entries.{Listed, stripped}
+use Rattle.patch.specs.Marks.{pointAt, Cued}
+use Rattle.patch.specs.declared.runs.Run.{Run}
 
--- ---- strictly ascending entries
+-- ---- ascending entries
 
--- the pointer stands before that of each of the entries
+-- the pointer stands before that of each of the entries, and is a prefix of none
 pub data LeadsAll (p : Pointer) : List Entry → Type 0 where
   leads-none : LeadsAll p []
-  leads-more : {q : Pointer} {c : Change} {es : List Entry} → pointerOrder p q ≡ Less → LeadsAll p es → LeadsAll p (entry q c ∷ es)
+  leads-more : {q : Pointer} {c : Change} {es : List Entry} → pointerOrder p q ≡ Less → clash p q ≡ false → LeadsAll p es
+      → LeadsAll p (entry q c ∷ es)
 
 -- each stands before all that follow it
 pub data InOrder : List Entry → Type 0 where
@@ -61,9 +64,19 @@ pub record Parted (t table rows : List ℕ) (lo hi parts : ℕ) (n : Name) (past
   pub listed-right : Listed t table rows r hi right
   pub all-before : AllBefore past n (stripped parts left)
   pub none-before : NoneBefore past n (stripped parts right)
+  -- the same, place by place
+  pub passes : (i : ℕ) → lo ≤ i → i < r → aheadBy past (orderOf (firstPart (pointAt t table rows parts i)) n) ≡ true
+  pub fails : (i : ℕ) → r ≤ i → i < hi → aheadBy past (orderOf (firstPart (pointAt t table rows parts i)) n) ≡ false
 
--- What a search for the place answers: a place between lo and hi, whatever the table holds, that parts the members listed there if their entries ascend.
-pub record Bound (t table rows : List ℕ) (lo hi parts : ℕ) (n : Name) (past : Bool) (r : ℕ) : Type 0 where
+-- What a search for the place answers: a place between lo and hi, whatever the tables hold, that parts the members listed there if their entries ascend and
+-- their cues are right. t and table are the card's, pt and ptable the patch's.
+pub record Bound (t table pt ptable rows cues : List ℕ) (lo hi : ℕ) (n : Name) (past : Bool) (r : ℕ) : Type 0 where
   pub low : lo ≤ r
   pub high : r ≤ hi
-  pub parted : (ms : Members) → Listed t table rows lo hi ms → InOrder (stripped parts ms) → Parted t table rows lo hi parts n past ms r
+  pub parted : (parts : ℕ) (ms : Members) → Listed pt ptable rows lo hi ms → InOrder (stripped parts ms) → Cued t table pt ptable rows cues lo hi parts
+      → Parted pt ptable rows lo hi parts n past ms r
+
+-- the run of those whose part at hand is the name, inside the run from lo up to hi
+pub record RunOf (t table pt ptable rows cues : List ℕ) (lo hi : ℕ) (n : Name) (r : Run) : Type 0 where
+  pub from : Bound t table pt ptable rows cues lo hi n false (r .lo)
+  pub to : Bound t table pt ptable rows cues (r .lo) hi n true (r .hi)

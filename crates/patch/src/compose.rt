@@ -1,48 +1,30 @@
 // The localized card (docs/RULES.md, 6), written for a lent output: all entries of the language's PatchObject, or a refusal from 21 to 27.
 use crate::children::child_row;
 use crate::conditions::Condition;
-use crate::conditions::first_broken;
+use crate::conditions::first_astray;
+use crate::conditions::first_key;
 use crate::entries::FEW_ENTRIES;
 use crate::entries::MOST_ENTRIES;
 use crate::entries::SOME_ENTRIES;
 use crate::entries::collect;
-use crate::sort::sort_rows;
+use crate::entries::count;
+use crate::sort::sort;
 use crate::writing::put_card;
 use contact::LocalRefusal;
 use json::lookup::Found;
 use json::lookup::next_row;
 use json::rows::OBJECT;
-use json::rows::below;
 use json::rows::kind;
 ghost use mathlib.Core.Path.{_≡_};
-ghost use Prim.Native.Nat.{_≤_, _<_};
+ghost use Prim.Native.Nat.{_<_};
 ghost use lib.ListN.{length};
-ghost use Rattle.json.specs.Rows.{belowIn};
-ghost use Rattle.patch.specs.Entries.{Listable};
-ghost use Rattle.patch.specs.Drafts.{fittingOf, PutSorted, MakeAsks, Makes, MakesFor};
+ghost use Rattle.patch.specs.Patched.{RunAsks};
+ghost use Rattle.patch.specs.Drafts.{fittingOf, PutSorted, MakeAsks, FewerThan, Makes, MakesFor};
 
 // So many bytes were written, or nothing that counts.
 pub enum Attempt {
     Bytes(usize),
     Refused(LocalRefusal),
-}
-
-// The card as the listed entries leave it, which do not clash: they are sorted, and then it is written in one walk.
-fn put_sorted(
-    card: &[u8],
-    card_table: &[u32],
-    leave: usize,
-    text: &[u8],
-    table: &[u32],
-    rows: &mut [u32],
-    n: usize,
-    out: &mut [u8],
-) -> usize
-    requires { ⌜ Listable (now rows) n ⌝ }
-    ensures { λ r. ⌜ PutSorted (now (card .entry)) (now («card_table» .entry)) leave (now (text .entry)) (now (table .entry)) (now (rows .entry)) n (now (out .entry)) (now (out .exit)) r ⌝ }
-{
-    sort_rows(text, table, rows, n);
-    put_card(card, card_table, leave, text, table, rows, n, out)
 }
 
 // So many bytes, if they have room; else 27.
@@ -55,7 +37,42 @@ fn fitting(count: usize, room: usize) -> Attempt
     Attempt::Bytes(count)
 }
 
-// The card as the PatchObject at a row of the patch leaves it, if no condition from 22 to 27 is broken and the lent list has room for its entries.
+// The card written as the sorted entries leave it, which do not clash; unless 25, 26 or 27 is broken. What was written counts only if none is.
+fn put_sorted(
+    card: &[u8],
+    card_table: &[u32],
+    leave: usize,
+    text: &[u8],
+    table: &[u32],
+    rows: &[u32],
+    cues: &mut [u32],
+    walks: &mut [u8],
+    n: usize,
+    out: &mut [u8],
+) -> Attempt
+    requires { ⌜ RunAsks (now rows) (now cues) (now walks) 0 n ⌝ }
+    ensures { λ r. ⌜ PutSorted (now (card .entry)) (now («card_table» .entry)) leave (now (text .entry)) (now (table .entry)) (now (rows .entry)) n (now (out .entry)) (now (out .exit)) r ⌝ }
+{
+    let count = put_card(
+        card,
+        card_table,
+        leave,
+        text,
+        table,
+        rows,
+        cues,
+        walks,
+        n,
+        out,
+    );
+    if let Condition::Broken(r) = first_astray(text, table, rows, n, walks) {
+        return Attempt::Refused(r);
+    }
+    fitting(count, out.len())
+}
+
+// The card as the PatchObject at a row of the patch leaves it, if no condition from 22 to 27 is broken and the lent lists have room for its entries. The second
+// list is the sort's scratch, and then that of cues.
 fn compose_on(
     card: &[u8],
     card_table: &[u32],
@@ -64,22 +81,35 @@ fn compose_on(
     table: &[u32],
     patch: usize,
     rows: &mut [u32],
+    cues: &mut [u32],
+    walks: &mut [u8],
     out: &mut [u8],
 ) -> Attempt
-    requires { ⌜ MakeAsks (now table) patch (now rows) ⌝ }
-    ensures { λ r. ⌜ (belowIn (now (table .entry)) patch ≤ length (now (rows .entry)) → Makes (now (card .entry)) (now («card_table» .entry)) leave (now (text .entry)) (now (table .entry)) patch (now (out .entry)) (now (out .exit)) r) ⌝ }
+    requires { ⌜ MakeAsks (now table) patch (now rows) (now cues) (now walks) ⌝ }
+    ensures { λ r. ⌜ (FewerThan (now (table .entry)) patch (length (now (rows .entry))) → Makes (now (card .entry)) (now («card_table» .entry)) leave (now (text .entry)) (now (table .entry)) patch (now (out .entry)) (now (out .exit)) r) ⌝ }
 {
     let first = patch + 1;
     let end = next_row(table, patch);
     let n = collect(table, first, end, rows);
-    if let Condition::Broken(r) = first_broken(card, card_table, text, table, rows, n) {
+    sort(text, table, rows, cues, 0, n);
+    if let Condition::Broken(r) = first_key(text, table, rows, n) {
         return Attempt::Refused(r);
     }
-    let count = put_sorted(card, card_table, leave, text, table, rows, n, out);
-    fitting(count, out.len())
+    put_sorted(
+        card,
+        card_table,
+        leave,
+        text,
+        table,
+        rows,
+        cues,
+        walks,
+        n,
+        out,
+    )
 }
 
-// The same, on a list for as many entries as there can be. A function with a call of itself, though never made, becomes part of no other: so this array is
+// The same, on lists for as many entries as there can be. A function with a call of itself, though never made, becomes part of no other: so these arrays are
 // in no frame but its own.
 fn compose_many(
     card: &[u8],
@@ -97,10 +127,23 @@ fn compose_many(
         return compose_many(card, card_table, leave, text, table, patch, out);
     }
     let mut rows = [0u32; MOST_ENTRIES];
-    compose_on(card, card_table, leave, text, table, patch, &mut rows, out)
+    let mut cues = [0u32; MOST_ENTRIES];
+    let mut walks = [0u8; MOST_ENTRIES];
+    compose_on(
+        card,
+        card_table,
+        leave,
+        text,
+        table,
+        patch,
+        &mut rows,
+        &mut cues,
+        &mut walks,
+        out,
+    )
 }
 
-// The same, on a list sized by the values inside the PatchObject, which is closed before what was written is judged.
+// The same, on lists sized by the number of entries, which are closed before what was written is judged.
 fn compose(
     card: &[u8],
     card_table: &[u32],
@@ -116,13 +159,40 @@ fn compose(
     if table.len() <= patch {
         return compose(card, card_table, leave, text, table, patch, out);
     }
-    if below(table, patch) <= FEW_ENTRIES {
+    let n = count(table, patch + 1, next_row(table, patch));
+    if n <= FEW_ENTRIES {
         let mut rows = [0u32; FEW_ENTRIES];
-        return compose_on(card, card_table, leave, text, table, patch, &mut rows, out);
+        let mut cues = [0u32; FEW_ENTRIES];
+        let mut walks = [0u8; FEW_ENTRIES];
+        return compose_on(
+            card,
+            card_table,
+            leave,
+            text,
+            table,
+            patch,
+            &mut rows,
+            &mut cues,
+            &mut walks,
+            out,
+        );
     }
-    if below(table, patch) <= SOME_ENTRIES {
+    if n <= SOME_ENTRIES {
         let mut rows = [0u32; SOME_ENTRIES];
-        return compose_on(card, card_table, leave, text, table, patch, &mut rows, out);
+        let mut cues = [0u32; SOME_ENTRIES];
+        let mut walks = [0u8; SOME_ENTRIES];
+        return compose_on(
+            card,
+            card_table,
+            leave,
+            text,
+            table,
+            patch,
+            &mut rows,
+            &mut cues,
+            &mut walks,
+            out,
+        );
     }
     compose_many(card, card_table, leave, text, table, patch, out)
 }

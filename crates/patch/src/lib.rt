@@ -1,9 +1,9 @@
 // Localizing a card: the patch of a language applied to it, by the pointers of crate pointers. From the members of an object up:
 //   children    the members of an object by their rows
-//   paths       where a pointer leads
 //   entries     the entries of a PatchObject, listed
-//   conditions  which of 22 to 26 a patch breaks first
 //   sort        rows of entries, in the order of their pointers
+//   conditions  which of 22 to 26 a patch breaks first, and by which key
+//   marks       what is marked of entries while they are walked
 //   runs        where a name parts a run of sorted entries
 //   output      bytes, runs of a text and names, counted always and stored where they fit
 //   writing     values written as they are, or as the entries of a patch leave them
@@ -12,8 +12,8 @@ mod children;
 pub mod compose;
 mod conditions;
 mod entries;
+mod marks;
 mod output;
-mod paths;
 mod runs;
 mod sort;
 mod writing;

@@ -1,14 +1,21 @@
 // Values for a lent output (docs/RULES.md, 6.6): as they are, or as the entries of a patch leave them. No white space is written, and each token stays as it is.
 use crate::children::key_at;
-use crate::children::member_row;
+use crate::marks::ARRIVES;
+use crate::marks::IN_ARRAY;
+use crate::marks::MET;
+use crate::marks::NO_OBJECT;
+use crate::marks::advance;
+use crate::marks::end_all;
+use crate::marks::meet;
 use crate::output::put_byte;
 use crate::output::put_comma;
 use crate::output::put_label;
 use crate::output::put_run;
 use crate::output::put_spelled;
-use crate::runs::bound;
-use json::decode::Cursor;
-use json::lookup::Found;
+use crate::runs::Run;
+use crate::runs::next_hint;
+use crate::runs::run_of;
+use json::decode::cursor_at;
 use json::lookup::next_row;
 use json::rows::ARRAY;
 use json::rows::NULL;
@@ -18,34 +25,22 @@ use json::rows::name_end;
 use json::rows::name_start;
 use json::rows::value_end;
 use json::rows::value_start;
-use pointers::keys::part_at;
-use pointers::parts::Onward;
-use pointers::parts::next_part;
+use laws::clear::clear_words;
+use pointers::keys::After;
+use pointers::keys::after_part;
 ghost use mathlib.Core.Path.{_≡_};
-ghost use mathlib.Core.Bool.{Bool};
-ghost use Prim.Native.Nat.{_+_, _≤_};
+ghost use Prim.Native.Nat.{_<_};
 ghost use lib.ListN.{length};
-ghost use Rattle.laws.specs.Lists.{RunIn};
-ghost use Rattle.text.specs.Tree.{Forest};
-ghost use Rattle.text.specs.Doc.{seek, isThere};
-ghost use Rattle.json.specs.Cursors.{rest};
-ghost use Rattle.contact.specs.Pointer.{pointerOf};
-ghost use Rattle.pointers.specs.Parts.{partLeft};
 ghost use Rattle.patch.specs.Written.{Wrote};
 ghost use Rattle.patch.specs.Copied.{openByte, closeByte, headOf, labelIn, Copied};
-ghost use Rattle.patch.specs.Patched.{RunAsks, membersIn, BaseAt, IsAdded, PutAddition, PutAdditions, Ending, PutReplaced, PutMember, PutValue, PutCard, isEnd};
+ghost use Rattle.patch.specs.Marks.{MarkIn, RunCued};
+ghost use Rattle.patch.specs.Patched.{RunAsks, PutAddition, PutAdditions, Settled, isNothing, Ending, strayOf, PutReplaced, PutMember, PutValue, PutCard};
 
-// Where the next byte goes, and whether the next member is the first of its object.
+// Where the next byte goes, whether the next member is the first of its object, and near which place of the list its entries may stand.
 struct Pen {
     pub to: usize,
     pub first: bool,
-}
-
-// A run of the rows of entries, and how many parts of each entry's pointer have been walked.
-struct Run {
-    pub lo: usize,
-    pub hi: usize,
-    pub parts: usize,
+    pub hint: usize,
 }
 
 // ---- values as they are
@@ -112,130 +107,114 @@ fn copy_value(text: &[u8], table: &[u32], row: usize, out: &mut [u8], at: usize)
 // ---- values as the entries of a patch leave them: the card's text and table, and those of the patch. `leave` is the row of a member of the card that is
 // left out; row 0 is the card itself, so 0 leaves out none
 
-// Does the object at a row have a member of that name? One that is left out doesn't count.
-fn has_member(text: &[u8], table: &[u32], row: usize, leave: usize, key: &[u8], c: Cursor) -> bool
-    ensures { λ r. ⌜ ((root : Bool) (g : Forest) → BaseAt (now (text .entry)) (now (table .entry)) leave row root g → r ≡ isThere (seek (partLeft (rest (now (key .entry)) c)) (membersIn root (now (text .entry)) g))) ⌝ }
+// Does nothing follow a part?
+fn is_nothing(o: After) -> bool
+    ensures { λ r. ⌜ r ≡ isNothing o ⌝ }
 {
-    if table.len() <= row {
-        return false;
-    }
-    let first = row + 1;
-    let end = next_row(table, row);
-    match member_row(text, table, first, end, key, c) {
-        Found::Row(m) => m != leave,
-        Found::Nothing => false,
+    match o {
+        After::Nothing => true,
+        After::At(_) => false,
     }
 }
 
-// Does the entry at the row e add a member to the object at a row? The cursor stands at the entry's part for the object.
-fn is_added(
-    text: &[u8],
-    table: &[u32],
-    row: usize,
-    leave: usize,
-    ptable: &[u32],
-    e: usize,
-    key: &[u8],
-    c: Cursor,
-) -> bool
-    ensures { λ r. ⌜ IsAdded (now (text .entry)) (now (table .entry)) row leave (now (ptable .entry)) e (pointerOf (rest (now (key .entry)) c)) r ⌝ }
-{
-    if kind(ptable, e) == NULL {
-        return false;
-    }
-    let Onward::Last = next_part(key, c) else {
-        return false;
-    };
-    !has_member(text, table, row, leave, key, c)
-}
-
-// The member that the entry at the row e adds to the object at a row, if it adds one.
+// The member that the entry at the row e adds to an object that lacks it; none if it is null. Its name begins at a place of the entry's key.
 fn put_addition(
-    text: &[u8],
-    table: &[u32],
-    row: usize,
-    leave: usize,
     ptext: &[u8],
     ptable: &[u32],
     e: usize,
-    parts: usize,
+    place: usize,
     out: &mut [u8],
     from: Pen,
 ) -> Pen
-    ensures { λ r. ⌜ PutAddition (now (text .entry)) (now (table .entry)) row leave (now (ptext .entry)) (now (ptable .entry)) e parts (now (out .entry)) from (now (out .exit)) r ⌝ }
+    ensures { λ r. ⌜ PutAddition (now (ptext .entry)) (now (ptable .entry)) e place (now (out .entry)) from (now (out .exit)) r ⌝ }
 {
-    let key = key_at(ptext, ptable, e);
-    let c = part_at(key, parts);
-    if !is_added(text, table, row, leave, ptable, e, key, c) {
+    if kind(ptable, e) == NULL {
         return from;
     }
     let first = from.first;
     let at = from.to;
+    let hint = from.hint;
     let a = put_comma(first, out, at);
-    let b = put_spelled(key, c, out, a);
+    let b = put_spelled(key_at(ptext, ptable, e), cursor_at(place), out, a);
     let d = put_byte(out, b, b':');
     let to = copy_value(ptext, ptable, e, out, d);
-    Pen { to, first: false }
+    Pen {
+        to,
+        first: false,
+        hint,
+    }
 }
 
-// The members that the run of entries adds to the object at a row, and its closing brace.
-fn put_additions(
-    text: &[u8],
-    table: &[u32],
-    row: usize,
-    leave: usize,
+// What becomes of the entry listed at i where the members of its object have all been met: one that met none of them adds one if this is its last part, and
+// else its walk meets no object.
+fn settle(
     ptext: &[u8],
     ptable: &[u32],
     rows: &[u32],
+    cues: &[u32],
+    walks: &mut [u8],
+    i: usize,
+    out: &mut [u8],
+    from: Pen,
+) -> Pen
+    requires { ⌜ (MarkIn (now rows) (now cues) i × (i < length (now walks))) ⌝ }
+    ensures { λ r. ⌜ Settled (now (ptext .entry)) (now (ptable .entry)) (now (rows .entry)) (now (cues .entry)) i (now (walks .entry)) (now (walks .exit)) (now (out .entry)) from (now (out .exit)) r ⌝ }
+{
+    let cue = cues[i] as usize;
+    if MET <= cue {
+        return from;
+    }
+    let e = rows[i] as usize;
+    if is_nothing(after_part(key_at(ptext, ptable, e), cue)) {
+        walks[i] = ARRIVES;
+        return put_addition(ptext, ptable, e, cue, out, from);
+    }
+    walks[i] = NO_OBJECT;
+    from
+}
+
+// The members that the run of entries adds to the object whose members have been met, and its closing brace.
+fn put_additions(
+    ptext: &[u8],
+    ptable: &[u32],
+    rows: &[u32],
+    cues: &[u32],
+    walks: &mut [u8],
     run: Run,
     out: &mut [u8],
     from: Pen,
 ) -> usize
-    requires { ⌜ RunIn (now rows) (run .lo) (run .hi) ⌝ }
-    ensures { λ r. ⌜ PutAdditions (now (text .entry)) (now (table .entry)) row leave (now (ptext .entry)) (now (ptable .entry)) (now (rows .entry)) (run .lo) (run .hi) (run .parts) (now (out .entry)) from (now (out .exit)) r ⌝ }
+    requires { ⌜ RunAsks (now rows) (now cues) (now walks) (run .lo) (run .hi) ⌝ }
+    ensures { λ r. ⌜ PutAdditions (now (ptext .entry)) (now (ptable .entry)) (now (rows .entry)) (now (cues .entry)) (run .lo) (run .hi) (now (walks .entry)) (now (walks .exit)) (now (out .entry)) from (now (out .exit)) r ⌝ }
 {
-    let parts = run.parts;
     let hi = run.hi;
     let mut i = run.lo;
     let mut s = from;
     while i < hi {
-        let e = rows[i] as usize;
-        s = put_addition(text, table, row, leave, ptext, ptable, e, parts, out, s);
+        s = settle(ptext, ptable, rows, cues, walks, i, out, s);
         i += 1;
     }
     let to = s.to;
     put_byte(out, to, b'}')
 }
 
-// Does nothing follow a part?
-fn is_end(o: Onward) -> bool
-    ensures { λ r. ⌜ r ≡ isEnd o ⌝ }
-{
-    match o {
-        Onward::Last => true,
-        Onward::Part(_) => false,
-    }
-}
-
-// Does the first entry of the run end with the part at hand?
+// Does the first entry of a run, if there is one, end with its part at hand?
 fn ends_first(
     ptext: &[u8],
     ptable: &[u32],
     rows: &[u32],
+    cues: &[u32],
     lo: usize,
     hi: usize,
-    parts: usize,
 ) -> bool
-    requires { ⌜ RunIn (now rows) lo hi ⌝ }
-    ensures { λ r. ⌜ Ending (now (ptext .entry)) (now (ptable .entry)) (now (rows .entry)) lo hi parts r ⌝ }
+    requires { ⌜ RunCued (now rows) (now cues) lo hi ⌝ }
+    ensures { λ r. ⌜ Ending (now (ptext .entry)) (now (ptable .entry)) (now (rows .entry)) (now (cues .entry)) lo hi r ⌝ }
 {
     if hi <= lo {
         return false;
     }
-    let e = rows[lo] as usize;
-    let key = key_at(ptext, ptable, e);
-    let c = part_at(key, parts);
-    is_end(next_part(key, c))
+    let key = key_at(ptext, ptable, rows[lo] as usize);
+    is_nothing(after_part(key, cues[lo] as usize))
 }
 
 // The member at a row with the value of the entry at the row e; left out if that is null.
@@ -256,12 +235,17 @@ fn put_replaced(
     }
     let first = from.first;
     let at = from.to;
+    let hint = from.hint;
     let p = put_head(text, table, row, OBJECT, first, out, at);
     let to = copy_value(ptext, ptable, e, out, p);
-    Pen { to, first: false }
+    Pen {
+        to,
+        first: false,
+        hint,
+    }
 }
 
-// The member at a row as the run leaves it: with its value or another, or left out.
+// The member at a row as the run leaves it: with its value or another, or left out. The entries that it meets are marked.
 fn put_member(
     text: &[u8],
     table: &[u32],
@@ -270,35 +254,77 @@ fn put_member(
     ptext: &[u8],
     ptable: &[u32],
     rows: &[u32],
+    cues: &mut [u32],
+    walks: &mut [u8],
     run: Run,
     out: &mut [u8],
     from: Pen,
 ) -> Pen
-    requires { ⌜ RunAsks (now rows) (run .lo) (run .hi) (run .parts + 1) row ⌝ }
-    ensures { λ r. ⌜ PutMember (now (text .entry)) (now (table .entry)) row leave (now (ptext .entry)) (now (ptable .entry)) (now (rows .entry)) (run .lo) (run .hi) (run .parts) (now (out .entry)) from (now (out .exit)) r ⌝ }
+    requires { ⌜ RunAsks (now rows) (now cues) (now walks) (run .lo) (run .hi) ⌝ }
+    ensures { λ r. ⌜ PutMember (now (text .entry)) (now (table .entry)) row leave (now (ptext .entry)) (now (ptable .entry)) (now (rows .entry)) (run .lo) (run .hi) (now (cues .entry)) (now (cues .exit)) (now (walks .entry)) (now (walks .exit)) (now (out .entry)) from (now (out .exit)) r ⌝ }
 {
     if row == leave {
         return from;
     }
     let name = key_at(text, table, row);
-    let lo = bound(ptext, ptable, rows, run.lo, run.hi, run.parts, name, false);
-    let end = bound(ptext, ptable, rows, lo, run.hi, run.parts, name, true);
-    if ends_first(ptext, ptable, rows, lo, end, run.parts) {
+    let own = run_of(text, table, ptext, ptable, rows, cues, run, name, from.hint);
+    let hint = next_hint(from.hint, own);
+    let lo = own.lo;
+    let hi = own.hi;
+    let first = from.first;
+    let at = from.to;
+    if ends_first(ptext, ptable, rows, cues, lo, hi) {
         let e = rows[lo] as usize;
-        return put_replaced(text, table, row, ptext, ptable, e, out, from);
+        meet(cues, lo, hi, row);
+        end_all(walks, lo, hi, ARRIVES);
+        let pen = Pen {
+            to: at,
+            first,
+            hint,
+        };
+        return put_replaced(text, table, row, ptext, ptable, e, out, pen);
     }
-    let p = put_head(text, table, row, OBJECT, from.first, out, from.to);
-    if lo == end {
+    let p = put_head(text, table, row, OBJECT, first, out, at);
+    if lo == hi {
         let to = copy_value(text, table, row, out, p);
-        return Pen { to, first: false };
+        return Pen {
+            to,
+            first: false,
+            hint,
+        };
     }
-    let parts = run.parts + 1;
-    let inner = Run { lo, hi: end, parts };
-    let to = put_value(text, table, row, leave, ptext, ptable, rows, inner, out, p);
-    Pen { to, first: false }
+    advance(ptext, ptable, rows, cues, lo, hi);
+    let to = put_value(
+        text,
+        table,
+        row,
+        leave,
+        ptext,
+        ptable,
+        rows,
+        cues,
+        walks,
+        own,
+        out,
+        p,
+    );
+    meet(cues, lo, hi, row);
+    Pen {
+        to,
+        first: false,
+        hint,
+    }
 }
 
-// The value at a row as the run leaves it, without the member to leave out.
+// Where the walks end that reach a value which is no object.
+fn stray_of(kind: usize) -> u8
+    ensures { λ r. ⌜ r ≡ strayOf kind ⌝ }
+{
+    if kind == ARRAY { IN_ARRAY } else { NO_OBJECT }
+}
+
+// The value at a row as the run leaves it, without the member to leave out; and where the walks of the run end. The walk calls itself on the remaining parts
+// of the keys, for a run of them.
 fn put_value(
     text: &[u8],
     table: &[u32],
@@ -307,28 +333,50 @@ fn put_value(
     ptext: &[u8],
     ptable: &[u32],
     rows: &[u32],
+    cues: &mut [u32],
+    walks: &mut [u8],
     run: Run,
     out: &mut [u8],
     at: usize,
 ) -> usize
-    requires { ⌜ RunAsks (now rows) (run .lo) (run .hi) (run .parts) row ⌝ }
-    ensures { λ r. ⌜ PutValue (now (text .entry)) (now (table .entry)) row leave (now (ptext .entry)) (now (ptable .entry)) (now (rows .entry)) (run .lo) (run .hi) (run .parts) (now (out .entry)) at (now (out .exit)) r ⌝ }
+    requires { ⌜ RunAsks (now rows) (now cues) (now walks) (run .lo) (run .hi) ⌝ }
+    ensures { λ r. ⌜ PutValue (now (text .entry)) (now (table .entry)) row leave (now (ptext .entry)) (now (ptable .entry)) (now (rows .entry)) (run .lo) (run .hi) (now (cues .entry)) (now (cues .exit)) (now (walks .entry)) (now (walks .exit)) (now (out .entry)) at (now (out .exit)) r ⌝ }
 {
-    if kind(table, row) != OBJECT {
+    let k = kind(table, row);
+    if k != OBJECT {
+        end_all(walks, run.lo, run.hi, stray_of(k));
         return copy_value(text, table, row, out, at);
     }
     let end = next_row(table, row);
     let p = put_byte(out, at, b'{');
-    let mut s = Pen { to: p, first: true };
+    let mut s = Pen {
+        to: p,
+        first: true,
+        hint: run.lo,
+    };
     let mut m = row + 1;
     while m < end {
-        s = put_member(text, table, m, leave, ptext, ptable, rows, run, out, s);
+        s = put_member(
+            text,
+            table,
+            m,
+            leave,
+            ptext,
+            ptable,
+            rows,
+            cues,
+            walks,
+            run,
+            out,
+            s,
+        );
         m = next_row(table, m);
     }
-    put_additions(text, table, row, leave, ptext, ptable, rows, run, out, s)
+    put_additions(ptext, ptable, rows, cues, walks, run, out, s)
 }
 
-// The card, whose value is at the first row, without its localizations at the row `leave` and as the first n of the rows of entries leave it.
+// The card, whose value is at the first row, without its localizations at the row `leave` and as the first n of the listed entries leave it; and where their
+// walks end.
 pub(crate) fn put_card(
     text: &[u8],
     table: &[u32],
@@ -336,16 +384,28 @@ pub(crate) fn put_card(
     ptext: &[u8],
     ptable: &[u32],
     rows: &[u32],
+    cues: &mut [u32],
+    walks: &mut [u8],
     n: usize,
     out: &mut [u8],
 ) -> usize
-    requires { ⌜ n ≤ length (now rows) ⌝ }
-    ensures { λ r. ⌜ PutCard (now (text .entry)) (now (table .entry)) leave (now (ptext .entry)) (now (ptable .entry)) (now (rows .entry)) n (now (out .entry)) (now (out .exit)) r ⌝ }
+    requires { ⌜ RunAsks (now rows) (now cues) (now walks) 0 n ⌝ }
+    ensures { λ r. ⌜ PutCard (now (text .entry)) (now (table .entry)) leave (now (ptext .entry)) (now (ptable .entry)) (now (rows .entry)) n (now (walks .exit)) (now (out .entry)) (now (out .exit)) r ⌝ }
 {
-    let all = Run {
-        lo: 0,
-        hi: n,
-        parts: 0,
-    };
-    put_value(text, table, 0, leave, ptext, ptable, rows, all, out, 0)
+    clear_words(&mut cues[..n]);
+    let all = Run { lo: 0, hi: n };
+    put_value(
+        text,
+        table,
+        0,
+        leave,
+        ptext,
+        ptable,
+        rows,
+        cues,
+        walks,
+        all,
+        out,
+        0,
+    )
 }

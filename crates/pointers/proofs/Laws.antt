@@ -3,4 +3,6 @@ pub mod Parts
 pub mod Glyphs
 pub mod Pointers
 pub mod Orders
+pub mod Prefixes
 pub mod Outcomes
+pub mod Beginnings

@@ -1,20 +1,24 @@
 -- What a cursor over a key still has of its part, and what follows the part. Assumes nothing: these are definitions.
-use Prim.Native.Nat.{ℕ, zero, suc, _+_, _≤_, _<_}
+use Prim.Native.Nat.{ℕ, _+_, _-_, _≤_, _<_}
 use mathlib.Core.Path.{_≡_}
 use mathlib.Core.Bool.{Bool, true, false, cond}
 use mathlib.Core.List.{List, [], _∷_}
 use mathlib.Core.Option.{Option, none, some}
 use lib.ListN.{length}
 use lib.Dec.{eqb}
+use Rattle.laws.specs.Order.{orderOf}
 use Rattle.text.specs.Doc.{Name}
+use Rattle.text.specs.Text.{byteAt}
 use Rattle.json.specs.Cursors.{rest, cursor, nextOf}
 use Rattle.json.specs.declared.decode.Cursor.{Cursor}
 use Rattle.json.specs.declared.decode.Next.{Next}
 use Rattle.json.specs.declared.decode.Next.the-variants.{Byte, Over}
-use Rattle.contact.specs.Pointer.{Pointer, last, down, pointerOf, firstPart}
+use Rattle.contact.specs.Pointer.{Pointer, last, down, pointerOf, firstPart, badTilde}
 use Rattle.pointers.specs.declared.parts.Glyph.{Glyph}
 use Rattle.pointers.specs.declared.parts.Onward.{Onward}
 use Rattle.pointers.specs.declared.parts.Onward.the-variants.{Last, Part}
+use Rattle.pointers.specs.declared.keys.After.{After}
+use Rattle.pointers.specs.declared.keys.After.the-variants.{Nothing, At}
 
 -- the first part of decoded bytes that are left of a key
 abbrev pub partLeft : List ℕ → Name
@@ -51,6 +55,14 @@ pub record GlyphAt (part : Bool) (key : List ℕ) (at : ℕ) (g : Glyph) : Type 
   pub byte : g .value < 256 → leftAt part key at ≡ g .value ∷ leftAt part key (at + g .len)
   pub within : g .value < 256 → at + g .len ≤ length key
 
+-- the k bytes that stand from two places on decide nothing, whether they are of parts or of names: behind them the order is that from there; no more is left
+-- there, and they stand in their bytes, so that no place behind them wraps
+pub record InCommon (key : List ℕ) (i : ℕ) (name : List ℕ) (j k : ℕ) : Type 0 where
+  pub ordered : (part other : Bool) → orderOf (leftAt part key (i + k)) (leftAt other name (j + k)) ≡ orderOf (leftAt part key i) (leftAt other name j)
+  pub fewer : (part : Bool) → length (leftAt part key (i + k)) ≤ length (leftAt part key i)
+  pub first : k ≤ length key - i
+  pub second : k ≤ length name - j
+
 -- what is beyond the first part, if anything is
 abbrev pub beyond : Pointer → Option Pointer
 beyond (last n) = none
@@ -60,6 +72,15 @@ beyond (down n p) = some p
 abbrev pub Goes : List ℕ → Pointer → Onward → Type 0
 Goes key p Last = p ≡ last (firstPart p)
 Goes key p (Part c) = p ≡ down (firstPart p) (pointerOf (rest key c))
+
+-- the longest escape: two units of `\u` and four digits
+abbrev pub longestEscape : ℕ
+longestEscape = 12
+
+-- the same by places: it goes on at one that is not far past the key's end
+abbrev pub GoesAt : List ℕ → Pointer → After → Type 0
+GoesAt key p Nothing = p ≡ last (firstPart p)
+GoesAt key p (At to) = (p ≡ down (firstPart p) (pointerOf (rest key (cursor to 0 0)))) × (to ≤ length key + longestEscape)
 
 -- ---- the answers themselves
 
@@ -84,11 +105,10 @@ pub data Crosses (key : List ℕ) : Cursor → Onward → Type 0 where
   at-slash : {c d : Cursor} → nextOf key c ≡ Byte 47 d → Crosses key c (Part d)
   past : {c d : Cursor} {b : ℕ} {r : Onward} → nextOf key c ≡ Byte b d → (b ≡ 47 → ⊥) → Crosses key d r → Crosses key c r
 
--- from a cursor on past so many parts, or to the last part where there are no more
-pub data Skips (key : List ℕ) : (parts : ℕ) → Cursor → Cursor → Type 0 where
-  here : {c : Cursor} → Skips key zero c c
-  stays : {n : ℕ} {c : Cursor} → Crosses key c Last → Skips key (suc n) c c
-  onto : {n : ℕ} {c d e : Cursor} → Crosses key c (Part d) → Skips key n d e → Skips key (suc n) c e
+-- the same from a place on to a place
+abbrev pub CrossesTo : List ℕ → (at : ℕ) → After → Type 0
+CrossesTo key at Nothing = Crosses key (cursor at 0 0) Last
+CrossesTo key at (At to) = (c : Cursor) × Crosses key (cursor at 0 0) (Part c) × (c .at ≡ to)
 
 -- ---- on the way
 
@@ -97,3 +117,18 @@ pub record Later (key : List ℕ) (c d : Cursor) : Type 0 where
   pub follows : beyond (pointerOf (rest key d)) ≡ beyond (pointerOf (rest key c))
   pub fewer : length (rest key d) ≤ length (rest key c)
   pub leads : (r : Onward) → Crosses key d r → Crosses key c r
+
+-- a cursor no earlier than another, from which on a bad `~` stands just if one does from the other on
+pub record Untilded (key : List ℕ) (c d : Cursor) : Type 0 where
+  pub follows : badTilde (rest key d) ≡ badTilde (rest key c)
+  pub fewer : length (rest key d) ≤ length (rest key c)
+
+-- from a place on, past bytes of the key that are neither `stop` nor a backslash
+pub data RunTo (key : List ℕ) (stop from : ℕ) : ℕ → Type 0 where
+  no-byte : RunTo key stop from from
+  one-more : {at : ℕ} → RunTo key stop from at → byteAt key at < 256 → (byteAt key at ≡ 92 → ⊥) → (byteAt key at ≡ stop → ⊥) → RunTo key stop from (at + 1)
+
+-- the same from a cursor on, if a character begins there; any other stays
+pub data Passes (key : List ℕ) (stop : ℕ) (c : Cursor) : Cursor → Type 0 where
+  stays : Passes key stop c c
+  passes : {to : ℕ} → c .left ≡ 0 → RunTo key stop (c .at) to → Passes key stop c (cursor to 0 0)

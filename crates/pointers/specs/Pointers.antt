@@ -1,9 +1,15 @@
 -- The order of pointers by which entries are sorted, and a pointer without its first parts. Assumes nothing: these are definitions.
-use Prim.Native.Nat.{ℕ, zero, suc}
+use Prim.Native.Nat.{ℕ, zero, suc, _+_, _≤_}
+use mathlib.Core.Path.{_≡_}
+use mathlib.Core.Bool.{Bool, false, cond, _||_}
+use mathlib.Core.List.{List}
+use lib.Dec.{eqb, ltb}
+use lib.ListN.{length}
 use Rattle.laws.specs.Order.{orderOf}
 use Rattle.laws.specs.declared.Order.{Order}
 use Rattle.laws.specs.declared.Order.the-variants.{Less, Same, More}
-use Rattle.contact.specs.Pointer.{Pointer, last, down}
+use Rattle.json.specs.Cursors.{rest, cursor}
+use Rattle.contact.specs.Pointer.{Pointer, last, down, pointerOf, clash}
 
 -- the first decides unless it says the same
 abbrev pub orThen : Order → Order → Order
@@ -23,3 +29,31 @@ unfoldable pub strip : (parts : ℕ) → Pointer → Pointer
 strip zero p = p
 strip (suc k) (last n) = last n
 strip (suc k) (down n p) = strip k p
+
+-- ---- by the first difference of two keys as they are written
+
+-- a tilde (126) or a backslash (92), which means something together with what follows
+abbrev pub isCoded : ℕ → Bool
+isCoded b = eqb b 126 || eqb b 92
+
+-- what is left of a key at a place where a character begins, as a pointer
+abbrev pub pointerFrom : List ℕ → (at : ℕ) → Pointer
+pointerFrom key at = pointerOf (rest key (cursor at 0 0))
+
+-- the first k bytes of two keys are the same, and spell the same: so what is left decides
+pub record AlikeKeys (a b : List ℕ) (k : ℕ) : Type 0 where
+  pub order : pointerOrder (pointerFrom a k) (pointerFrom b k) ≡ pointerOrder (pointerFrom a 0) (pointerFrom b 0)
+  pub clashing : clash (pointerFrom a k) (pointerFrom b k) ≡ clash (pointerFrom a 0) (pointerFrom b 0)
+  pub first : k ≤ length a
+
+-- of two bytes that differ, 256 where a key is over: one key is over where a part of the other ends
+abbrev pub endsBefore : (x y : ℕ) → Bool
+endsBefore x y = cond (eqb x 256) (eqb y 47) (cond (eqb y 256) (eqb x 47) false)
+
+-- the end of a key comes first, then the end of a part, then any byte
+abbrev pub rankOf : ℕ → ℕ
+rankOf b = cond (eqb b 256) 0 (cond (eqb b 47) 1 (b + 2))
+
+-- the order by two bytes that differ
+abbrev pub rankOrder : (x y : ℕ) → Order
+rankOrder x y = cond (ltb (rankOf x) (rankOf y)) Less More

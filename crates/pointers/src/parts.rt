@@ -16,12 +16,13 @@ ghost use mathlib.Core.Path.{_≡_};
 ghost use mathlib.Core.Bool.{true};
 ghost use Rattle.laws.specs.Order.{orderOf, same};
 ghost use Rattle.text.specs.Text.{byteAt};
+ghost use Rattle.text.specs.Strings.{decode};
 ghost use Rattle.json.specs.Cursors.{rest, cursor, nextOf};
 ghost use Rattle.contact.specs.Pointer.{pointerOf};
-ghost use Rattle.pointers.specs.Parts.{partLeft, partUnread, nameLeft, Goes, nameUnread, tildeLeft, leftAt, GlyphAt, Later, tildeNext, partNext, Crosses};
+ghost use Rattle.pointers.specs.Parts.{partLeft, partUnread, nameLeft, Goes, nameUnread, tildeLeft, leftAt, GlyphAt, InCommon, tildeNext, partNext, Crosses, RunTo, Passes};
 
 // Bytes that are told apart as written, as wide as what `peek` gives.
-const TILDE: u16 = b'~' as u16;
+pub(crate) const TILDE: u16 = b'~' as u16;
 
 const ONE: u16 = b'1' as u16;
 
@@ -140,14 +141,52 @@ fn glyph_at(part: bool, key: &[u8], at: usize) -> Glyph
     Glyph { value: b, len: 1 }
 }
 
-// The order of a part and another part, or a name, decoded from their cursors on; `is_part` says which.
-fn decoded_order(key: &[u8], from: Cursor, is_part: bool, name: &[u8], name_from: Cursor) -> Order
-    ensures { λ r. ⌜ r ≡ orderOf (partLeft (rest (now (key .entry)) from)) (nameLeft «is_part» (now (name .entry)) «name_from») ⌝ }
+// How many bytes from two places on are alike and spell themselves, in a part as in a name: none of them is a slash, a tilde or a backslash.
+fn alike_from(key: &[u8], i: usize, name: &[u8], j: usize) -> usize
+    ensures { λ r. ⌜ InCommon (now (key .entry)) i (now (name .entry)) j r ⌝ }
+{
+    let mut k: usize = 0;
+    loop {
+        let b = peek(key, i + k);
+        let other = peek(name, j + k);
+        if b != other {
+            return k;
+        }
+        if b == SLASH {
+            return k;
+        }
+        if b < BACKSLASH {
+            k += 1;
+            continue;
+        }
+        if b == BACKSLASH {
+            return k;
+        }
+        if b == TILDE {
+            return k;
+        }
+        if b == OVER {
+            return k;
+        }
+        k += 1;
+    }
+}
+
+// The order of a part, or a name, and another, decoded from their cursors on; `part` and `is_part` say which they are.
+fn decoded_order(
+    part: bool,
+    key: &[u8],
+    from: Cursor,
+    is_part: bool,
+    name: &[u8],
+    name_from: Cursor,
+) -> Order
+    ensures { λ r. ⌜ r ≡ orderOf (nameLeft part (now (key .entry)) from) (nameLeft «is_part» (now (name .entry)) «name_from») ⌝ }
 {
     let mut x = from;
     let mut y = name_from;
     loop {
-        match part_byte(key, x) {
+        match name_byte(part, key, x) {
             Next::Over => {
                 return match name_byte(is_part, name, y) {
                     Next::Over => Order::Same,
@@ -173,22 +212,32 @@ fn decoded_order(key: &[u8], from: Cursor, is_part: bool, name: &[u8], name_from
     }
 }
 
-// The same from places where a character begins: they are compared as written, up to a backslash.
-fn written_order(key: &[u8], from: usize, is_part: bool, name: &[u8], name_from: usize) -> Order
-    ensures { λ r. ⌜ r ≡ orderOf (leftAt true (now (key .entry)) from) (leftAt «is_part» (now (name .entry)) «name_from») ⌝ }
+// The same from places where a character begins: they are compared as written, up to a backslash. Glyphs are read only where no plain bytes are alike.
+fn written_order(
+    part: bool,
+    key: &[u8],
+    from: usize,
+    is_part: bool,
+    name: &[u8],
+    name_from: usize,
+) -> Order
+    ensures { λ r. ⌜ r ≡ orderOf (leftAt part (now (key .entry)) from) (leftAt «is_part» (now (name .entry)) «name_from») ⌝ }
 {
     let mut i = from;
     let mut j = name_from;
     loop {
-        let p = glyph_at(true, key, i);
+        let run = alike_from(key, i, name, j);
+        i = i + run;
+        j = j + run;
+        let p = glyph_at(part, key, i);
         let q = glyph_at(is_part, name, j);
         let x = p.value;
         let y = q.value;
         if x == CODED {
-            return decoded_order(key, cursor_at(i), is_part, name, cursor_at(j));
+            return decoded_order(part, key, cursor_at(i), is_part, name, cursor_at(j));
         }
         if y == CODED {
-            return decoded_order(key, cursor_at(i), is_part, name, cursor_at(j));
+            return decoded_order(part, key, cursor_at(i), is_part, name, cursor_at(j));
         }
         if x != y {
             return order_at(x, y);
@@ -206,12 +255,26 @@ pub fn part_order(key: &[u8], from: Cursor, is_part: bool, name: &[u8], name_fro
     ensures { λ r. ⌜ r ≡ orderOf (partLeft (rest (now (key .entry)) from)) (nameLeft «is_part» (now (name .entry)) «name_from») ⌝ }
 {
     if from.left != 0 {
-        return decoded_order(key, from, is_part, name, name_from);
+        return decoded_order(true, key, from, is_part, name, name_from);
     }
     if name_from.left != 0 {
-        return decoded_order(key, from, is_part, name, name_from);
+        return decoded_order(true, key, from, is_part, name, name_from);
     }
-    written_order(key, from.at, is_part, name, name_from.at)
+    written_order(true, key, from.at, is_part, name, name_from.at)
+}
+
+// The order of the part that begins at a place of a key and a name.
+pub fn part_order_at(key: &[u8], at: usize, name: &[u8]) -> Order
+    ensures { λ r. ⌜ r ≡ orderOf (partLeft (rest (now (key .entry)) (cursor at 0 0))) (decode (now (name .entry))) ⌝ }
+{
+    written_order(true, key, at, false, name, 0)
+}
+
+// The order of two names, decoded.
+pub fn name_order(name: &[u8], other: &[u8]) -> Order
+    ensures { λ r. ⌜ r ≡ orderOf (decode (now (name .entry))) (decode (now (other .entry))) ⌝ }
+{
+    written_order(false, name, 0, false, other, 0)
 }
 
 // Are they the same?
@@ -221,14 +284,14 @@ pub fn part_same(key: &[u8], from: Cursor, is_part: bool, name: &[u8], name_from
     is_same(part_order(key, from, is_part, name, name_from))
 }
 
-// Past the bytes from a place on that are neither a slash nor a backslash.
-fn written_end(key: &[u8], from: usize) -> usize
-    ensures { λ r. ⌜ Later (now (key .entry)) (cursor from 0 0) (cursor r 0 0) ⌝ }
+// Past the bytes from a place on that are neither `stop` nor a backslash.
+fn written_end(key: &[u8], from: usize, stop: u16) -> usize
+    ensures { λ r. ⌜ RunTo (now (key .entry)) stop from r ⌝ }
 {
     let mut at = from;
     loop {
         let b = peek(key, at);
-        if b == SLASH {
+        if b == stop {
             return at;
         }
         if b == BACKSLASH {
@@ -242,13 +305,13 @@ fn written_end(key: &[u8], from: usize) -> usize
 }
 
 // Past such bytes, if a character begins at the cursor.
-fn past_written(key: &[u8], c: Cursor) -> Cursor
-    ensures { λ r. ⌜ Later (now (key .entry)) c r ⌝ }
+pub(crate) fn past_written(key: &[u8], c: Cursor, stop: u16) -> Cursor
+    ensures { λ r. ⌜ Passes (now (key .entry)) stop c r ⌝ }
 {
     if c.left != 0 {
         return c;
     }
-    cursor_at(written_end(key, c.at))
+    cursor_at(written_end(key, c.at, stop))
 }
 
 // What follows the part at the cursor.
@@ -258,7 +321,7 @@ pub fn next_part(key: &[u8], from: Cursor) -> Onward
 {
     let mut c = from;
     loop {
-        match next_byte(key, past_written(key, c)) {
+        match next_byte(key, past_written(key, c, SLASH)) {
             Next::Over => {
                 return Onward::Last;
             }

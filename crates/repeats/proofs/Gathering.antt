@@ -1,6 +1,6 @@
 -- The names that a container closes:
---     names-climb          they stand one behind the other
---     container-law        a container's items are what reading them without a comparison gives, settled by the earliest repeated name
+--     aside-climb          those put aside stand one behind the other
+--     aside-law            a container's items are what reading them without a comparison gives, settled by the earliest repeated name of these
 -- Assumes nothing.
 use mathlib.Core.Path.{_≡_, refl}
 use mathlib.Core.List.{List, [], _∷_, _++_}
@@ -15,7 +15,7 @@ use Rattle.laws.proofs.Places.{inside}
 use Rattle.laws.specs.Each.{Some}
 use Rattle.laws.specs.Each as each
 use Rattle.laws.specs.Earliest.{Climbs, up-none, up-more, repeatFrom, firstRepeat}
-use Rattle.text.specs.Limits.{Limits}
+use Rattle.text.specs.Limits.{Limits, comparing, loose}
 use Rattle.text.specs.Text.{byteAt}
 use Rattle.text.specs.Strings.{stringEnd}
 use Rattle.text.specs.Tokens.{skip}
@@ -27,13 +27,13 @@ use Rattle.text.specs.declared.Token.the-variants.{End, No2, No3}
 use Rattle.text.specs.declared.Refusal.the-variants.{Grammar}
 use Rattle.text.proofs.Grammar.Words.{skip-later, skip-inside}
 use Rattle.repeats.specs.Quoted.{tailAt}
-use Rattle.repeats.specs.Closed.{loose, strictItem, looseItem, closedBy, ownName, closedAfter, closedFrom, closedIn, namesIn, settle}
+use Rattle.repeats.specs.Closed.{strictItem, looseItem, closedBy, ownName, closedAfter, closedFrom, closedIn, namesIn, namesAside, settle}
 use Rattle.repeats.proofs.Members.{Fair, Colon, colon-told, members-law}
 
--- ---- an array closes none
+-- ---- an array closes none, and where names aren't compared none is put aside
 
 module _ (t : List ℕ) (item : ItemReader) (z : ℕ) where
-  after-none : (more : Forest → ℕ → List ℕ) → ((f : Forest) (x : ℕ) → more f x ≡ []) → (R : Read) → closedAfter t (ownName t square) item z more R ≡ []
+  after-none : (more : Forest → ℕ → List ℕ) → ((f : Forest) (x : ℕ) → more f x ≡ []) → (R : Read) → closedAfter t (λ at. []) item z more R ≡ []
   after-none more h (bad r) = refl
   after-none more h (good f to) = go (eqb (byteAt t (skip t to)) z) (eqb (byteAt t (skip t to)) 44)
     where
@@ -42,17 +42,17 @@ module _ (t : List ℕ) (item : ItemReader) (z : ℕ) where
       go false true = h f (skip t (skip t to + 1))
       go false false = refl
 
-  from-none : (turns at n : ℕ) (done : Forest) → closedFrom t (ownName t square) item z turns at n done ≡ []
+  from-none : (turns at n : ℕ) (done : Forest) → closedFrom t (λ at. []) item z turns at n done ≡ []
   unfolding closedFrom
   from-none zero at n done = refl
   from-none (suc turns) at n done =
-      after-none (λ f x. closedFrom t (ownName t square) item z turns x (n + size f) (join done f)) (λ f x. from-none turns x (n + size f) (join done f)) (item done at n)
+      after-none (λ f x. closedFrom t (λ at. []) item z turns x (n + size f) (join done f)) (λ f x. from-none turns x (n + size f) (join done f)) (item done at n)
 
-  array-none : (at n : ℕ) → closedIn t (ownName t square) item z at n ≡ []
+  none-closed : (at n : ℕ) → closedIn t (λ at. []) item z at n ≡ []
   unfolding closedIn
-  array-none at n = go (eqb (byteAt t (skip t at)) z)
+  none-closed at n = go (eqb (byteAt t (skip t at)) z)
     where
-      go : (b : Bool) → cond b [] (closedFrom t (ownName t square) item z (suc (length t)) (skip t at) n none) ≡ []
+      go : (b : Bool) → cond b [] (closedFrom t (λ at. []) item z (suc (length t)) (skip t at) n none) ≡ []
       go true = refl
       go false = from-none (suc (length t)) (skip t at) n none
 
@@ -128,13 +128,31 @@ module _ (L : Limits) (unique : L .unique ≡ true) (t : List ℕ) (value : Read
 
   -- ---- both containers
 
-  pub names-climb : (b : Bracket) (at n : ℕ) → Climbs (namesIn L t value b at n)
-  names-climb square at n = rw (array-none t (looseItem L t value square) (closing square) at n) up-none
+  names-climb : (b : Bracket) (at n : ℕ) → Climbs (namesIn L t value b at n)
+  names-climb square at n = rw (none-closed t (looseItem L t value square) (closing square) at n) up-none
   names-climb curly at n = run-climbs (members-run at n)
 
-  pub container-law : (b : Bracket) (at n : ℕ)
+  container-law : (b : Bracket) (at n : ℕ)
       → insideOf t (strictItem L t value b) (closing b) at n
       ≡ settle (firstRepeat (tailAt t 1) (namesIn L t value b at n)) (insideOf t (looseItem L t value b) (closing b) at n)
   unfolding repeatFrom
-  container-law square at n = rw (array-none t (looseItem L t value square) (closing square) at n)
+  container-law square at n = rw (none-closed t (looseItem L t value square) (closing square) at n)
   container-law curly at n = members-law L unique t value fair at n
+
+-- ---- names compared or not
+
+module _ (L : Limits) (t : List ℕ) (value : Reader) (fair : Fair t value) where
+  none-aside : (b : Bracket) (at n : ℕ) → namesAside (loose L) t value b at n ≡ []
+  none-aside b at n = none-closed t (looseItem (loose L) t value b) (closing b) at n
+
+  pub aside-climb : (compare : Bool) (b : Bracket) (at n : ℕ) → Climbs (namesAside (comparing compare L) t value b at n)
+  aside-climb true b at n = names-climb (comparing true L) refl t value fair b at n
+  aside-climb false b at n = rw (none-aside b at n) up-none
+
+  pub aside-law : (compare : Bool) (b : Bracket) (at n : ℕ)
+      → insideOf t (strictItem (comparing compare L) t value b) (closing b) at n
+      ≡ settle (firstRepeat (tailAt t 1) (namesAside (comparing compare L) t value b at n)) (insideOf t (looseItem (comparing compare L) t value b) (closing b) at n)
+  unfolding repeatFrom
+  aside-law true b at n = container-law (comparing true L) refl t value fair b at n
+  aside-law false square at n = rw (none-aside square at n)
+  aside-law false curly at n = rw (none-aside curly at n)

@@ -13,7 +13,7 @@ use lib.Dec.{eqb}
 use borrow.Author.Tests.{eqb-true}
 use Rattle.laws.proofs.Places.{inside}
 use Rattle.laws.specs.Order.{same}
-use Rattle.text.specs.Limits.{Limits}
+use Rattle.text.specs.Limits.{Limits, loose}
 use Rattle.text.specs.Text.{byteAt}
 use Rattle.text.specs.Strings.{stringEnd, nameOf}
 use Rattle.text.specs.Tokens.{skip}
@@ -28,7 +28,7 @@ use Rattle.text.proofs.Grammar.Sound.{placeOf}
 use Rattle.text.proofs.Grammar.Words.{skip-later, skip-inside}
 use Rattle.laws.specs.Earliest.{known, repeatFrom, firstRepeat}
 use Rattle.repeats.specs.Quoted.{tailAt}
-use Rattle.repeats.specs.Closed.{loose, looseItem, closedBy, ownName, closedAfter, closedFrom, closedIn, namesIn, settle}
+use Rattle.repeats.specs.Closed.{looseItem, closedBy, ownName, closedAfter, closedFrom, closedIn, namesIn, settle}
 use Rattle.repeats.proofs.Quoted.{quoted-name}
 
 -- ---- readers of a value

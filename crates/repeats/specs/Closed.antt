@@ -2,11 +2,11 @@
 -- The definitions go as those of specs/Reader.antt of `text` do. Assumes nothing: these are definitions.
 use Prim.Native.Nat.{ℕ, zero, suc, _+_}
 use mathlib.Core.List.{List, [], _∷_, _++_}
-use mathlib.Core.Bool.{false, cond}
+use mathlib.Core.Bool.{cond}
 use lib.ListN.{length}
 use lib.Dec.{eqb}
 use Rattle.laws.specs.Earliest.{Earliest, nowhere, found}
-use Rattle.text.specs.Limits.{Limits}
+use Rattle.text.specs.Limits.{Limits, loose}
 use Rattle.text.specs.Text.{byteAt}
 use Rattle.text.specs.Strings.{stringEnd}
 use Rattle.text.specs.Tokens.{skip}
@@ -18,10 +18,6 @@ use Rattle.text.specs.declared.Token.{Token}
 use Rattle.text.specs.declared.Token.the-variants.{End, No2, No3}
 
 -- ---- one item
-
--- the same limits, but a name may stand twice in an object
-abbrev pub loose : Limits → Limits
-loose L = record { bytes = L .bytes; depth = L .depth; values = L .values; unique = false }
 
 -- an item of a container whose names are compared, and one whose names aren't: an element has none
 abbrev pub strictItem : Limits → List ℕ → (value : Reader) → Bracket → ItemReader
@@ -42,6 +38,10 @@ closedBy at (No3 p) = []
 abbrev pub ownName : List ℕ → Bracket → (at : ℕ) → List ℕ
 ownName t square at = []
 ownName t curly at = let name = closedBy at (stringEnd t (at + 1)) in cond (eqb (byteAt t at) 34) name []
+
+-- the name that it puts aside to be compared: its own, or none where names aren't compared
+abbrev pub asideName : Limits → List ℕ → Bracket → (at : ℕ) → List ℕ
+asideName L t b at = let name = ownName t b at in cond (L .unique) name []
 
 -- ---- all items
 
@@ -70,6 +70,10 @@ module _ (t : List ℕ) (own : ℕ → List ℕ) (item : ItemReader) (z : ℕ) w
 -- the names that a container closes, from after its bracket on
 abbrev pub namesIn : Limits → List ℕ → (value : Reader) → Bracket → (at n : ℕ) → List ℕ
 namesIn L t value b = closedIn t (ownName t b) (looseItem L t value b) (closing b)
+
+-- and those that it puts aside
+abbrev pub namesAside : Limits → List ℕ → (value : Reader) → Bracket → (at n : ℕ) → List ℕ
+namesAside L t value b = closedIn t (asideName L t b) (looseItem L t value b) (closing b)
 
 -- ---- what they make of the reading
 

@@ -29,6 +29,7 @@ use Rattle.contact.specs.Rules.{present, isString, isSeparator, marksOf, anyCou
 use Rattle.contact.specs.Judge.{isOf, lacking, rowNumber, breachOf, breachAmong}
 use Rattle.contact.specs.Verdict.{refusedFault, refusedCard, faultOf, byBreach, judgedRead, judgedOf, sheetOfJudged, tableOfJudged, paperOfVerdict}
 use Rattle.contact.specs.Faults.{faultIn}
+use Rattle.contact.specs.Places.{insideNamed, quoteOf, keyPlace}
 use Rattle.contact.specs.Localize.{refusedLocal, byJudge, byRoom, byFault, byEntries, inPatch, withPatch, localizedDoc, localizedJudged, localizedOf, sheetOfOutcome, tableOfOutcome, outputOfOutcome, answerOfOutcome, paperOfLocalized}
 use Rattle.contact.specs.Services.{Call, read, judge, localize, wordsOf, roomOf, Left, leaves, served}
 
@@ -193,21 +194,33 @@ cases =
     ∷ refusedAt (judge (with (bytes ",\"addresses\":{\"a\":{\"components\":[{\"value\":\"A\",\"kind\":true}]}}")) (10 * rowWords)) 11 95
     ∷ refusedAt (judging (with (bytes ",\"emails\":{\"e\":{\"address\":\"a\",\"contexts\":[]}}"))) 11 83
     ∷ refusedAt (judging (with (bytes ",\"phones\":{\"p\":{\"number\":\"1\",\"features\":\"voice\"}}"))) 11 82
-    -- no such language; a loose `~`; a pointer into `localizations`
+    -- no such language; a loose `~`; a pointer into `localizations`: 22 and 23 at the key's opening quote
     ∷ refusedAt (localizing (with [])) 21 0
-    ∷ refusedAt (localizing (patched [] "\"~2\":1")) 22 0
-    ∷ refusedAt (localizing (patched [] "\"localizations/de\":null")) 23 0
+    ∷ refusedAt (localizing (patched [] "\"~2\":1")) 22 66
+    ∷ refusedAt (localizing (patched [] "\"localizations/de\":null")) 23 66
     -- (P) keys `emails/e1` and `emails/e10` don't clash
     ∷ accepted (localizing (patched (bytes ",\"emails\":{\"e1\":{\"address\":\"a\"},\"e10\":{\"address\":\"b\"}}") "\"emails/e1\":null,\"emails/e10\":null")) 5 55
     (cardRows 55 4 (row 7 44 50 52 54 0)) (with (bytes ",\"emails\":{}"))
-    -- (P) `name` and `name/full` are 24
-    ∷ refusedAt (localizing (patched (name "\"full\":\"Ann\"") "\"name\":null,\"name/full\":\"Anne\"")) 24 0
+    -- (P) `name` and `name/full` are 24; whichever comes first, at `name`, the smaller key of the two
+    ∷ refusedAt (localizing (patched (name "\"full\":\"Ann\"") "\"name\":null,\"name/full\":\"Anne\"")) 24 88
+    ∷ refusedAt (localizing (patched (name "\"full\":\"Ann\"") "\"name/full\":\"Anne\",\"name\":null")) 24 107
+    -- of `a`, `a!` and `a/b` the first and the last clash; of all keys in pairs `b!` is the smallest, though not of the first pair
+    ∷ refusedAt (localizing (patched [] "\"a/b\":1,\"a!\":2,\"a\":3")) 24 81
+    ∷ refusedAt (localizing (patched [] "\"b/c\":1,\"b/c/d\":2,\"b!/x\":3,\"b!\":4")) 24 93
     -- (P) `name/components/0` is 25 where components is an array
-    ∷ refusedAt (localizing (patched (name "\"components\":[{\"kind\":\"given\",\"value\":\"Ann\"}]") "\"name/components/0\":1")) 25 0
-    -- 25 before 26, whichever entry comes first
-    ∷ refusedAt (localizing (patched (name "\"components\":[{\"kind\":\"given\",\"value\":\"Ann\"}]") "\"nope/x\":1,\"name/components/0\":1")) 25 0
+    ∷ refusedAt (localizing (patched (name "\"components\":[{\"kind\":\"given\",\"value\":\"Ann\"}]") "\"name/components/0\":1")) 25 121
+    -- 25 before 26, whichever entry comes first: the place moves with the key
+    ∷ refusedAt (localizing (patched (name "\"components\":[{\"kind\":\"given\",\"value\":\"Ann\"}]") "\"nope/x\":1,\"name/components/0\":1")) 25 132
+    ∷ refusedAt (localizing (patched (name "\"components\":[{\"kind\":\"given\",\"value\":\"Ann\"}]") "\"name/components/0\":1,\"nope/x\":1")) 25 121
     -- (P) `name/full/x` is 26 where full is a string
-    ∷ refusedAt (localizing (patched (name "\"full\":\"Ann\"") "\"name/full/x\":1")) 26 0
+    ∷ refusedAt (localizing (patched (name "\"full\":\"Ann\"") "\"name/full/x\":1")) 26 88
+    -- the smallest number first, then the smallest key: 22 at `~!`, behind keys that break 24, 23 and 22
+    ∷ refusedAt (localizing (patched [] "\"a\":1,\"a/b\":2,\"localizations\":3,\"~2\":4,\"~!\":5")) 22 105
+    -- keys are compared decoded, and the place is that of the quote before the key as it is written
+    ∷ refusedAt (localizing (patched [] "\"b/b\":1, \"\\u0061/b\":2")) 26 75
+    ∷ refusedAt (localizing (patched [] "\"\\u007A/b\":1,\"b/b\":2")) 26 79
+    -- and before `~0` and `~1` are undone: `0/y` comes before `~1x/y`
+    ∷ refusedAt (localizing (patched [] "\"~1x/y\":1,\"0/y\":2")) 26 76
     -- (P) null on `uid` is 28 with 12
     ∷ refusedAt (localizing (patched [] "\"uid\":null")) 28 12
     -- an output that is one byte short is 27, also where more room would give 28
@@ -238,5 +251,5 @@ cases =
 
 -- what the definitions say of each call is what its case says: all cases, by computation
 pub specimens : map worked cases ≡ cases
-unfolding worked cases nestedRows served partOf scan orderOf digitOf hex4Of digitAt hex4At checkedAt tailOf seq2 seq3 seq4 tailAt rawAt letterOf lowAt pairAt unitAt onHex escapeAt stepBy stringEnd conts utf8 pieceBy decodeFrom runEnd wordAt digitsAt minusEnd intAt fracAt signEnd expAt numberAt kindBy tokenAt size rowsOf startsOf join scalarWith scalarAt closeOf container deep valueWith afterItem itemsFrom insideOf named colonAt memberWith memberOf valueAt elementsAt membersAt arrayAt objectAt refused endOf readOf fitOf wholeOf sheetOf tableOf membersOf docOf countOf countAll types recordOf typeIn every idByte isId valueFrom isCount monthLengths isLeap daysOf isDay shaped fractionEnds ends inRange isTime present isString isSeparator marksOf anyMark allMarks adjacent anyCounts badlySeparated breaksAny isOf lacking rowNumber breachOf breachAmong refusedFault refusedCard faultOf byBreach judgedRead judgedOf sheetOfJudged paperOfVerdict tableOfJudged refusedLocal byJudge byRoom faultIn byFault byEntries inPatch withPatch localizedDoc localizedJudged localizedOf sheetOfOutcome paperOfLocalized answerOfOutcome tableOfOutcome outputOfOutcome
+unfolding worked cases nestedRows served partOf scan orderOf digitOf hex4Of digitAt hex4At checkedAt tailOf seq2 seq3 seq4 tailAt rawAt letterOf lowAt pairAt unitAt onHex escapeAt stepBy stringEnd conts utf8 pieceBy decodeFrom runEnd wordAt digitsAt minusEnd intAt fracAt signEnd expAt numberAt kindBy tokenAt size rowsOf startsOf join scalarWith scalarAt closeOf container deep valueWith afterItem itemsFrom insideOf named colonAt memberWith memberOf valueAt elementsAt membersAt arrayAt objectAt refused endOf readOf fitOf wholeOf sheetOf tableOf membersOf docOf countOf countAll types recordOf typeIn every idByte isId valueFrom isCount monthLengths isLeap daysOf isDay shaped fractionEnds ends inRange isTime present isString isSeparator marksOf anyMark allMarks adjacent anyCounts badlySeparated breaksAny isOf lacking rowNumber breachOf breachAmong refusedFault refusedCard faultOf byBreach judgedRead judgedOf sheetOfJudged paperOfVerdict tableOfJudged refusedLocal byJudge byRoom faultIn insideNamed quoteOf keyPlace byFault byEntries inPatch withPatch localizedDoc localizedJudged localizedOf sheetOfOutcome paperOfLocalized answerOfOutcome tableOfOutcome outputOfOutcome
 specimens = refl

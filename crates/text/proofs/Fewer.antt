@@ -15,7 +15,7 @@ use native.Mathlib.Omega.{arith}
 use lib.ListN.{length}
 use lib.Dec.{leb, eqb}
 use borrow.Author.Tests.{lt-ltb, le-ltb, le-leb, lt-leb}
-use Rattle.text.specs.Limits.{Limits, rowWords, base}
+use Rattle.text.specs.Limits.{Limits, rowWords}
 use Rattle.text.specs.Fewer.{withValues}
 use Rattle.text.specs.Text.{byteAt}
 use Rattle.text.specs.Strings.{stringEnd, nameOf}
@@ -262,13 +262,13 @@ pub whole-bad : (L : Limits) (words : ℕ) (t : List ℕ) (r : Refusal) → read
 unfolding wholeOf fitOf
 whole-bad L words t r e = rw e
 
--- ---- a table of so many words, for the limits `base` ----
+-- ---- a table of so many words ----
 
-module _ (words : ℕ) (t : List ℕ) where
-  pub good-whole : (f : Forest) (to : ℕ) → rowWords * size f ≤ words → readOf base t ≡ good f to → wholeOf base words t ≡ good f to
+module _ (L : Limits) (words : ℕ) (t : List ℕ) where
+  pub good-whole : (f : Forest) (to : ℕ) → rowWords * size f ≤ words → readOf L t ≡ good f to → wholeOf L words t ≡ good f to
   unfolding wholeOf fitOf
   good-whole f to h e = rw (e, le-ltb words (rowWords * size f) h)
 
-  pub small-whole : (f : Forest) (to : ℕ) → words < rowWords * size f → readOf base t ≡ good f to → wholeOf base words t ≡ bad (Small (size f))
+  pub small-whole : (f : Forest) (to : ℕ) → words < rowWords * size f → readOf L t ≡ good f to → wholeOf L words t ≡ bad (Small (size f))
   unfolding wholeOf fitOf
   small-whole f to h e = rw (e, lt-ltb words (rowWords * size f) h)

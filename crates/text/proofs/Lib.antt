@@ -24,3 +24,4 @@ pub mod Labels
 pub mod Readback
 pub mod Telling
 pub mod Answers
+pub mod Loose

@@ -35,7 +35,7 @@ on-sheet (Many p) = refl
 on-sheet (Small n) = refl
 
 -- a refusal is told by its numbers
-one-refusal : (r s : Refusal) → refused r ≡ refused s → r ≡ s
+pub one-refusal : (r s : Refusal) → refused r ≡ refused s → r ≡ s
 unfolding paper
 one-refusal r s e = let z : Refused r ≡ Refused s = paper-unique (Refused r) (Refused s) e in cc
 

@@ -16,7 +16,8 @@ use Rattle.text.proofs.Readback.Documents.{text-shorter}
 use Rattle.text.proofs.Grammar.Accepted.{accepts}
 use Rattle.contact.specs.Verdict.{refusedCard, Judged, passed, failed, judgedOf, sheetOfJudged, paperOfVerdict}
 use Rattle.contact.specs.Localize.{refusedLocal, keyRefusal, Outcome, done, denied, start, patchedDoc, localizedDoc, localizedOf, sheetOfOutcome, tableOfOutcome, outputOfOutcome, answerOfOutcome, paperOfLocalized}
-use Rattle.contact.specs.Conditions.{PatchOf, SecondNumber, inside, BrokenCondition, withKey, Applicable, FirstBroken, Smallest}
+use Rattle.contact.specs.Places.{KeyStands, keyPlace}
+use Rattle.contact.specs.Conditions.{PatchOf, SecondNumber, inside, BrokenCondition, Applicable, FirstBroken, Smallest}
 use Rattle.contact.specs.Services.{judge, localize, served}
 use Rattle.contact.specs.Judging.{CardText}
 use Rattle.contact.specs.Demands.{Passes, Within, WouldBe, Localization}
@@ -27,14 +28,16 @@ use Rattle.contact.specs.declared.LocalRefusal.the-variants.{Inner}
 use Rattle.contact.specs.declared.Localized.{Localized}
 use Rattle.contact.specs.declared.Localized.the-variants.{Denied}
 use Rattle.contact.proofs.Patching.Public.{passed-so, failed-so}
-use Rattle.contact.proofs.Patching.Entering.{Accepted, unfit-of, key-second, key-smallest, smallest-key}
+use Rattle.contact.proofs.Patching.Entering.{Accepted, late-applicable, unfit-of, key-second, key-smallest, smallest-key}
+use Rattle.contact.proofs.Patching.Faults.{breaks-there}
+use Rattle.contact.proofs.Patching.Places.{key-places}
 use Rattle.contact.proofs.Patching.Refused.{AcceptedCard, accepted-iff, accepted-unbroken, refused-iff, patch-of, smallest-of, smallest-on, broken-number, broken-second}
 use Rattle.contact.proofs.Patching.Fine.{fine}
 use Rattle.contact.proofs.Patching.Together.{patched-card}
 use Rattle.contact.proofs.Patching.Readback.{passed-tree, card-writable, card-written, card-shorter, card-fewer, never-longer, inner-number}
 use Rattle.contact.proofs.Judging.{read-documents}
 use Rattle.contact.proofs.Demands.Reading.{passed-card}
-use Rattle.contact.proofs.Demands.Sheet.{line-of, local-line, local-some, Late, early, late-short, late-inner, late, second-sheet, same-number, same-second}
+use Rattle.contact.proofs.Demands.Sheet.{line-of, local-line, local-some, Late, early, late-short, late-inner, late, second-sheet, one-second, same-number, same-second}
 
 -- the card that the conditions speak of
 module _ (L : Limits) (unique : L .unique ≡ true) (words : ℕ) (t : List ℕ) (lang : Name) (f : Forest) (pass : judgedOf L words t ≡ passed f) where
@@ -65,16 +68,19 @@ module _ (L : Limits) (unique : L .unique ≡ true) (words room : ℕ) (t : List
 
   -- a card that passes
   module _ (f : Forest) (pass : judgedOf L words t ≡ passed f) where
-    pub of-doc : (o : Outcome) → outcome ≡ o → localizedDoc L words room (docOf t f) lang ≡ o
+    abbrev place : Name → ℕ
+    place = keyPlace t f lang
+
+    pub of-doc : (o : Outcome) → outcome ≡ o → localizedDoc L words room place (docOf t f) lang ≡ o
     of-doc o e = sym (passed-so L words room t lang f pass) ∙ e
 
     localization : (text : List ℕ) (g : Forest) → outcome ≡ done text g → Localization L (served L) words room t f lang
     unfolding served sheetOfOutcome paperOfLocalized answerOfOutcome tableOfOutcome outputOfOutcome
     localization text g e =
-        let c : AcceptedCard L words room (docOf t f) lang text g = accepted-iff L words room (docOf t f) lang text g .0 (of-doc (done text g) e) in
+        let c : AcceptedCard L words room place (docOf t f) lang text g = accepted-iff L words room place (docOf t f) lang text g .0 (of-doc (done text g) e) in
         let ms : Members = c .members in
-        let a : Accepted L words room (start (docOf t f)) ms text g = c .accepted in
-        let w : WouldBe L words t f ms = localize-would L unique words t lang f pass ms (c .patch) (λ n key b. a .unbroken n _ (withKey b)) in
+        let a : Accepted L words room place (start (docOf t f)) ms text g = c .accepted in
+        let w : WouldBe L words t f ms = localize-would L unique words t lang f pass ms (c .patch) (late-applicable L words room place (start (docOf t f)) ms (λ n r b. absurd (a .unbroken n r b))) in
         let k : CardText L words text g = passed-card L words text g (a .reads) in
         let tree : g ≡ rootOf (w .writes .back .derives) = passed-tree (w .writes) g (rw (a .writes) at (a .reads)) in
         record {
@@ -97,67 +103,77 @@ module _ (L : Limits) (unique : L .unique ≡ true) (words room : ℕ) (t : List
         go (done text g) e z = localization text g e
         go (denied r) e z = absurd (omega (arith, local-some (refusedLocal r .number) (line-of (local-line r))))
 
-    pub localize-accepted : Passes (served L) (localize t lang words room) ↔ ((n : ℕ) (r : LocalRefusal) → ¬ BrokenCondition L words room (docOf t f) lang n r)
+    pub localize-accepted : Passes (served L) (localize t lang words room) ↔ ((n : ℕ) (r : LocalRefusal) → ¬ BrokenCondition L words room place (docOf t f) lang n r)
     unfolding served sheetOfOutcome paperOfLocalized answerOfOutcome
     localize-accepted = (λ z. unbroken outcome refl z, λ u. whole outcome refl u)
       where
-        unbroken : (o : Outcome) → outcome ≡ o → sheetOfOutcome o .number ≡ 0 → (n : ℕ) (r : LocalRefusal) → ¬ BrokenCondition L words room (docOf t f) lang n r
-        unbroken (done text g) e z = accepted-unbroken L words room (docOf t f) lang (accepted-iff L words room (docOf t f) lang text g .0 (of-doc (done text g) e))
+        unbroken : (o : Outcome) → outcome ≡ o → sheetOfOutcome o .number ≡ 0 → (n : ℕ) (r : LocalRefusal) → ¬ BrokenCondition L words room place (docOf t f) lang n r
+        unbroken (done text g) e z = accepted-unbroken L words room place (docOf t f) lang (accepted-iff L words room place (docOf t f) lang text g .0 (of-doc (done text g) e))
         unbroken (denied r) e z = absurd (omega (arith, local-some (refusedLocal r .number) (line-of (local-line r))))
 
-        whole : (o : Outcome) → outcome ≡ o → ((n : ℕ) (r : LocalRefusal) → ¬ BrokenCondition L words room (docOf t f) lang n r) → sheetOfOutcome outcome .number ≡ 0
+        whole : (o : Outcome) → outcome ≡ o → ((n : ℕ) (r : LocalRefusal) → ¬ BrokenCondition L words room place (docOf t f) lang n r) → sheetOfOutcome outcome .number ≡ 0
         whole (done text g) e u = rw e
-        whole (denied r) e u = absurd (u (refusedLocal r .number) r (refused-iff L words room (docOf t f) lang r .0 (of-doc (denied r) e) .broken))
+        whole (denied r) e u = absurd (u (refusedLocal r .number) r (refused-iff L words room place (docOf t f) lang r .0 (of-doc (denied r) e) .broken))
 
     pub localize-refused : (n second : ℕ) → 0 < n
         → (served L (localize t lang words room) .answer ≡ numbers n second 0)
-        ↔ ((r : LocalRefusal) × SecondNumber r second × Smallest (BrokenCondition L words room (docOf t f) lang) n r)
+        ↔ ((r : LocalRefusal) × SecondNumber r second × Smallest (BrokenCondition L words room place (docOf t f) lang) n r)
     unfolding served sheetOfOutcome paperOfLocalized answerOfOutcome
     localize-refused n second positive = (λ e. go outcome refl e, back)
       where
         go : (o : Outcome) → outcome ≡ o → sheetOfOutcome o ≡ numbers n second 0
-            → (r : LocalRefusal) × SecondNumber r second × Smallest (BrokenCondition L words room (docOf t f) lang) n r
+            → (r : LocalRefusal) × SecondNumber r second × Smallest (BrokenCondition L words room place (docOf t f) lang) n r
         go (done text g) e q = absurd (omega (arith, same-number q))
         go (denied r) e q =
-            let s : Smallest (BrokenCondition L words room (docOf t f) lang) n r =
-            rw (same-number q) at (refused-iff L words room (docOf t f) lang r .0 (of-doc (denied r) e)) in
-            (r, subst (SecondNumber r) (same-second q) (broken-second L words room (docOf t f) lang (s .broken)), s)
+            let s : Smallest (BrokenCondition L words room place (docOf t f) lang) n r =
+            rw (same-number q) at (refused-iff L words room place (docOf t f) lang r .0 (of-doc (denied r) e)) in
+            (r, subst (SecondNumber r) (same-second q) (broken-second L words room place (docOf t f) lang (s .broken)), s)
 
-        back : (r : LocalRefusal) × SecondNumber r second × Smallest (BrokenCondition L words room (docOf t f) lang) n r → sheetOfOutcome outcome ≡ numbers n second 0
+        back : (r : LocalRefusal) × SecondNumber r second × Smallest (BrokenCondition L words room place (docOf t f) lang) n r → sheetOfOutcome outcome ≡ numbers n second 0
         back (r, x, s) =
-            let number : refusedLocal r .number ≡ n = broken-number L words room (docOf t f) lang (s .broken) in
-            let e = refused-iff L words room (docOf t f) lang r .1 (rw (sym number) at s) in
+            let number : refusedLocal r .number ≡ n = broken-number L words room place (docOf t f) lang (s .broken) in
+            let e = refused-iff L words room place (docOf t f) lang r .1 (rw (sym number) at s) in
             rw (passed-so L words room t lang f pass, e) (second-sheet x ∙ ap (λ (m : ℕ). numbers m second 0) number)
 
     -- 22 to 26 by the key
-    pub localize-key : (n : ℕ) → Within 22 26 n
-        → (served L (localize t lang words room) .answer ≡ numbers n 0 0)
-        ↔ ((ms : Members) × (key : Name) × PatchOf (docOf t f) lang ms × FirstBroken (start (docOf t f)) ms n key)
-    localize-key n (low, high) = (
-      λ e. let (r, x, s) = localize-refused n 0 (omega arith) .0 e in
-          let (ms, patch) = patch-of L words room (docOf t f) lang (s .broken) (omega arith) in
-          let (key, b) = smallest-key L words room (start (docOf t f)) ms n r high (smallest-on L words room (docOf t f) lang ms patch s) in
-          (ms, key, patch, b),
-      λ (ms, key, patch, b). localize-refused n 0 (omega arith) .1
-          (keyRefusal n key, key-second (b .breaks), smallest-of L words room (docOf t f) lang ms patch (key-smallest L words room (start (docOf t f)) ms b)),
-    )
+    pub localize-key : CardText L words t f → (n p : ℕ) → Within 22 26 n
+        → (served L (localize t lang words room) .answer ≡ numbers n p 0)
+        ↔ ((ms : Members) × (key : Name) × PatchOf (docOf t f) lang ms × FirstBroken (start (docOf t f)) ms n key × KeyStands t f lang key p)
+    localize-key c n p (low, high) = (λ e. to (localize-refused n p (omega arith) .0 e), λ x. localize-refused n p (omega arith) .1 (from x))
+      where
+        to : (r : LocalRefusal) × SecondNumber r p × Smallest (BrokenCondition L words room place (docOf t f) lang) n r
+            → (ms : Members) × (key : Name) × PatchOf (docOf t f) lang ms × FirstBroken (start (docOf t f)) ms n key × KeyStands t f lang key p
+        to (r, x, s) =
+            let (ms, patch) = patch-of L words room place (docOf t f) lang (s .broken) (omega arith) in
+            let (key, b, is) = smallest-key L words room place (start (docOf t f)) ms n r high (smallest-on L words room place (docOf t f) lang ms patch s) in
+            let e : p ≡ place key = one-second (subst (λ (q : LocalRefusal). SecondNumber q p) is x) (key-second (place key) (b .breaks)) in
+            (ms, key, patch, b, key-places L unique words t f c lang ms patch key (breaks-there (b .breaks)) p .1 e)
+
+        from : (ms : Members) × (key : Name) × PatchOf (docOf t f) lang ms × FirstBroken (start (docOf t f)) ms n key × KeyStands t f lang key p
+            → (r : LocalRefusal) × SecondNumber r p × Smallest (BrokenCondition L words room place (docOf t f) lang) n r
+        from (ms, key, patch, b, k) =
+            let e : p ≡ place key = key-places L unique words t f c lang ms patch key (breaks-there (b .breaks)) p .0 k in (
+              keyRefusal n (place key),
+              subst (SecondNumber (keyRefusal n (place key))) (sym e) (key-second (place key) (b .breaks)),
+              smallest-of L words room place (docOf t f) lang ms patch (key-smallest L words room place (start (docOf t f)) ms b),
+            )
 
     -- the refusal itself
     pub refused-answer : (a : Localized) (x o : List ℕ) → Localizes L words room t lang a x o → (r : LocalRefusal)
-        → (a ≡ Denied r) ↔ ((n : ℕ) × Smallest (BrokenCondition L words room (docOf t f) lang) n r)
+        → (a ≡ Denied r) ↔ ((n : ℕ) × Smallest (BrokenCondition L words room place (docOf t f) lang) n r)
     unfolding answerOfOutcome
     refused-answer a x o l r =
-        let is : answerOfOutcome (localizedDoc L words room (docOf t f) lang) ≡ a = ap answerOfOutcome (sym (passed-so L words room t lang f pass)) ∙ sym (l .answer) in
-        (λ e. (_, refused-iff L words room (docOf t f) lang r .0 (denied-so (localizedDoc L words room (docOf t f) lang) (is ∙ e))), λ (n, s). sym is ∙ back n s)
+        let is : answerOfOutcome (localizedDoc L words room place (docOf t f) lang) ≡ a = ap answerOfOutcome (sym (passed-so L words room t lang f pass)) ∙ sym (l .answer) in
+        (λ e. (_, refused-iff L words room place (docOf t f) lang r .0 (denied-so (localizedDoc L words room place (docOf t f) lang) (is ∙ e))), λ (n, s). sym is ∙ back n s)
       where
         denied-so : (o : Outcome) → answerOfOutcome o ≡ Denied r → o ≡ denied r
         denied-so (done text g) e = let z : _≡_ {A = ℕ} 0 1 = cc in absurd (omega arith)
         denied-so (denied q) e = let k : q ≡ r = cc in ap (λ (y : LocalRefusal). denied y) k
 
-        back : (n : ℕ) → Smallest (BrokenCondition L words room (docOf t f) lang) n r → answerOfOutcome (localizedDoc L words room (docOf t f) lang) ≡ Denied r
+        back : (n : ℕ) → Smallest (BrokenCondition L words room place (docOf t f) lang) n r → answerOfOutcome (localizedDoc L words room place (docOf t f) lang) ≡ Denied r
         back n s =
-            let number : refusedLocal r .number ≡ n = broken-number L words room (docOf t f) lang (s .broken) in
-            ap answerOfOutcome (refused-iff L words room (docOf t f) lang r .1 (rw (sym number) at s))
+            let number : refusedLocal r .number ≡ n = broken-number L words room place (docOf t f) lang (s .broken) in
+            ap answerOfOutcome (refused-iff L words room place (docOf t f) lang r .1 (rw (sym number) at s))
 
     -- 28 and judging
     pub localize-again : (ms : Members) → PatchOf (docOf t f) lang ms → (number : ℕ) → served L (localize t lang words room) .answer ≡ numbers 28 number 0
@@ -165,7 +181,7 @@ module _ (L : Limits) (unique : L .unique ≡ true) (words room : ℕ) (t : List
     unfolding served sheetOfJudged paperOfVerdict
     localize-again ms patch number e =
         let (r, x, s) = localize-refused 28 number (omega arith) .0 e in
-        let (q, judged, is) = unfit-of L words room (start (docOf t f)) ms (smallest-on L words room (docOf t f) lang ms patch s .broken) in
+        let (q, judged, is) = unfit-of L words room place (start (docOf t f)) ms (smallest-on L words room place (docOf t f) lang ms patch s .broken) in
         let inner : SecondNumber (Inner q) number = rw is at x in
         rw judged (inner-second inner)
       where

@@ -1,7 +1,7 @@
 -- The numbers of each refusal stand on the lines of the sheet that its service has. Assumes nothing.
 use Prim.Native.Nat.{ℕ, _<_}
 use native.Mathlib.Omega.{arith}
-use mathlib.Core.Path.{_≡_, refl, ap}
+use mathlib.Core.Path.{_≡_, refl, sym, ap, _∙_}
 use mathlib.Core.Logic.{_⊎_, inl, inr, ⊎-elim}
 use Rattle.text.specs.declared.Paper.{Paper}
 use Rattle.text.specs.Sheet.{numbers, refused}
@@ -55,11 +55,11 @@ pub local-line : (r : LocalRefusal) → OnLine LocalLine (refusedLocal r)
 unfolding refusedLocal
 local-line (Given r) = wider (λ n l. ⊎-elim (λ x. inl x) (λ x. inr (inl x)) l) (card-line r)
 local-line NoLanguage = on-line 21 0 (inr (inr (omega arith)))
-local-line BadKey = on-line 22 0 (inr (inr (omega arith)))
-local-line OwnLocalizations = on-line 23 0 (inr (inr (omega arith)))
-local-line Clash = on-line 24 0 (inr (inr (omega arith)))
-local-line InArray = on-line 25 0 (inr (inr (omega arith)))
-local-line NoObject = on-line 26 0 (inr (inr (omega arith)))
+local-line (BadKey p) = on-line 22 p (inr (inr (omega arith)))
+local-line (OwnLocalizations p) = on-line 23 p (inr (inr (omega arith)))
+local-line (Clash p) = on-line 24 p (inr (inr (omega arith)))
+local-line (InArray p) = on-line 25 p (inr (inr (omega arith)))
+local-line (NoObject p) = on-line 26 p (inr (inr (omega arith)))
 local-line (Short n) = on-line 27 n (inr (inr (omega arith)))
 local-line (Inner r) = on-line 28 (refusedCard r .number) (inr (inr (omega arith)))
 
@@ -83,11 +83,11 @@ pub late : (r : LocalRefusal) → Late r
 unfolding refusedLocal
 late (Given r) = early (Given r) (⊎-elim (λ (l : Within 1 7 (refusedCard r .number)). omega arith) (λ l. omega arith) (line-of (card-line r)))
 late NoLanguage = early NoLanguage (omega arith)
-late BadKey = early BadKey (omega arith)
-late OwnLocalizations = early OwnLocalizations (omega arith)
-late Clash = early Clash (omega arith)
-late InArray = early InArray (omega arith)
-late NoObject = early NoObject (omega arith)
+late (BadKey p) = early (BadKey p) (omega arith)
+late (OwnLocalizations p) = early (OwnLocalizations p) (omega arith)
+late (Clash p) = early (Clash p) (omega arith)
+late (InArray p) = early (InArray p) (omega arith)
+late (NoObject p) = early (NoObject p) (omega arith)
 late (Short n) = late-short n
 late (Inner r) = late-inner r
 
@@ -109,3 +109,7 @@ same-number e = ap (λ (a : Paper). a .number) e
 
 pub same-second : {p q : Paper} → p ≡ q → p .second ≡ q .second
 same-second e = ap (λ (a : Paper). a .second) e
+
+-- a refusal has one second number
+pub one-second : {r : LocalRefusal} {a b : ℕ} → SecondNumber r a → SecondNumber r b → a ≡ b
+one-second x y = same-second (sym (second-sheet x) ∙ second-sheet y)

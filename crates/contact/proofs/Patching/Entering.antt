@@ -27,28 +27,28 @@ use Rattle.contact.specs.Conditions as S
 use Rattle.contact.specs.declared.CardRefusal.{CardRefusal}
 use Rattle.contact.specs.declared.LocalRefusal.{LocalRefusal}
 use Rattle.contact.specs.declared.LocalRefusal.the-variants.{Short, Inner}
-use Rattle.contact.proofs.Patching.Faults.{up-to-26, Due, fault-found}
+use Rattle.contact.proofs.Patching.Faults.{up-to-26, Due, fault-found, one-key}
 use Rattle.contact.proofs.Patching.Steps.{answer-failed, failed-answer}
 
--- the numbers of a key's refusal: the condition's, and no second one
-key-numbers : {d : Doc} {ms : Members} {n : ℕ} {key : Name} → BreaksWith d ms n key → refusedLocal (keyRefusal n key) ≡ numbers n 0 0
+-- the numbers of a key's refusal: the condition's, and the key's place
+pub key-numbers : {d : Doc} {ms : Members} {n : ℕ} {key : Name} (place : ℕ) → BreaksWith d ms n key → refusedLocal (keyRefusal n place) ≡ numbers n place 0
 unfolding refusedLocal
-key-numbers (badKey x t) = refl
-key-numbers (ownLocalizations x w t) = refl
-key-numbers (clashing x w v t) = refl
-key-numbers (enteringArray x w t) = refl
-key-numbers (losingWay x w t) = refl
+key-numbers place (badKey x t) = refl
+key-numbers place (ownLocalizations x w t) = refl
+key-numbers place (clashing x w v t) = refl
+key-numbers place (enteringArray x w t) = refl
+key-numbers place (losingWay x w t) = refl
 
-pub key-second : {d : Doc} {ms : Members} {n : ℕ} {key : Name} → BreaksWith d ms n key → SecondNumber (keyRefusal n key) 0
-key-second (badKey x t) = S.bad-key
-key-second (ownLocalizations x w t) = S.own-localizations
-key-second (clashing x w v t) = S.clash
-key-second (enteringArray x w t) = S.in-array
-key-second (losingWay x w t) = S.no-object
+pub key-second : {d : Doc} {ms : Members} {n : ℕ} {key : Name} (place : ℕ) → BreaksWith d ms n key → SecondNumber (keyRefusal n place) place
+key-second place (badKey x t) = S.bad-key
+key-second place (ownLocalizations x w t) = S.own-localizations
+key-second place (clashing x w v t) = S.clash
+key-second place (enteringArray x w t) = S.in-array
+key-second place (losingWay x w t) = S.no-object
 
-module _ (L : Limits) (words room : ℕ) (d : Doc) (ms : Members) where
+module _ (L : Limits) (words room : ℕ) (place : Name → ℕ) (d : Doc) (ms : Members) where
   abbrev B : ℕ → LocalRefusal → Type 0
-  B n r = BrokenPatch L words room d ms n r
+  B n r = BrokenPatch L words room place d ms n r
 
   -- the text of the document as the entries leave it
   abbrev text : List ℕ
@@ -72,7 +72,7 @@ module _ (L : Limits) (words room : ℕ) (d : Doc) (ms : Members) where
   AtLeast n = (m : ℕ) (q : LocalRefusal) → B m q → n ≤ m
 
   up-to-28 : (m : ℕ) (q : LocalRefusal) → B m q → m ≤ 28
-  up-to-28 m q (withKey {key = key} b) = omega (arith, up-to-26 d ms m key b)
+  up-to-28 m q (withKey {key = key} b) = omega (arith, up-to-26 d ms m key (b .breaks))
   up-to-28 m q (short x) = omega arith
   up-to-28 m q (unfit e) = omega arith
 
@@ -84,43 +84,50 @@ module _ (L : Limits) (words room : ℕ) (d : Doc) (ms : Members) where
 
   -- ---- 22 to 26
 
-  pub key-smallest : {n : ℕ} {key : Name} → FirstBroken d ms n key → Smallest B n (keyRefusal n key)
-  key-smallest {n} {key} s = record { broken = withKey (s .breaks); least = go }
+  first-broken : {n : ℕ} {key : Name} → FirstBroken d ms n key → B n (keyRefusal n (place key))
+  first-broken s = withKey (record { breaks = s .breaks; no-earlier = s .no-earlier })
+
+  pub key-smallest : {n : ℕ} {key : Name} → FirstBroken d ms n key → Smallest B n (keyRefusal n (place key))
+  key-smallest {n} {key} s = record { broken = first-broken s; least = go }
     where
       go : (m : ℕ) (q : LocalRefusal) → B m q → n ≤ m
-      go m q (withKey {key = other} b) = s .least m other b
+      go m q (withKey {key = other} b) = s .least m other (b .breaks)
       go m q (short k) = omega (arith, up-to-26 d ms n key (s .breaks))
       go m q (unfit e) = omega (arith, up-to-26 d ms n key (s .breaks))
 
   from-27 : Applicable d ms → AtLeast 27
-  from-27 u m q (withKey {key = key} b) = absurd (u m key b)
+  from-27 u m q (withKey {key = key} b) = absurd (u m key (b .breaks))
   from-27 u m q (short k) = omega arith
   from-27 u m q (unfit e) = omega arith
 
-  -- none of them is broken, if one of a larger number is the smallest
-  pub late-applicable : {n : ℕ} {r : LocalRefusal} → Smallest B n r → 27 ≤ n → Applicable d ms
-  late-applicable s l m key b = omega (arith, s .least m _ (withKey b), up-to-26 d ms m key b)
+  -- none of them is broken, if no number up to 26 is
+  pub late-applicable : AtLeast 27 → Applicable d ms
+  late-applicable h = go (faultIn d ms) (fault-found d ms)
+    where
+      go : (f : PatchFault) → Due d ms f → Applicable d ms
+      go allKept u = u
+      go (brokenBy n key) s = absurd (omega (arith, h n _ (first-broken s), up-to-26 d ms n key (s .breaks)))
 
   -- ---- 27 and 28
 
   no-27 : ltb room (length text) ≡ false → (q : LocalRefusal) → ¬ B 27 q
-  no-27 e q (withKey {key = key} b) = omega (arith, up-to-26 d ms 27 key b)
+  no-27 e q (withKey {key = key} b) = omega (arith, up-to-26 d ms 27 key (b .breaks))
   no-27 e q (short k) = omega (arith, ltb-false room (length text) e)
 
   no-28 : (f : Forest) → judgedOf L words text ≡ passed f → (q : LocalRefusal) → ¬ B 28 q
-  no-28 f e q (withKey {key = key} b) = omega (arith, up-to-26 d ms 28 key b)
+  no-28 f e q (withKey {key = key} b) = omega (arith, up-to-26 d ms 28 key (b .breaks))
   no-28 f e q (unfit {r = r} s) =
       let h : judgedOf L words text ≡ failed r = answer-failed L words text r s in
       let z : _≡_ {A = ℕ} 0 1 = cc in omega arith
 
   -- what 27 is about
   pub short-of : {r : LocalRefusal} → B 27 r → (room < length text) × (r ≡ Short (length text))
-  short-of (withKey {key = key} b) = absurd (omega (arith, up-to-26 d ms 27 key b))
+  short-of (withKey {key = key} b) = absurd (omega (arith, up-to-26 d ms 27 key (b .breaks)))
   short-of (short k) = (k, refl)
 
   -- and 28
   pub unfit-of : {r : LocalRefusal} → B 28 r → (x : CardRefusal) × (judgedOf L words text ≡ failed x) × (r ≡ Inner x)
-  unfit-of (withKey {key = key} b) = absurd (omega (arith, up-to-26 d ms 28 key b))
+  unfit-of (withKey {key = key} b) = absurd (omega (arith, up-to-26 d ms 28 key (b .breaks)))
   unfit-of (unfit {r = r} s) = (r, answer-failed L words text r s, refl)
 
   -- ---- the answer, test by test
@@ -141,23 +148,24 @@ module _ (L : Limits) (words room : ℕ) (d : Doc) (ms : Members) where
       (λ b. rw b (27, record { broken = short (ltb-true room (length text) b); least = h }))
       (λ b. rw b (by-judge (judgedOf L words text) refl (raise 27 h (no-27 b))))
 
-  by-fault : (f : PatchFault) → Due d ms f → Stands (byFault L words room d (entriesOf ms) f)
+  by-fault : (f : PatchFault) → Due d ms f → Stands (byFault L words room place d (entriesOf ms) f)
   unfolding byFault
   by-fault allKept u = by-room (from-27 u)
   by-fault (brokenBy n key) s = (n, key-smallest s)
 
-  answer : Stands (byEntries L words room d ms (entriesOf ms))
+  answer : Stands (byEntries L words room place d ms (entriesOf ms))
   unfolding byEntries
   answer = by-fault (faultIn d ms) (fault-found d ms)
 
   -- ---- a number calls for one refusal
 
   one-refusal : (n : ℕ) (r q : LocalRefusal) → B n r → B n q → r ≡ q
-  one-refusal n r q (withKey b) (withKey b′) = refl
-  one-refusal n r q (withKey {key = key} b) (short k) = absurd (omega (arith, up-to-26 d ms n key b))
-  one-refusal n r q (withKey {key = key} b) (unfit s) = absurd (omega (arith, up-to-26 d ms n key b))
-  one-refusal n r q (short k) (withKey {key = key} b) = absurd (omega (arith, up-to-26 d ms n key b))
-  one-refusal n r q (unfit s) (withKey {key = key} b) = absurd (omega (arith, up-to-26 d ms n key b))
+  one-refusal n r q (withKey {key = key} b) (withKey {key = other} b′) =
+      ap (λ (k : Name). keyRefusal n (place k)) (one-key key other (b′ .no-earlier key (b .breaks)) (b .no-earlier other (b′ .breaks)))
+  one-refusal n r q (withKey {key = key} b) (short k) = absurd (omega (arith, up-to-26 d ms n key (b .breaks)))
+  one-refusal n r q (withKey {key = key} b) (unfit s) = absurd (omega (arith, up-to-26 d ms n key (b .breaks)))
+  one-refusal n r q (short k) (withKey {key = key} b) = absurd (omega (arith, up-to-26 d ms n key (b .breaks)))
+  one-refusal n r q (unfit s) (withKey {key = key} b) = absurd (omega (arith, up-to-26 d ms n key (b .breaks)))
   one-refusal n r q (short k) (short k′) = refl
   one-refusal n r q (unfit {r = x} s) (unfit {r = y} s′) =
       let g : judgedOf L words text ≡ failed x = answer-failed L words text x s in
@@ -167,36 +175,31 @@ module _ (L : Limits) (words room : ℕ) (d : Doc) (ms : Members) where
   -- the sheet's number of a broken condition
   pub patch-number : {n : ℕ} {r : LocalRefusal} → B n r → refusedLocal r .number ≡ n
   unfolding refusedLocal
-  patch-number (withKey b) = ap (λ (a : Paper). a .number) (key-numbers b)
+  patch-number (withKey {key = key} b) = ap (λ (a : Paper). a .number) (key-numbers (place key) (b .breaks))
   patch-number (short k) = refl
   patch-number (unfit e) = refl
 
   -- and its second number
   pub patch-second : {n : ℕ} {r : LocalRefusal} → B n r → SecondNumber r (refusedLocal r .second)
   unfolding refusedLocal
-  patch-second (withKey b) = rw (key-numbers b) (key-second b)
+  patch-second (withKey {key = key} b) = rw (key-numbers (place key) (b .breaks)) (key-second (place key) (b .breaks))
   patch-second (short k) = S.needed
   patch-second (unfit e) = S.inside
 
   -- ---- the theorems
 
-  -- the smallest number, from 22 to 26, has its key
-  pub smallest-key : (n : ℕ) (r : LocalRefusal) → n ≤ 26 → Smallest B n r → (key : Name) × FirstBroken d ms n key
-  smallest-key n r high s = go n r high (s .broken) s
+  -- the smallest number, from 22 to 26, has its key, and the refusal that key's place
+  pub smallest-key : (n : ℕ) (r : LocalRefusal) → n ≤ 26 → Smallest B n r → (key : Name) × FirstBroken d ms n key × (r ≡ keyRefusal n (place key))
+  smallest-key n r high s = go (faultIn d ms) (fault-found d ms)
     where
-      found : (n : ℕ) (r : LocalRefusal) (other : Name) → BreaksWith d ms n other → Smallest B n r → (f : PatchFault) → Due d ms f
-          → (key : Name) × FirstBroken d ms n key
-      found n r other b s allKept u = absurd (u n other b)
-      found n r other b s (brokenBy m key) u =
-          let i = u .least n other b in
-          let j = s .least m _ (withKey (u .breaks)) in
+      go : (f : PatchFault) → Due d ms f → (key : Name) × FirstBroken d ms n key × (r ≡ keyRefusal n (place key))
+      go allKept u = absurd (omega (arith, from-27 u n r (s .broken)))
+      go (brokenBy m key) u =
+          let i = key-smallest u .least n r (s .broken) in
+          let j = s .least m _ (first-broken u) in
           let e : m ≡ n = omega arith in
-          (key, subst (λ (x : ℕ). FirstBroken d ms x key) e u)
-
-      go : (n : ℕ) (r : LocalRefusal) → n ≤ 26 → B n r → Smallest B n r → (key : Name) × FirstBroken d ms n key
-      go n r high (withKey {key = other} b) s = found n r other b s (faultIn d ms) (fault-found d ms)
-      go n r high (short k) s = absurd (omega arith)
-      go n r high (unfit e) s = absurd (omega arith)
+          let v : FirstBroken d ms n key = subst (λ (x : ℕ). FirstBroken d ms x key) e u in
+          (key, v, one-refusal n r (keyRefusal n (place key)) (s .broken) (first-broken v))
 
   smallest-so : (o : Outcome) → Stands o → (n : ℕ) (r : LocalRefusal) → Smallest B n r → o ≡ denied r
   smallest-so (done t f) a n r s = absurd (a .unbroken n r (s .broken))
@@ -215,12 +218,12 @@ module _ (L : Limits) (words room : ℕ) (d : Doc) (ms : Members) where
       cc
 
   -- refused exactly if the condition is broken, and none of a smaller number
-  pub entries-refused : (r : LocalRefusal) → (byEntries L words room d ms (entriesOf ms) ≡ denied r) ↔ Smallest B (refusedLocal r .number) r
-  entries-refused r = (λ e. numbered r (subst Stands e answer), smallest-so (byEntries L words room d ms (entriesOf ms)) answer (refusedLocal r .number) r)
+  pub entries-refused : (r : LocalRefusal) → (byEntries L words room place d ms (entriesOf ms) ≡ denied r) ↔ Smallest B (refusedLocal r .number) r
+  entries-refused r = (λ e. numbered r (subst Stands e answer), smallest-so (byEntries L words room place d ms (entriesOf ms)) answer (refusedLocal r .number) r)
     where
       numbered : (r : LocalRefusal) → (n : ℕ) × Smallest B n r → Smallest B (refusedLocal r .number) r
       numbered r (n, s) = rw (patch-number (s .broken)) s
 
   -- written exactly if no condition is broken
-  pub entries-accepted : (t : List ℕ) (f : Forest) → (byEntries L words room d ms (entriesOf ms) ≡ done t f) ↔ Accepted t f
-  entries-accepted t f = (λ e. subst Stands e answer, accepted-so (byEntries L words room d ms (entriesOf ms)) answer t f)
+  pub entries-accepted : (t : List ℕ) (f : Forest) → (byEntries L words room place d ms (entriesOf ms) ≡ done t f) ↔ Accepted t f
+  entries-accepted t f = (λ e. subst Stands e answer, accepted-so (byEntries L words room place d ms (entriesOf ms)) answer t f)

@@ -1,8 +1,9 @@
 -- 22 to 26 of a document and the members of a PatchObject: `faultIn` finds the smallest number that is broken and the smallest key that breaks it
--- (`fault-iff`), and nothing exactly if no key breaks any (`kept-iff`); in whatever order the members stand (`fault-order`).
+-- (`fault-iff`), and nothing exactly if no key breaks any (`kept-iff`); in whatever order the members stand (`fault-order`, of one test `key-order`,
+-- of clashes `clash-order`).
 -- Assumes nothing.
 use mathlib.Core.Path.{_≡_, refl, sym, ap, ap₂, subst, _∙_}
-use mathlib.Core.Bool.{true, true≢false}
+use mathlib.Core.Bool.{Bool, true, true≢false}
 use mathlib.Core.Logic.{_↔_, _⊎_, inl, inr}
 use mathlib.Core.List.{List, [], _∷_}
 use mathlib.Core.Option.{Option, none, some}
@@ -24,7 +25,15 @@ use Rattle.contact.proofs.Patching.Names.{same-yes, byName, before-tota
 use Rattle.contact.proofs.Patching.Tilde.{tilde-iff}
 use Rattle.contact.proofs.Patching.Pointers.{key-iff}
 use Rattle.contact.proofs.Patching.Ways.{array-test, lost-test}
-use Rattle.contact.proofs.Patching.Least.{Least, least-map, key-least, InPair, clash-least}
+use Rattle.contact.proofs.Patching.Least.{Least, least-map, least-one, key-least, InPair, clash-least}
+
+-- two keys of which neither comes before the other are one
+pub one-key : (a b : Name) → ¬ Earlier a b → ¬ Earlier b a → a ≡ b
+one-key a b h k =
+    byName a b (λ e. e)
+    (λ ne. byTest (before a b)
+    (λ x. absurd (h (before-earlier a b .0 x)))
+    (λ x. absurd (k (before-earlier b a .0 (before-total a b ne x)))))
 
 -- ---- 23 by the first part of a pointer
 
@@ -53,6 +62,14 @@ second-there (laterOn x) = later (second-there x)
 both-there : {key other : Name} {ms : Members} → TwoKeys key other ms → HasKey key ms × HasKey other ms
 both-there (inl x) = (first-there x, second-there x)
 both-there (inr x) = (second-there x, first-there x)
+
+-- a key that breaks a condition is one of the members'
+pub breaks-there : {d : Doc} {ms : Members} {n : ℕ} {key : Name} → BreaksWith d ms n key → HasKey key ms
+breaks-there (badKey x t) = x
+breaks-there (ownLocalizations x w t) = x
+breaks-there (clashing x w v t) = both-there x .0
+breaks-there (enteringArray x w t) = x
+breaks-there (losingWay x w t) = x
 
 module _ (d : Doc) (ms : Members) where
   abbrev B : ℕ → Name → Type 0
@@ -142,11 +159,10 @@ module _ (d : Doc) (ms : Members) where
   or-else : (n : ℕ) (o : Option Name) (rest : PatchFault) → AtLeast n → Least (B n) o
       → (((key : Name) → ¬ B n key) → AtLeast (suc n) → Due rest) → Due (orElseFault n o rest)
   or-else n none rest h l go = go l (raise n h l)
-  or-else n (some key) rest h l go = record {
-    breaks = l .0;
-    least = h;
-    no-earlier = λ other b e. true≢false (sym (before-earlier other key .1 e) ∙ l .1 other b);
-  }
+  or-else n (some key) rest h l go = smallest
+    where
+      smallest : FirstBroken d ms n key
+      smallest = record { breaks = l .0; least = h; no-earlier = λ other b e. true≢false (sym (before-earlier other key .1 e) ∙ l .1 other b) }
 
   pub fault-found : Due (faultIn d ms)
   unfolding faultIn
@@ -159,14 +175,6 @@ module _ (d : Doc) (ms : Members) where
       let i : 27 ≤ m = h27 m key b in let j : m ≤ 26 = up-to-26 m key b in omega arith
 
   -- ---- the theorems
-
-  -- two keys of which neither comes before the other are one
-  one-key : (a b : Name) → ¬ Earlier a b → ¬ Earlier b a → a ≡ b
-  one-key a b h k =
-      byName a b (λ e. e)
-      (λ ne. byTest (before a b)
-      (λ x. absurd (h (before-earlier a b .0 x)))
-      (λ x. absurd (k (before-earlier b a .0 (before-total a b ne x)))))
 
   fault-so : (f : PatchFault) → Due f → (n : ℕ) (key : Name) → FirstBroken d ms n key → f ≡ brokenBy n key
   fault-so allKept u n key s = absurd (u n key (s .breaks))
@@ -190,7 +198,7 @@ module _ (d : Doc) (ms : Members) where
 
 -- ---- the members in another order
 
-shuffled-sym : {ms ns : Members} → Shuffled ms ns → Shuffled ns ms
+pub shuffled-sym : {ms ns : Members} → Shuffled ms ns → Shuffled ns ms
 shuffled-sym asIs = asIs
 shuffled-sym (keepFirst σ) = keepFirst (shuffled-sym σ)
 shuffled-sym swapFirst = swapFirst
@@ -227,25 +235,23 @@ shuffled-keys swapFirst a b (laterOn (firstKey x)) = inl (firstKey (later x))
 shuffled-keys swapFirst a b (laterOn (laterOn x)) = inl (laterOn (laterOn x))
 shuffled-keys (andOn {ns = ns} {ls = ls} σ τ) a b x = two-on a b ns ls (shuffled-keys τ) (shuffled-keys σ a b x)
 
-module _ (d : Doc) where
-  shuffled-breaks : {ms ns : Members} → Shuffled ms ns → {n : ℕ} {key : Name} → BreaksWith d ms n key → BreaksWith d ns n key
-  shuffled-breaks σ (badKey x t) = badKey (shuffled-key σ x) t
-  shuffled-breaks σ (ownLocalizations x w t) = ownLocalizations (shuffled-key σ x) w t
-  shuffled-breaks {ms} {ns} σ {n} {key} (clashing {other = other} x w v t) = clashing (two-on key other ms ns (shuffled-keys σ) x) w v t
-  shuffled-breaks σ (enteringArray x w t) = enteringArray (shuffled-key σ x) w t
-  shuffled-breaks σ (losingWay x w t) = losingWay (shuffled-key σ x) w t
+module _ {ms ns : Members} (σ : Shuffled ms ns) where
+  -- the smallest key of which a test is true
+  pub key-order : (f : Name → Bool) → leastKey f ms ≡ leastKey f ns
+  key-order f =
+      least-one (λ k. HasKey k ns × (f k ≡ true)) (leastKey f ms) (leastKey f ns)
+      (least-map (λ k. HasKey k ms × (f k ≡ true)) (λ k. HasKey k ns × (f k ≡ true)) (λ k (x, t). (shuffled-key σ x, t))
+      (λ k (x, t). (shuffled-key (shuffled-sym σ) x, t)) (leastKey f ms) (key-least f (λ k. f k ≡ true) (λ k. (λ e. e, λ e. e)) ms))
+      (key-least f (λ k. f k ≡ true) (λ k. (λ e. e, λ e. e)) ns)
 
-  pub fault-order : {ms ns : Members} → Shuffled ms ns → faultIn d ms ≡ faultIn d ns
-  fault-order {ms} {ns} σ = go (faultIn d ms) (fault-found d ms)
-    where
-      τ : Shuffled ns ms
-      τ = shuffled-sym σ
+  -- the smallest that clashes with another
+  pub clash-order : leastClash ms ≡ leastClash ns
+  clash-order =
+      least-one (InPair ns) (leastClash ms) (leastClash ns)
+      (least-map (InPair ms) (InPair ns) (λ k (other, two, c). (other, two-on k other ms ns (shuffled-keys σ) two, c))
+      (λ k (other, two, c). (other, two-on k other ns ms (shuffled-keys (shuffled-sym σ)) two, c)) (leastClash ms) (clash-least ms))
+      (clash-least ns)
 
-      go : (f : PatchFault) → Due d ms f → f ≡ faultIn d ns
-      go allKept u = sym (kept-iff d ns .1 (λ n key b. u n key (shuffled-breaks τ b)))
-      go (brokenBy n key) s =
-          sym (fault-iff d ns n key .1 (record {
-            breaks = shuffled-breaks σ (s .breaks);
-            least = λ m other b. s .least m other (shuffled-breaks τ b);
-            no-earlier = λ other b. s .no-earlier other (shuffled-breaks τ b);
-          }))
+pub fault-order : (d : Doc) {ms ns : Members} → Shuffled ms ns → faultIn d ms ≡ faultIn d ns
+unfolding faultIn
+fault-order d σ = rw (key-order σ badTilde, key-order σ ownKey, clash-order σ, key-order σ (walksTo isInArray d), key-order σ (walksTo isNoObject d))

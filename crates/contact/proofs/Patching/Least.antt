@@ -8,6 +8,7 @@ use mathlib.Core.List.{List}
 use mathlib.Core.Option.{Option, none, some}
 use Prim.Native.Nat.{ℕ}
 use Rattle.laws.proofs.Bools.{byTest, or-either, or-false}
+use Rattle.laws.proofs.Branches.{if-true}
 use Rattle.laws.specs.Order.{before}
 use Rattle.laws.proofs.Orders.{before-irrefl, before-trans}
 use Rattle.text.specs.Doc.{Name, Doc, Members, empty, member}
@@ -55,8 +56,7 @@ module _ (T U : Name → Type 0) where
       go : (j : Name) → Either j → before j a ≡ false
       go j (inl t) = h .1 j t
       go j (inr u) = absurd (k j u)
-  least-smaller (some a) (some b) h k =
-      byTest (before b a) (λ x. simp x (inr (k .0), on-b x)) (λ x. simp x (inl (h .0), on-a x))
+  least-smaller (some a) (some b) h k = if-true (Least Either) (before b a) (λ x. (inr (k .0), on-b x)) (λ x. (inl (h .0), on-a x))
     where
       on-a : before b a ≡ false → (j : Name) → Either j → before j a ≡ false
       on-a x j (inl t) = h .1 j t
@@ -69,6 +69,16 @@ module _ (T U : Name → Type 0) where
   pub least-map : ((k : Name) → T k → U k) → ((k : Name) → U k → T k) → (o : Option Name) → Least T o → Least U o
   least-map to from none h = λ k u. h k (from k u)
   least-map to from (some k) h = (to k (h .0), λ j u. h .1 j (from j u))
+
+-- there is one at the most
+pub least-one : (T : Name → Type 0) (o p : Option Name) → Least T o → Least T p → o ≡ p
+least-one T none none h k = refl
+least-one T none (some b) h k = absurd (h b (k .0))
+least-one T (some a) none h k = absurd (k a (h .0))
+least-one T (some a) (some b) h k =
+    byName a b
+    (λ e. ap (λ (n : Name). some n) e)
+    (λ ne. absurd (true≢false (sym (before-total a b ne (k .1 a (h .0))) ∙ h .1 b (k .0))))
 
 -- ---- a test of one key
 

@@ -142,7 +142,7 @@ key-iff key p = (
   λ h. pointer-iff key p .1 (byTest (badTilde key) (λ b. absurd (h .0 (tilde-iff key .0 b))) (λ b. b), h .1),
 )
 
-part-one : {bs cs : List ℕ} {n : Name} → PartText bs n → PartText cs n → bs ≡ cs
+pub part-one : {bs cs : List ℕ} {n : Name} → PartText bs n → PartText cs n → bs ≡ cs
 part-one none none = refl
 part-one (byte {b = b} h k x) (byte h′ k′ y) = ap (λ (l : List ℕ). b ∷ l) (part-one x y)
 part-one (byte h k x) (tilde y) = absurd (k refl)

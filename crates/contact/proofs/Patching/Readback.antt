@@ -1,4 +1,4 @@
--- A document that is written is read back and judged as it is (`written-card`). The localized card of a text that passes is no longer and has no more
+-- A document that is written is read back and judged as it is (`written-card`), also where names aren't compared (`judged-loose`). The localized card of a text that passes is no longer and has no more
 -- values than the text (`card-shorter`, `card-fewer`), so its text is read back (`card-written`): 27 never asks for more bytes than the text has
 -- (`never-longer`), and 28 is 5 or one of 11 to 14 (`inner-number`).
 -- Assumes nothing.
@@ -12,7 +12,7 @@ use native.Mathlib.Omega.{arith}
 use native.Mathlib.Decide.{decLe}
 use borrow.Author.Tests.{le-ltb}
 use lib.ListN.{length, getD}
-use Rattle.text.specs.Limits.{Limits, rowWords}
+use Rattle.text.specs.Limits.{Limits, loose, rowWords}
 use Rattle.text.specs.Tree.{Forest, size, startsOf}
 use Rattle.text.specs.Reader.{Read, good, bad}
 use Rattle.text.specs.Sheet.{refused}
@@ -25,13 +25,14 @@ use Rattle.text.specs.Writable.{Lexeme, Writable, depthIn, ReadsBack}
 use Rattle.text.specs.declared.Refusal.the-variants.{Deep}
 use Rattle.text.proofs.Promise.{Fits, whole-good, promised, count-root}
 use Rattle.text.proofs.Answers.{keeps-read, only-deep}
-use Rattle.text.proofs.Readback.Again.{reads-back}
+use Rattle.text.proofs.Readback.Again.{reads-back, reads-loose}
 use Rattle.text.proofs.Readback.Documents.{text-lexical, text-shorter}
 use Rattle.contact.specs.Judge.{Breach, nothing, found, cardBreach}
 use Rattle.contact.specs.Verdict.{refusedFault, refusedCard, Judged, passed, failed, faultOf, byBreach, judgedRead, judgedOf}
 use Rattle.contact.specs.Patch.{entriesOf}
 use Rattle.contact.specs.Localize.{Outcome, refusedLocal, denied, start, localizedOf, patchedDoc}
 use Rattle.contact.specs.Entries.{NoClash, ParentsThere}
+use Rattle.contact.specs.Places.{keyPlace}
 use Rattle.contact.specs.Conditions.{PatchOf, Applicable, BrokenPatch, Smallest}
 use Rattle.contact.specs.Patching.{WrittenCard}
 use Rattle.contact.specs.declared.CardFault.{CardFault}
@@ -63,6 +64,10 @@ module _ (L : Limits) (words : ℕ) (x : Doc) (b : ReadsBack L x) where
   judged-deep : (p : ℕ) → readOf L (written x) ≡ bad (Deep p) → judgedOf L words (written x) ≡ failed (Text (Deep p))
   unfolding judgedOf judgedRead wholeOf fitOf
   judged-deep p e = rw e
+
+pub judged-loose : (L : Limits) (words : ℕ) (x : Doc) → Writable x → judgedOf (loose L) words (written x) ≡ judgedOf L words (written x)
+unfolding judgedOf wholeOf
+judged-loose L words x w = rw (reads-loose L x w)
 
 pub written-card : (L : Limits) (words : ℕ) (x : Doc) → Writable x → length (written x) ≤ L .bytes → countOf x ≤ L .values → rowWords * countOf x ≤ words
     → WrittenCard L words x
@@ -175,27 +180,30 @@ module _ (L : Limits) (words room : ℕ) (unique : L .unique ≡ true) where
       go (failed r) k = absurd (not r (sym e ∙ failed-so L words room t lang r k))
 
   module _ (t : List ℕ) (lang : Name) (f : Forest) (pass : judgedOf L words t ≡ passed f) where
+    abbrev place : Name → ℕ
+    place = keyPlace t f lang
+
     -- its document has the outcome, by the PatchObject that it has
     of-card : (r : LocalRefusal) → localizedOf L words room t lang ≡ denied r → 21 < refusedLocal r .number
-        → (ms : Members) × PatchOf (docOf t f) lang ms × Smallest (BrokenPatch L words room (start (docOf t f)) ms) (refusedLocal r .number) r
+        → (ms : Members) × PatchOf (docOf t f) lang ms × Smallest (BrokenPatch L words room place (start (docOf t f)) ms) (refusedLocal r .number) r
     of-card r e l =
-        let s = refused-iff L words room (docOf t f) lang r .0 (sym (passed-so L words room t lang f pass) ∙ e) in
-        let (ms, patch) = patch-of L words room (docOf t f) lang (s .broken) l in
-        (ms, patch, smallest-on L words room (docOf t f) lang ms patch s)
+        let s = refused-iff L words room place (docOf t f) lang r .0 (sym (passed-so L words room t lang f pass) ∙ e) in
+        let (ms, patch) = patch-of L words room place (docOf t f) lang (s .broken) l in
+        (ms, patch, smallest-on L words room place (docOf t f) lang ms patch s)
 
-    card-longest : (n : ℕ) (ms : Members) → PatchOf (docOf t f) lang ms → Smallest (BrokenPatch L words room (start (docOf t f)) ms) 27 (Short n)
+    card-longest : (n : ℕ) (ms : Members) → PatchOf (docOf t f) lang ms → Smallest (BrokenPatch L words room place (start (docOf t f)) ms) 27 (Short n)
         → (room < n) × (n ≤ length t)
     card-longest n ms patch s =
-        let (short, q) = short-of L words room (start (docOf t f)) ms (s .broken) in
-        let h = fine (start (docOf t f)) ms (late-applicable L words room (start (docOf t f)) ms s (omega arith)) in
+        let (short, q) = short-of L words room place (start (docOf t f)) ms (s .broken) in
+        let h = fine (start (docOf t f)) ms (late-applicable L words room place (start (docOf t f)) ms (λ m q b. omega (arith, s .least m q b))) in
         let same : n ≡ length (written (patchedDoc (docOf t f) ms)) = cc in
         (omega arith, omega (arith, card-shorter L unique words t f pass lang ms patch (h .noClash) (h .parents)))
 
-    card-inner : (r : CardRefusal) (ms : Members) → PatchOf (docOf t f) lang ms → Smallest (BrokenPatch L words room (start (docOf t f)) ms) 28 (Inner r)
+    card-inner : (r : CardRefusal) (ms : Members) → PatchOf (docOf t f) lang ms → Smallest (BrokenPatch L words room place (start (docOf t f)) ms) 28 (Inner r)
         → OnlyInner r
     card-inner r ms patch s =
-        let (x, judged, q) = unfit-of L words room (start (docOf t f)) ms (s .broken) in
-        let u = late-applicable L words room (start (docOf t f)) ms s (omega arith) in
+        let (x, judged, q) = unfit-of L words room place (start (docOf t f)) ms (s .broken) in
+        let u = late-applicable L words room place (start (docOf t f)) ms (λ m q b. omega (arith, s .least m q b)) in
         let same : x ≡ r = cc in
         failed-inner {x = patchedDoc (docOf t f) ms} (card-written L unique words t f pass lang ms patch u) r (rw same at judged)
 

@@ -93,7 +93,7 @@ order-depth lang d e o = in-tally deep (in-tally deep (rearranged-tally deep)) d
 -- ---- distinct names
 
 -- a member that isn't found: the first has another name, and it isn't found behind it
-not-first : (n m : Name) (label : List ℕ) (d : Doc) (ms : Members) → seek n (member m label d ms) ≡ none → (m ≢ n) × (seek n ms ≡ none)
+pub not-first : (n m : Name) (label : List ℕ) (d : Doc) (ms : Members) → seek n (member m label d ms) ≡ none → (m ≢ n) × (seek n ms ≡ none)
 not-first n m label d ms h =
     byName m n
     (λ e. let z : some (property label d) ≡ none = rw (same-yes e) at h in absurd (Option·some-ne-none _ z))

@@ -28,13 +28,13 @@ one-patch card lang ms ns p q =
     ap (λ (s : Property). s .content) (Option·some-injective (property (p .label) (object ms)) (property (q .label) (object ns)) (sym (p .stands) ∙ q .stands)) in
     cc
 
-module _ (L : Limits) (words room : ℕ) (card : Doc) (lang : Name) where
+module _ (L : Limits) (words room : ℕ) (place : Name → ℕ) (card : Doc) (lang : Name) where
   abbrev B : ℕ → LocalRefusal → Type 0
-  B n r = BrokenCondition L words room card lang n r
+  B n r = BrokenCondition L words room place card lang n r
 
   -- what the entries make of the starting card
   abbrev outcomeOf : Members → Outcome
-  outcomeOf ms = byEntries L words room (start card) ms (entriesOf ms)
+  outcomeOf ms = byEntries L words room place (start card) ms (entriesOf ms)
 
   -- ---- with a PatchObject, or without one
 
@@ -48,18 +48,18 @@ module _ (L : Limits) (words room : ℕ) (card : Doc) (lang : Name) where
   no-object d ms label e p h =
       h (ap (λ (s : Property). s .content) (Option·some-injective (property label d) (property (p .label) (object ms)) (sym e ∙ p .stands)))
 
-  in-patch : (label : List ℕ) (d : Doc) → find (patchAt lang) card ≡ some (property label d) → Either (inPatch L words room (start card) d)
+  in-patch : (label : List ℕ) (d : Doc) → find (patchAt lang) card ≡ some (property label d) → Either (inPatch L words room place (start card) d)
   unfolding inPatch
   in-patch label (scalar k t) e = inr (λ ms p. no-object (scalar k t) ms label e p (λ q. let z : _≡_ {A = ℕ} 0 1 = cc in omega arith), refl)
   in-patch label (array xs) e = inr (λ ms p. no-object (array xs) ms label e p (λ q. let z : _≡_ {A = ℕ} 0 1 = cc in omega arith), refl)
   in-patch label (object ms) e = inl (ms, record { label = label; stands = e }, refl)
 
-  with-patch : (o : Option Property) → find (patchAt lang) card ≡ o → Either (withPatch L words room (start card) o)
+  with-patch : (o : Option Property) → find (patchAt lang) card ≡ o → Either (withPatch L words room place (start card) o)
   unfolding withPatch
   with-patch none e = inr (λ ms p. Option·none-ne-some (property (p .label) (object ms)) (sym e ∙ p .stands), refl)
   with-patch (some s) e = in-patch (s .label) (s .content) e
 
-  has-patch : Either (localizedDoc L words room card lang)
+  has-patch : Either (localizedDoc L words room place card lang)
   unfolding localizedDoc
   has-patch = with-patch (find (patchAt lang) card) refl
 
@@ -67,7 +67,7 @@ module _ (L : Limits) (words room : ℕ) (card : Doc) (lang : Name) where
 
   module _ (ms : Members) (patch : PatchOf card lang ms) where
     abbrev P : ℕ → LocalRefusal → Type 0
-    P n r = BrokenPatch L words room (start card) ms n r
+    P n r = BrokenPatch L words room place (start card) ms n r
 
     pub of-start : {n : ℕ} {r : LocalRefusal} → P n r → B n r
     of-start b = ofPatch patch (start-left card lang ms patch) b
@@ -75,8 +75,8 @@ module _ (L : Limits) (words room : ℕ) (card : Doc) (lang : Name) where
     pub on-start : {n : ℕ} {r : LocalRefusal} → B n r → P n r
     on-start (noLanguage h) = absurd (h ms patch)
     on-start {n} {r} (ofPatch {ms = ns} {d = d} p l b) =
-        subst (λ (x : Members). BrokenPatch L words room (start card) x n r) (sym (one-patch card lang ms ns patch p))
-        (subst (λ (y : Doc). BrokenPatch L words room y ns n r) (start-only l) b)
+        subst (λ (x : Members). BrokenPatch L words room place (start card) x n r) (sym (one-patch card lang ms ns patch p))
+        (subst (λ (y : Doc). BrokenPatch L words room place y ns n r) (start-only l) b)
 
     pub smallest-of : {n : ℕ} {r : LocalRefusal} → Smallest P n r → Smallest B n r
     smallest-of s = record { broken = of-start (s .broken); least = λ m q b. s .least m q (on-start b) }
@@ -106,13 +106,13 @@ module _ (L : Limits) (words room : ℕ) (card : Doc) (lang : Name) where
   pub broken-number : {n : ℕ} {r : LocalRefusal} → B n r → refusedLocal r .number ≡ n
   unfolding refusedLocal
   broken-number (noLanguage h) = refl
-  broken-number (ofPatch {ms = ms} {d = d} p l b) = patch-number L words room d ms b
+  broken-number (ofPatch {ms = ms} {d = d} p l b) = patch-number L words room place d ms b
 
   -- and its second number
   pub broken-second : {n : ℕ} {r : LocalRefusal} → B n r → SecondNumber r (refusedLocal r .second)
   unfolding refusedLocal
   broken-second (noLanguage h) = S.no-language
-  broken-second (ofPatch {ms = ms} {d = d} p l b) = patch-second L words room d ms b
+  broken-second (ofPatch {ms = ms} {d = d} p l b) = patch-second L words room place d ms b
 
   -- ---- the theorems
 
@@ -120,17 +120,17 @@ module _ (L : Limits) (words room : ℕ) (card : Doc) (lang : Name) where
   pub record AcceptedCard (t : List ℕ) (f : Forest) : Type 0 where
     pub members : Members
     pub patch : PatchOf card lang members
-    pub accepted : Accepted L words room (start card) members t f
+    pub accepted : Accepted L words room place (start card) members t f
 
   -- a refusal is given exactly if its condition is broken, and none of a smaller number
-  pub refused-iff : (r : LocalRefusal) → (localizedDoc L words room card lang ≡ denied r) ↔ Smallest B (refusedLocal r .number) r
+  pub refused-iff : (r : LocalRefusal) → (localizedDoc L words room place card lang ≡ denied r) ↔ Smallest B (refusedLocal r .number) r
   unfolding refusedLocal
-  refused-iff r = go (localizedDoc L words room card lang) has-patch
+  refused-iff r = go (localizedDoc L words room place card lang) has-patch
     where
       go : (o : Outcome) → Either o → (o ≡ denied r) ↔ Smallest B (refusedLocal r .number) r
       go o (inl (ms, patch, e)) = (
-        λ q. smallest-of ms patch (entries-refused L words room (start card) ms r .0 (sym e ∙ q)),
-        λ s. e ∙ entries-refused L words room (start card) ms r .1 (smallest-on ms patch s),
+        λ q. smallest-of ms patch (entries-refused L words room place (start card) ms r .0 (sym e ∙ q)),
+        λ s. e ∙ entries-refused L words room place (start card) ms r .1 (smallest-on ms patch s),
       )
       go o (inr (free, e)) = (
         λ q. let h : NoLanguage ≡ r = cc in subst (λ (x : LocalRefusal). Smallest B (refusedLocal x .number) x) h (missing free),
@@ -138,14 +138,14 @@ module _ (L : Limits) (words room : ℕ) (card : Doc) (lang : Name) where
       )
 
   -- a card is written exactly if no condition is broken
-  pub accepted-iff : (t : List ℕ) (f : Forest) → (localizedDoc L words room card lang ≡ done t f) ↔ AcceptedCard t f
-  accepted-iff t f = go (localizedDoc L words room card lang) has-patch
+  pub accepted-iff : (t : List ℕ) (f : Forest) → (localizedDoc L words room place card lang ≡ done t f) ↔ AcceptedCard t f
+  accepted-iff t f = go (localizedDoc L words room place card lang) has-patch
     where
       go : (o : Outcome) → Either o → (o ≡ done t f) ↔ AcceptedCard t f
       go o (inl (ms, patch, e)) = (
-        λ q. record { members = ms; patch = patch; accepted = entries-accepted L words room (start card) ms t f .0 (sym e ∙ q) },
+        λ q. record { members = ms; patch = patch; accepted = entries-accepted L words room place (start card) ms t f .0 (sym e ∙ q) },
         λ a. let h : a .members ≡ ms = one-patch card lang (a .members) ms (a .patch) patch in
-            e ∙ entries-accepted L words room (start card) ms t f .1 (subst (λ (x : Members). Accepted L words room (start card) x t f) h (a .accepted)),
+            e ∙ entries-accepted L words room place (start card) ms t f .1 (subst (λ (x : Members). Accepted L words room place (start card) x t f) h (a .accepted)),
       )
       go o (inr (free, e)) = (
         λ q. let z : _≡_ {A = ℕ} 0 1 = cc in absurd (omega arith),

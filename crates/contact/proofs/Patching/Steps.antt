@@ -1,14 +1,13 @@
 -- Localizing step by step, as it is carried out:
 --     judged-answer                      what judging answers, by its answer on paper
 --     answer-failed, failed-answer           a text is refused as the papers say
---     bad-key-so .. no-object-so, unbroken-so     the conditions 22 to 26, one after the other
+--     broken-so, unbroken-so             22 to 26 refuse with the place of the key, or the text that would be written is weighed
 --     short-so, room-so                  27, and then the text that is written is judged
 --     start-walk, start-walks            a pointer that does not begin with `localizations` leads where it leads in the card
 -- Assumes nothing.
 use mathlib.Core.Path.{_≡_, refl, sym, ap, _∙_}
-use mathlib.Core.Bool.{Bool, true, false, true≢false}
+use mathlib.Core.Bool.{Bool, false, true≢false}
 use mathlib.Core.List.{List, [], _∷_}
-use mathlib.Core.Option.{none}
 use Prim.Native.Nat.{ℕ, _≤_, _<_}
 use lib.ListN.{length}
 use native.Mathlib.Omega.{arith}
@@ -18,22 +17,21 @@ use Rattle.laws.specs.Lists.{filled}
 use Rattle.laws.proofs.Bools.{or-false}
 use Rattle.text.specs.Limits.{Limits}
 use Rattle.text.specs.Text.{bytes}
-use Rattle.text.specs.Doc.{Doc, scalar, array, object, Members}
+use Rattle.text.specs.Doc.{Name, Doc, scalar, array, object, Members}
 use Rattle.text.specs.Writing.{written}
 use Rattle.contact.specs.Verdict.{paperOfVerdict, refusedCard, Judged, passed, failed, judgedOf, answerOfJudged, sheetOfJudged, tableOfJudged}
 use Rattle.contact.specs.Judging.{CardAnswer}
-use Rattle.contact.specs.Pointer.{Pointer, last, down, badTilde, firstPart}
-use Rattle.contact.specs.Patch.{Entry, entry, entriesOf, Walk, onward, walk, anyBadKey, anyOwn, anyClash, anyWalk, isInArray, isNoObject, applied}
-use Rattle.contact.specs.Faults.{leastKey, ownKey, walksTo, faultIn}
-use Rattle.contact.specs.Localize.{denied, start, byJudge, byRoom, byFault, byEntries}
+use Rattle.contact.specs.Pointer.{Pointer, last, down, firstPart}
+use Rattle.contact.specs.Patch.{Entry, entry, entriesOf, Walk, onward, walk, anyOwn, anyWalk, applied}
+use Rattle.contact.specs.Faults.{allKept, brokenBy, faultIn}
+use Rattle.contact.specs.Localize.{keyRefusal, denied, start, byJudge, byRoom, byFault, byEntries}
 use Rattle.contact.specs.declared.CardRefusal.{CardRefusal}
 use Rattle.contact.specs.declared.Verdict.{Verdict}
 use Rattle.contact.specs.declared.Verdict.the-variants.{Failed}
-use Rattle.contact.specs.declared.LocalRefusal.the-variants.{BadKey, OwnLocalizations, Clash, InArray, NoObject, Short}
+use Rattle.contact.specs.declared.LocalRefusal.the-variants.{Short}
 use Rattle.contact.proofs.Judging.{one-answer, judging}
 use Rattle.contact.proofs.Patching.Names.{same-yes}
 use Rattle.contact.proofs.Patching.Seek.{seek-without-other}
-use Rattle.contact.proofs.Patching.Least.{key-some, key-none, bad-keys, own-keys, walk-keys, clash-some, clash-none}
 
 -- ---- judging
 
@@ -58,46 +56,14 @@ module _ (L : Limits) (words : ℕ) (t : List ℕ) (r : CardRefusal) where
 module _ (L : Limits) (words room : ℕ) where
   -- ---- 22 to 26
 
-  module _ (d : Doc) (ms : Members) where
-    pub bad-key-so : anyBadKey ms ≡ true → byEntries L words room d ms (entriesOf ms) ≡ denied BadKey
-    unfolding byEntries byFault faultIn
-    bad-key-so a = let (key, q) = key-some badTilde ms (bad-keys ms ∙ a) in rw q
+  module _ (place : Name → ℕ) (d : Doc) (ms : Members) where
+    pub broken-so : (n : ℕ) (key : Name) → faultIn d ms ≡ brokenBy n key → byEntries L words room place d ms (entriesOf ms) ≡ denied (keyRefusal n (place key))
+    unfolding byEntries byFault
+    broken-so n key e = rw e
 
-    module _ (a : anyBadKey ms ≡ false) where
-      no-bad : leastKey badTilde ms ≡ none
-      no-bad = key-none badTilde ms (bad-keys ms ∙ a)
-
-      pub own-so : anyOwn (entriesOf ms) ≡ true → byEntries L words room d ms (entriesOf ms) ≡ denied OwnLocalizations
-      unfolding byEntries byFault faultIn
-      own-so b = let (key, q) = key-some ownKey ms (own-keys ms ∙ b) in rw (no-bad, q)
-
-      module _ (b : anyOwn (entriesOf ms) ≡ false) where
-        no-own : leastKey ownKey ms ≡ none
-        no-own = key-none ownKey ms (own-keys ms ∙ b)
-
-        pub clash-so : anyClash (entriesOf ms) ≡ true → byEntries L words room d ms (entriesOf ms) ≡ denied Clash
-        unfolding byEntries byFault faultIn
-        clash-so c = let (key, q) = clash-some ms c in rw (no-bad, no-own, q)
-
-        module _ (c : anyClash (entriesOf ms) ≡ false) where
-          pub in-array-so : anyWalk isInArray (entriesOf ms) d ≡ true → byEntries L words room d ms (entriesOf ms) ≡ denied InArray
-          unfolding byEntries byFault faultIn
-          in-array-so e = let (key, q) = key-some (walksTo isInArray d) ms (walk-keys isInArray d ms ∙ e) in rw (no-bad, no-own, clash-none ms c, q)
-
-          module _ (e : anyWalk isInArray (entriesOf ms) d ≡ false) where
-            no-array : leastKey (walksTo isInArray d) ms ≡ none
-            no-array = key-none (walksTo isInArray d) ms (walk-keys isInArray d ms ∙ e)
-
-            pub no-object-so : anyWalk isNoObject (entriesOf ms) d ≡ true → byEntries L words room d ms (entriesOf ms) ≡ denied NoObject
-            unfolding byEntries byFault faultIn
-            no-object-so f =
-                let (key, q) = key-some (walksTo isNoObject d) ms (walk-keys isNoObject d ms ∙ f) in rw (no-bad, no-own, clash-none ms c, no-array, q)
-
-            pub unbroken-so : anyWalk isNoObject (entriesOf ms) d ≡ false
-                → byEntries L words room d ms (entriesOf ms) ≡ byRoom L words room (written (applied d (entriesOf ms)))
-            unfolding byEntries byFault faultIn
-            unbroken-so f =
-                rw (no-bad, no-own, clash-none ms c, no-array, key-none (walksTo isNoObject d) ms (walk-keys isNoObject d ms ∙ f))
+    pub unbroken-so : faultIn d ms ≡ allKept → byEntries L words room place d ms (entriesOf ms) ≡ byRoom L words room (written (applied d (entriesOf ms)))
+    unfolding byEntries byFault
+    unbroken-so e = rw e
 
   -- ---- 27
 

@@ -3,7 +3,7 @@
 -- Assumes nothing.
 use mathlib.Core.Bool.{false, true≢false}
 use mathlib.Core.List.{List, [], _∷_}
-use mathlib.Core.Option.{Option, none, some}
+use mathlib.Core.Option.{none, some}
 use mathlib.Core.Logic.{_≢_}
 use mathlib.Core.Path.{_≡_, refl, sym, ap, _∙_}
 use Prim.Native.Nat.{ℕ}
@@ -15,16 +15,16 @@ use Rattle.text.specs.Limits.{Limits}
 use Rattle.text.specs.Text.{bytes}
 use Rattle.text.specs.Tree.{Forest}
 use Rattle.text.specs.Doc.{Name, Doc, object, Members, member, Property, property, seek, docOf, scalar, array}
-use Rattle.text.specs.Writing.{written}
 use Rattle.text.specs.Labels.{Labelled}
 use Rattle.text.specs.Writable.{Lexeme, Writable}
 use Rattle.contact.specs.Verdict.{passed, judgedOf}
 use Rattle.contact.specs.Pointer.{last, find, within, Pointer, down, firstPart}
 use Rattle.contact.specs.Patch.{Entry, entriesOf, without, applied, entry, added, kept, anyOwn}
 use Rattle.contact.specs.Faults.{PatchFault, allKept, brokenBy, faultIn}
-use Rattle.contact.specs.Localize.{start, patchAt, byRoom, byFault, byEntries, inPatch, withPatch, localizedDoc, localizedOf, patchedDoc}
-use Rattle.contact.specs.Entries.{Shuffled, asIs, keepFirst, swapFirst, andOn, Apart, ApartFrom}
-use Rattle.contact.specs.Conditions.{PatchOf, Applicable}
+use Rattle.contact.specs.Localize.{keyRefusal, Outcome, denied, start, patchAt, byRoom, byEntries, inPatch, withPatch, localizedDoc, localizedOf, patchedDoc}
+use Rattle.contact.specs.Places.{keyPlace}
+use Rattle.contact.specs.Entries.{Shuffled, asIs, keepFirst, swapFirst, andOn, Apart, ApartFrom, NoClash}
+use Rattle.contact.specs.Conditions.{PatchOf, BreaksWith, Applicable}
 use Rattle.contact.specs.Patching.{Rearranged, rearranged, AtMember, thisOne, laterOne, InMember, inMember, OrderOnly, Patched, PatchedCard}
 use Rattle.contact.proofs.Patching.Asked.{asked-of}
 use Rattle.contact.proofs.Patching.Names.{same-no, same-yes}
@@ -41,8 +41,9 @@ use Rattle.contact.proofs.Patching.Distinct.{DistinctValues, distinct-r
 use Rattle.contact.proofs.Patching.Apart.{clear-apart}
 use Rattle.contact.proofs.Patching.Every.{labels-stay, labels-long, start-every, find-every}
 use Rattle.contact.proofs.Patching.Room.{bytes-together, values-together}
-use Rattle.contact.proofs.Patching.Faults.{kept-iff, fault-order}
+use Rattle.contact.proofs.Patching.Faults.{kept-iff, fault-iff, fault-order}
 use Rattle.contact.proofs.Patching.Fine.{Fine, fine}
+use Rattle.contact.proofs.Patching.Steps.{broken-so, unbroken-so}
 use Rattle.contact.proofs.Patching.Public.{passed-so}
 
 -- ---- members in another order are entries in another order
@@ -77,6 +78,11 @@ at-rest (laterOne {m = m} {label = label} {d = d} h x) = simp (same-no h) (ap (m
 
 -- ---- the patched document
 
+-- it can be written, as the document and the PatchObject can
+pub applied-writable : (d : Doc) (ms : Members) → Writable d → Writable (object ms) → NoClash (entriesOf ms) → Writable (applied d (entriesOf ms))
+applied-writable d ms wd wm nc =
+    record { labels = labels-stay Lexeme d ms (wm .labels) (wd .labels); distinct = distinct-applied d (entriesOf ms) nc (entries-values ms (wm .distinct)) (wd .distinct) }
+
 pub patched : (d : Doc) (ms : Members) → Writable d → Writable (object ms) → Applicable d ms → Patched d ms (applied d (entriesOf ms))
 patched d ms wd wm u =
     let es : List Entry = entriesOf ms in
@@ -97,7 +103,7 @@ patched d ms wd wm u =
       keeps = λ p i. untouched p d es (h .noClash) (clear-apart p es i);
       root = λ os e. (kept os es (added os es), ap (λ (y : Doc). applied y es) e, laid-root os es (h .noClash));
       below = λ p label os i e. laid-below p d es label os (h .noClash) i e;
-      writable = record { labels = labels-stay Lexeme d ms (wm .labels) (wd .labels); distinct = distinct-applied d es (h .noClash) v (wd .distinct) };
+      writable = applied-writable d ms wd wm (h .noClash);
       bytes = bytes-together d ms (wd .distinct) (wm .distinct) (h .noClash) (h .parents) (labels-long Lexeme ms (wm .labels));
       values = values-together d ms (wd .distinct) (wm .distinct) (h .noClash) (h .parents);
     }
@@ -156,40 +162,84 @@ patched-card card lang ms patch w u =
 
 -- ---- the entries in another order
 
-module _ (L : Limits) (words room : ℕ) where
+-- two cards that differ in the order of a language's entries only: their PatchObjects, and one starting card
+pub record Patches (lang : Name) (card other : Doc) : Type 0 where
+  pub ones : Members
+  pub others : Members
+  pub patch : PatchOf card lang ones
+  pub reordered : PatchOf other lang others
+  pub shuffled : Shuffled ones others
+  pub started : start card ≡ start other
+
+-- objects whose members are in another order, at the language
+record Twins (lang : Name) (one other : Doc) : Type 0 where
+  label : List ℕ
+  ones : Members
+  others : Members
+  in-one : find (last lang) one ≡ some (property label (object ones))
+  in-other : find (last lang) other ≡ some (property label (object others))
+  shuffled : Shuffled ones others
+
+twins-of : {lang : Name} {label : List ℕ} {d e one other : Doc} → find (last lang) d ≡ some (property label one) → find (last lang) e ≡ some (property label other)
+    → Rearranged one other → Twins lang d e
+twins-of {label = label} p q (rearranged {ms = ms} {ns = ns} σ) =
+    record { label = label; ones = ms; others = ns; in-one = p; in-other = q; shuffled = σ }
+
+twins : {lang : Name} {one other : Doc} → InMember lang Rearranged one other → Twins lang one other
+twins (inMember x) = let b = at-both x in twins-of (b .in-one) (b .in-other) (b .related)
+
+pub order-patches : (card other : Doc) (lang : Name) → OrderOnly lang card other → Patches lang card other
+order-patches card other lang (inMember x) =
+    let b = at-both x in
+    let w = twins (b .related) in
+    record {
+      ones = w .ones;
+      others = w .others;
+      patch = record { label = w .label; stands = ap (within (find (last lang))) (b .in-one) ∙ w .in-one };
+      reordered = record { label = w .label; stands = ap (within (find (last lang))) (b .in-other) ∙ w .in-other };
+      shuffled = w .shuffled;
+      started = ap object (at-rest x);
+    }
+
+module _ (L : Limits) (words room : ℕ) (place other : Name → ℕ) where
+  -- what two PatchObjects make of a document: one text, which is weighed; or one key breaks one condition, and each refusal has its own place for it
+  pub data SameFault (d : Doc) (ms ns : Members) : Outcome → Outcome → Type 0 where
+    one-text : (text : List ℕ) → SameFault d ms ns (byRoom L words room text) (byRoom L words room text)
+    one-fault : {n : ℕ} {key : Name} → BreaksWith d ms n key → BreaksWith d ns n key
+        → SameFault d ms ns (denied (keyRefusal n (place key))) (denied (keyRefusal n (other key)))
+
   -- what is found is the same; and if nothing is, so is the document
   entries-order : (d : Doc) (ms ns : Members) → Shuffled ms ns
-      → byEntries L words room d ms (entriesOf ms) ≡ byEntries L words room d ns (entriesOf ns)
-  unfolding byEntries byFault
-  entries-order d ms ns σ = rw (← fault-order d σ) (go (faultIn d ms) refl)
+      → SameFault d ms ns (byEntries L words room place d ms (entriesOf ms)) (byEntries L words room other d ns (entriesOf ns))
+  entries-order d ms ns σ = go (faultIn d ms) refl
     where
-      go : (f : PatchFault) → faultIn d ms ≡ f → byFault L words room d (entriesOf ms) f ≡ byFault L words room d (entriesOf ns) f
+      go : (f : PatchFault) → faultIn d ms ≡ f
+          → SameFault d ms ns (byEntries L words room place d ms (entriesOf ms)) (byEntries L words room other d ns (entriesOf ns))
       go allKept e =
-          ap (λ (x : Doc). byRoom L words room (written x))
-          (any-order d (entriesOf ms) (entriesOf ns) (shuffled-entries σ) (fine d ms (kept-iff d ms .0 e) .noClash))
-      go (brokenBy n key) e = refl
+          let same = any-order d (entriesOf ms) (entriesOf ns) (shuffled-entries σ) (fine d ms (kept-iff d ms .0 e) .noClash) in
+          rw (unbroken-so L words room place d ms e, unbroken-so L words room other d ns (sym (fault-order d σ) ∙ e), same) (one-text _)
+      go (brokenBy n key) e =
+          let q = sym (fault-order d σ) ∙ e in
+          rw (broken-so L words room place d ms n key e, broken-so L words room other d ns n key q)
+          (one-fault (fault-iff d ms n key .0 e .breaks) (fault-iff d ns n key .0 q .breaks))
 
-  patch-order : (d one other : Doc) → Rearranged one other → inPatch L words room d one ≡ inPatch L words room d other
-  unfolding inPatch
-  patch-order d one other (rearranged {ms = ms} {ns = ns} σ) = entries-order d ms ns σ
+-- with its PatchObject a card is localized by the entries
+patch-so : (L : Limits) (words room : ℕ) (place : Name → ℕ) (card : Doc) (lang : Name) (ms : Members) → PatchOf card lang ms
+    → localizedDoc L words room place card lang ≡ byEntries L words room place (start card) ms (entriesOf ms)
+unfolding localizedDoc withPatch inPatch
+patch-so L words room place card lang ms p = rw (p .stands)
 
-  lang-order : (d one other : Doc) (lang : Name) → InMember lang Rearranged one other
-      → withPatch L words room d (find (last lang) one) ≡ withPatch L words room d (find (last lang) other)
-  unfolding withPatch
-  lang-order d one other lang (inMember {ms = ms} {ns = ns} x) =
-      let b = at-both x in rw (b .in-one, b .in-other) (patch-order d (b .one) (b .other) (b .related))
-
-  card-order : (card other : Doc) (lang : Name) → OrderOnly lang card other → localizedDoc L words room card lang ≡ localizedDoc L words room other lang
-  unfolding localizedDoc
-  card-order card other lang (inMember {ms = ms} {ns = ns} x) =
-      let b = at-both x in
-      ap (λ (o : Option Property). withPatch L words room (start (object ms)) (within (find (last lang)) o)) (b .in-one)
-      ∙ lang-order (start (object ms)) (b .one) (b .other) lang (b .related)
-      ∙ ap (λ (k : Members). withPatch L words room (object k) (find (last lang) (b .other))) (at-rest x)
-      ∙ sym (ap (λ (o : Option Property). withPatch L words room (start (object ns)) (within (find (last lang)) o)) (b .in-other))
-
-  -- two texts that pass, whose documents differ in the order of the entries only
-  pub order-of-texts : (t u : List ℕ) (lang : Name) (f g : Forest) → judgedOf L words t ≡ passed f → judgedOf L words u ≡ passed g
-      → OrderOnly lang (docOf t f) (docOf u g) → localizedOf L words room t lang ≡ localizedOf L words room u lang
-  order-of-texts t u lang f g p q x =
-      passed-so L words room t lang f p ∙ card-order (docOf t f) (docOf u g) lang x ∙ sym (passed-so L words room u lang g q)
+-- two texts that pass, whose documents differ in the order of the entries only
+pub order-of-texts : (L : Limits) (words room : ℕ) (t u : List ℕ) (lang : Name) (f g : Forest) → judgedOf L words t ≡ passed f → judgedOf L words u ≡ passed g
+    → (x : Patches lang (docOf t f) (docOf u g))
+    → SameFault L words room (keyPlace t f lang) (keyPlace u g lang) (start (docOf t f)) (x .ones) (x .others)
+    (localizedOf L words room t lang) (localizedOf L words room u lang)
+order-of-texts L words room t u lang f g p q x =
+    rw (
+      passed-so L words room t lang f p,
+      passed-so L words room u lang g q,
+      patch-so L words room (keyPlace t f lang) (docOf t f) lang (x .ones) (x .patch),
+      patch-so L words room (keyPlace u g lang) (docOf u g) lang (x .others) (x .reordered),
+      ← x .started,
+    )
+    (entries-order L words room (keyPlace t f lang) (keyPlace u g lang) (start (docOf t f)) (x .ones) (x .others) (x .shuffled))

@@ -1,10 +1,11 @@
 -- The localized card, written from the rows of the entries:
---     sorted-wrote                          sorted entries make the same card
---     listing                               the members of the PatchObject are listed
---     made-broken, made-fitting             a condition from 22 to 26 is broken; or 27 is, or the card was written
+--     put-astray, put-fitting       sorted entries: one leads astray; or 27 is broken, or the card was written
+--     sorting                       the members of the PatchObject are listed in the order of their pointers, and their places are known
+--     made-broken, made-sorted      a key is at fault; or it comes to what sorted entries make of the card
 -- Assumes nothing.
-use Prim.Native.Nat.{ℕ, _+_, _≤_}
-use mathlib.Core.Path.{_≡_, refl, sym, ap, _∙_}
+use Prim.Native.Nat.{ℕ, _+_, _<_}
+use mathlib.Core.Path.{_≡_, refl, sym, ap, ap₂, subst, _∙_}
+use mathlib.Core.Bool.{true}
 use mathlib.Core.List.{List}
 use native.Mathlib.Omega.{arith}
 use lib.ListN.{length}
@@ -12,83 +13,176 @@ use lib.Seq.{length-sets}
 use Rattle.laws.specs.Sorting.{Arranged}
 use Rattle.text.specs.Tree.{Forest}
 use Rattle.text.specs.Firsts.{insideAt}
-use Rattle.json.specs.Rows.{belowIn}
-use Rattle.text.specs.Doc.{Doc, Members, membersOf, docOf}
+use Rattle.text.specs.Doc.{Name, Doc, Members, membersOf, docOf}
+use Rattle.text.specs.Distinct.{DistinctMembers}
 use Rattle.text.specs.Writing.{written}
-use Rattle.contact.specs.Patch.{entriesOf, applied}
-use Rattle.contact.specs.Entries.{NoClash}
-use Rattle.contact.specs.Localize.{patchedDoc}
+use Rattle.json.specs.Rows.{belowIn}
+use Rattle.json.proofs.Seeking.{members-stand, inside-kinds}
+use Rattle.contact.specs.Pointer.{Pointer, badTilde}
+use Rattle.contact.specs.Patch.{Entry, entriesOf, isInArray, isNoObject}
+use Rattle.contact.specs.Faults.{ownKey, walksTo}
+use Rattle.contact.specs.Entries.{ApartFrom, NoClash, Shuffled}
+use Rattle.contact.specs.Localize.{start, patchedDoc}
 use Rattle.contact.specs.declared.LocalRefusal.{LocalRefusal}
-use Rattle.contact.proofs.Patching.Apart.{to-anyClash}
+use Rattle.contact.proofs.Patching.Apart.{clash-apart, to-anyClash}
+use Rattle.contact.proofs.Patching.Entries.{perm-parents}
+use Rattle.contact.proofs.Patching.Faults.{shuffled-sym, key-order, clash-order}
 use Rattle.contact.proofs.Patching.Order.{any-order}
-use Rattle.patch.specs.Entries.{Listed, stripped, rowOrder, mostEntries, Collected}
-use Rattle.patch.specs.Runs.{InOrder}
-use Rattle.patch.specs.Written.{Wrote}
-use Rattle.patch.specs.Drafts.{fittingOf, PutSorted, Makes}
-use Rattle.json.specs.Lookup.{KnownAt}
+use Rattle.contact.proofs.Patching.Together.{shuffled-entries}
 use Rattle.patch.specs.Children.{Held}
-use Rattle.patch.specs.Conditions.{conditionOf}
+use Rattle.patch.specs.Entries.{rowOrder, mostEntries, Collected}
+use Rattle.patch.specs.Runs.{LeadsAll, leads-none, leads-more, InOrder, asc-none, asc-more}
+use Rattle.patch.specs.Written.{full, Wrote}
+use Rattle.patch.specs.Conditions.{keyFault, walkFault, Placed, placed, FirstKey}
+use Rattle.patch.specs.Patched.{Said, BaseAt}
+use Rattle.patch.specs.Drafts.{Draft, unlessBroken, unlessAstray, entriesDraft, Countable, fittingOf, Drafted, PutSorted, FewerThan, PlacesOf, Makes}
 use Rattle.patch.specs.declared.conditions.Condition.{Condition}
 use Rattle.patch.specs.declared.conditions.Condition.the-variants.{Kept, Broken}
 use Rattle.patch.specs.declared.compose.Attempt.{Attempt}
 use Rattle.patch.specs.declared.compose.Attempt.the-variants.{Refused}
-use Rattle.patch.proofs.Listing.Orders.{resorted}
-use Rattle.patch.proofs.Putting.Cards.{wrote-count}
-use Rattle.patch.proofs.Listing.Conditions.{Unbroken, kept-so}
-use Rattle.json.proofs.Seeking.{members-stand, inside-kinds}
+use Rattle.patch.proofs.Listing.Kept.{placed-kept, keys-kept, walks-kept}
+use Rattle.patch.proofs.Listing.Orders.{Resorted, resorted}
+use Rattle.patch.proofs.Listing.Places.{rows-listed, rows-placed, sorted-placed}
+use Rattle.patch.proofs.Putting.Cards.{stripped-all, wrote-count}
 use Rattle.patch.proofs.Drafting.Children.{inside-few}
 
--- ---- sorted
+-- ---- sorted entries
 
-pub sorted-wrote : {t table rows new : List ℕ} {n : ℕ} (d : Doc) (ms : Members) → n ≤ length rows → Arranged (rowOrder t table) rows 0 n new
-    → Listed t table rows 0 n ms → NoClash (entriesOf ms) → {old out : List ℕ} {r : ℕ}
-    → ((ns : Members) → Listed t table new 0 n ns → InOrder (stripped 0 ns) → Wrote old 0 (written (applied d (entriesOf ns))) out r)
-    → Wrote old 0 (written (applied d (entriesOf ms))) out r
-sorted-wrote d ms h a l nc w =
-    let s = resorted h a l in
-    rw (any-order d (entriesOf ms) (entriesOf (s .members)) (s .perm) nc)
-    (w (s .members) (s .listed) (s .ascending (to-anyClash (entriesOf ms) nc)))
+leads-apart : {p : Pointer} {es : List Entry} → LeadsAll p es → ApartFrom p es
+leads-apart leads-none = tt
+leads-apart {p} (leads-more {q = q} o c l) = (clash-apart p q c, leads-apart l)
 
--- ---- by the rows of the entries
+-- entries that ascend do not clash
+apart : {es : List Entry} → InOrder es → NoClash es
+apart asc-none = tt
+apart (asc-more l a) = (leads-apart l, apart a)
 
--- the members of the PatchObject are those that are listed
-abbrev Lists : (text table rows : List ℕ) → (n patch : ℕ) → Type 0
-Lists text table rows n patch = (p : Forest) → Held table mostEntries patch p → Listed text table rows 0 n (membersOf text (insideAt p))
+-- the card was put as the sorted entries leave it, and what their walks come to is told
+abbrev pub PutTold : (card ctable : List ℕ) → (leave : ℕ) → (text table rows : List ℕ) → (n : ℕ) → (old new : List ℕ) → (count : ℕ) → Condition → Type 0
+PutTold card ctable leave text table rows n old new count condition =
+    (place : Name → ℕ) (g : Forest) (ms : Members) → BaseAt card ctable leave 0 true g → Said text table rows 0 n 0 ms → Placed text table rows n place
+    → Wrote old 0 (written (patchedDoc (docOf card g) ms)) new count × (condition ≡ placed place (walkFault (start (docOf card g)) ms))
 
-pub listing : {text table rows : List ℕ} {n patch end : ℕ} → end ≡ patch + 1 + belowIn table patch → Collected table (patch + 1) end rows n
-    → belowIn table patch ≤ length rows → Lists text table rows n patch
-listing {text} e c room p h =
-    let v = h .value in
-    c .all text (insideAt p) (members-stand (v .some) (v .stands) e) (inside-kinds p (v .kinds)) (omega (arith, e, inside-few h)) (omega (arith, e))
-
-module _ (card : List ℕ) {ctable text table rows : List ℕ} {leave n patch : ℕ} (l : Lists text table rows n patch) {condition : Condition}
-    (first : (g : Forest) (ms : Members) → KnownAt ctable 0 g → Listed text table rows 0 n ms → condition ≡ conditionOf (docOf card g) ms) where
-  pub made-broken : {q : LocalRefusal} (old : List ℕ) → condition ≡ Broken q → Makes card ctable leave text table patch old old (Refused q)
-  made-broken {q} old e g p b h few =
-      let is : conditionOf (docOf card g) (membersOf text (insideAt p)) ≡ Broken q = sym (first g (membersOf text (insideAt p)) (b .value) (l p h)) ∙ e in
-      rw is (refl, refl)
+module _ {card ctable text table rows old new : List ℕ} {leave n count : ℕ} {condition : Condition}
+    (put : PutTold card ctable leave text table rows n old new count condition) where
+  pub put-astray : {q : LocalRefusal} → condition ≡ Broken q → PutSorted card ctable leave text table rows n old new (Refused q)
+  put-astray {q} e place g ms b s p few =
+      let (w, told) = put place g ms b s p in
+      subst (λ (c : Condition). Drafted (unlessAstray c (written (patchedDoc (docOf card g) ms))) old new (Refused q)) (sym e ∙ told) (refl, w .out)
 
   -- 27, or the card was written
-  pub made-fitting : condition ≡ Kept → {old new : List ℕ} {r : ℕ}
-      → PutSorted card ctable leave text table rows n old new r
-      → {a : Attempt} → a ≡ fittingOf r (length new) → Makes card ctable leave text table patch old new a
-  made-fitting kept {old} {new} {r} put e g p b h few = rw is (e ∙ rw (counted, long), w .out)
+  pub put-fitting : condition ≡ Kept → {a : Attempt} → a ≡ fittingOf count (length new) → PutSorted card ctable leave text table rows n old new a
+  put-fitting e {a} fits place g ms b s p few =
+      subst (λ (c : Condition). Drafted (unlessAstray c text′) old new a) (sym is) (fits ∙ ap₂ fittingOf counted long, w .out)
     where
-      ms : Members
-      ms = membersOf text (insideAt p)
+      text′ : List ℕ
+      text′ = written (patchedDoc (docOf card g) ms)
 
-      is : conditionOf (docOf card g) ms ≡ Kept
-      is = sym (first g ms (b .value) (l p h)) ∙ kept
+      w : Wrote old 0 text′ new count
+      w = put place g ms b s p .0
 
-      u : Unbroken (docOf card g) ms
-      u = kept-so (docOf card g) ms (sym is)
+      d : Doc
+      d = start (docOf card g)
 
-      w : Wrote old 0 (written (patchedDoc (docOf card g) ms)) new r
-      w = put g ms b (l p h) (u .noClash)
+      is : placed place (walkFault d ms) ≡ Kept
+      is = sym (put place g ms b s p .1) ∙ e
 
-      counted : r ≡ length (written (patchedDoc (docOf card g) ms))
-      counted = wrote-count w (few (u .noClash) (u .parents))
+      no-clash : NoClash (entriesOf ms)
+      no-clash = apart (rw (stripped-all ms) at (s .ascending))
+
+      counted : count ≡ length text′
+      counted = wrote-count w (few no-clash (walks-kept d ms (placed-kept place (walkFault d ms) is)))
 
       -- the output keeps its length
       long : length new ≡ length old
-      long = ap length (w .out) ∙ length-sets old 0 (written (patchedDoc (docOf card g) ms))
+      long = ap length (w .out) ∙ length-sets old 0 text′
+
+-- ---- the members in another order
+
+module _ {ms ns : Members} (σ : Shuffled ms ns) where
+  same-keys : keyFault ms ≡ keyFault ns
+  same-keys = rw (key-order σ badTilde, key-order σ ownKey, clash-order σ)
+
+  same-walks : (d : Doc) → walkFault d ms ≡ walkFault d ns
+  same-walks d = rw (key-order σ (walksTo isInArray d), key-order σ (walksTo isNoObject d))
+
+  module _ (card : Doc) (nc : NoClash (entriesOf ms)) where
+    same-card : patchedDoc card ms ≡ patchedDoc card ns
+    same-card = any-order (start card) (entriesOf ms) (entriesOf ns) (shuffled-entries σ) nc
+
+    same-countable : Countable card ms → Countable card ns
+    same-countable few k parents =
+        subst (λ (d : Doc). length (written d) < full) same-card
+        (few nc (perm-parents (start card) (shuffled-entries (shuffled-sym σ)) parents))
+
+-- ---- by the rows of the entries
+
+-- the members ms are listed in the order of their pointers, and `place` says where the key of each stands
+pub record Sorts (text table rows : List ℕ) (n : ℕ) (ms : Members) (place : Name → ℕ) : Type 0 where
+  pub order : Resorted text table rows n ms
+  pub places : Placed text table rows n place
+
+-- so it is with the members of the PatchObject at a row
+abbrev pub SortsAt : (text table rows : List ℕ) → (n patch : ℕ) → Type 0
+SortsAt text table rows n patch =
+    (place : Name → ℕ) (p : Forest) → Held table mostEntries patch p → DistinctMembers (membersOf text (insideAt p)) → PlacesOf text (insideAt p) place
+    → Sorts text table rows n (membersOf text (insideAt p)) place
+
+pub sorting : {text table old rows : List ℕ} {n patch end : ℕ} → end ≡ patch + 1 + belowIn table patch → Collected table (patch + 1) end old n
+    → FewerThan table patch (length old) → Arranged (rowOrder text table) old 0 n rows → SortsAt text table rows n patch
+sorting {text} {table} e c room a place p h d places =
+    let v = h .value in
+    let stands = members-stand (v .some) (v .stands) e in
+    let rows = c .all (insideAt p) stands (omega (arith, e, inside-few h)) (room p h) in
+    record {
+      order = resorted (c .inside) a (rows-listed text (stands .stands) (inside-kinds p (v .kinds)) rows);
+      places = sorted-placed text table place (c .inside) a (rows-placed text place (stands .stands) d places rows);
+    }
+
+-- what is found of the keys
+found : {text table rows : List ℕ} {n : ℕ} {ms : Members} {place : Name → ℕ} {condition : Condition} → FirstKey text table rows n condition
+    → Sorts text table rows n ms place → placed place (keyFault ms) ≡ condition
+found {place = place} first s =
+    let o = s .order in ap (placed place) (same-keys (o .shuffled)) ∙ sym (first place (o .members) (o .listed) (o .sorted) (s .places))
+
+module _ (card : List ℕ) {ctable text table rows : List ℕ} {leave n patch : ℕ} (sorts : SortsAt text table rows n patch) {condition : Condition}
+    (first : FirstKey text table rows n condition) where
+  pub made-broken : {q : LocalRefusal} (old : List ℕ) → condition ≡ Broken q → Makes card ctable leave text table patch old old (Refused q)
+  made-broken {q} old e place g p b h d places short few =
+      let ms = membersOf text (insideAt p) in
+      let later = unlessAstray (placed place (walkFault (start (docOf card g)) ms)) (written (patchedDoc (docOf card g) ms)) in
+      subst (λ (c : Condition). Drafted (unlessBroken c later) old old (Refused q)) (sym (found first (sorts place p h d places) ∙ e)) (refl, refl)
+
+  pub made-sorted : condition ≡ Kept → {old new : List ℕ} {a : Attempt} → PutSorted card ctable leave text table rows n old new a
+      → Makes card ctable leave text table patch old new a
+  made-sorted e {old} {new} {a} put place g p b h d places short few =
+      subst (λ (x : Draft). Drafted x old new a) (sym is) (put place g ns b said (s .places) (same-countable σ card′ no-clash few))
+    where
+      card′ : Doc
+      card′ = docOf card g
+
+      ms : Members
+      ms = membersOf text (insideAt p)
+
+      s : Sorts text table rows n ms place
+      s = sorts place p h d places
+
+      ns : Members
+      ns = s .order .members
+
+      σ : Shuffled ms ns
+      σ = s .order .shuffled
+
+      kept : placed place (keyFault ms) ≡ Kept
+      kept = found first s ∙ e
+
+      no-clash : NoClash (entriesOf ms)
+      no-clash = keys-kept ms (placed-kept place (keyFault ms) kept) .noClash
+
+      said : Said text table rows 0 n 0 ns
+      said = record { listed = s .order .listed; ascending = s .order .ascending (to-anyClash (entriesOf ms) no-clash); short = short }
+
+      is : entriesDraft place card′ ms ≡ unlessAstray (placed place (walkFault (start card′) ns)) (written (patchedDoc card′ ns))
+      is =
+          ap (λ (c : Condition). unlessBroken c (unlessAstray (placed place (walkFault (start card′) ms)) (written (patchedDoc card′ ms)))) kept
+          ∙ ap₂ (λ f (x : Doc). unlessAstray (placed place f) (written x)) (same-walks σ (start card′)) (same-card σ card′ no-clash)

@@ -3,8 +3,9 @@
 --     run-ends               its first pointer ends there: it says what becomes of the member
 --     Deep and its laws      its first pointer goes on: all do, nothing is said of the member itself, and the run is for its value, one part further
 -- Assumes nothing.
-use Prim.Native.Nat.{ℕ, _+_}
+use Prim.Native.Nat.{ℕ, _+_, _≤_, _<_}
 use mathlib.Core.Path.{_≡_, refl, ap, _∙_}
+use mathlib.Core.Logic.{_≢_}
 use mathlib.Core.Bool.{Bool, true, false, cond}
 use mathlib.Core.List.{List, [], _∷_, _++_, append-nil}
 use mathlib.Core.Option.{Option, none, some}
@@ -18,6 +19,7 @@ use Rattle.contact.specs.Pointer.{Pointer, last, down, pointerOf, firstPart}
 use Rattle.contact.specs.Patch.{Change, Entry, entry, changeOf, mine, under}
 use Rattle.pointers.specs.Pointers.{pointerOrder, strip}
 use Rattle.patch.specs.Entries.{stripped}
+use Rattle.patch.specs.Marks.{pointAt, Cued}
 use Rattle.patch.specs.Runs.{LeadsAll, leads-none, leads-more, InOrder, asc-none, asc-more, aheadBy, Side, side-none, side-more, joined, Bound}
 use Rattle.patch.specs.Patched.{Said}
 use Rattle.pointers.proofs.Laws.Pointers.{strip-on}
@@ -31,7 +33,7 @@ stripped-joined j (member key label d ls) ms = ap (λ (es : List Entry). entry (
 
 leads-left : {p : Pointer} (xs ys : List Entry) → LeadsAll p (xs ++ ys) → LeadsAll p xs
 leads-left [] ys h = leads-none
-leads-left (x ∷ xs) ys (leads-more e h) = leads-more e (leads-left xs ys h)
+leads-left (x ∷ xs) ys (leads-more e c h) = leads-more e c (leads-left xs ys h)
 
 asc-left : (xs ys : List Entry) → InOrder (xs ++ ys) → InOrder xs
 asc-left [] ys h = asc-none
@@ -101,13 +103,22 @@ exactly Less e f = let z : _≡_ {A = ℕ} 0 1 = cc in absurd (omega arith)
 exactly Same e f = refl
 exactly More e f = let z : _≡_ {A = ℕ} 0 1 = cc in absurd (omega arith)
 
+differs-before : (f n : Name) → aheadBy false (orderOf f n) ≡ true → f ≢ n
+differs-before f n e q = let o : aheadBy false Same ≡ true = rw (q, order-refl n) at e in let z : _≡_ {A = ℕ} 0 1 = cc in omega arith
+
+differs-after : (f n : Name) → aheadBy true (orderOf f n) ≡ false → f ≢ n
+differs-after f n e q = let o : aheadBy true Same ≡ false = rw (q, order-refl n) at e in let z : _≡_ {A = ℕ} 0 1 = cc in omega arith
+
 between : {n : Name} {es : List Entry} → Side false n false es → Side true n true es → Named n es
 between side-none side-none = named-none
 between {n} (side-more {p = p} e h) (side-more f k) = named-more (same-eq (firstPart p) n (exactly (orderOf (firstPart p) n) e f)) (between h k)
 
--- what the run from a up to b of the members ms says of the member n
-pub record Middle (t table rows : List ℕ) (a b parts : ℕ) (n : Name) (ms : Members) : Type 0 where
+-- what the run from a up to b, of the one from lo up to hi that lists the members ms, says of the member n; and where its name is the first part
+pub record Middle (t table rows : List ℕ) (lo hi a b parts : ℕ) (n : Name) (ms : Members) : Type 0 where
   pub run : Members
+  pub first : (i : ℕ) → a ≤ i → i < b → firstPart (pointAt t table rows parts i) ≡ n
+  pub before : (i : ℕ) → lo ≤ i → i < a → firstPart (pointAt t table rows parts i) ≢ n
+  pub after : (i : ℕ) → b ≤ i → i < hi → firstPart (pointAt t table rows parts i) ≢ n
   pub said : Said t table rows a b parts run
   pub names : Named n (stripped parts run)
   pub its-mine : mine n (stripped parts ms) ≡ mine n (stripped parts run)
@@ -131,19 +142,27 @@ module _ (j : ℕ) (n : Name) (ls ms rs : Members) where
       (under-append n (stripped j ls) (stripped j ms ++ stripped j rs)
       ∙ rw (l, under-append n (stripped j ms) (stripped j rs), r) (append-nil (under n (stripped j ms))))
 
-pub middle : {t table rows : List ℕ} {lo hi parts : ℕ} {n : Name} {a b : ℕ} {ms : Members} → Said t table rows lo hi parts ms
-    → Bound t table rows lo hi parts n false a → Bound t table rows a hi parts n true b → Middle t table rows a b parts n ms
-middle {parts = j} {n = n} {ms = ms} s x y =
-    let p = x .parted ms (s .listed) (s .ascending) in
+pub middle : {ct ctable t table rows cues : List ℕ} {lo hi : ℕ} {n : Name} {a b : ℕ} (parts : ℕ) {ms : Members} → Said t table rows lo hi parts ms
+    → Cued ct ctable t table rows cues lo hi parts → Bound ct ctable t table rows cues lo hi n false a → Bound ct ctable t table rows cues a hi n true b
+    → Middle t table rows lo hi a b parts n ms
+middle {t = t} {table = table} {rows = rows} {n = n} {a = a} {b = b} j {ms = ms} s cued x y =
+    let p = x .parted j ms (s .listed) (s .ascending) cued in
     let whole : InOrder (stripped j (p .left) ++ stripped j (p .right)) = rw (p .is, stripped-joined j (p .left) (p .right)) at (s .ascending) in
-    let q = y .parted (p .right) (p .listed-right) (asc-right (stripped j (p .left)) (stripped j (p .right)) whole) in
+    let q = y .parted j (p .right) (p .listed-right) (asc-right (stripped j (p .left)) (stripped j (p .right)) whole)
+    (λ i u v. cued i (omega (arith, x .low)) v) in
     let right : InOrder (stripped j (q .left) ++ stripped j (q .right)) =
     rw (q .is, stripped-joined j (q .left) (q .right)) at (asc-right (stripped j (p .left)) (stripped j (p .right)) whole) in
     let none : Side false n false (stripped j (q .left) ++ stripped j (q .right)) = rw (q .is, stripped-joined j (q .left) (q .right)) at (p .none-before) in
     let is : ms ≡ joined (p .left) (joined (q .left) (q .right)) = p .is ∙ ap (joined (p .left)) (q .is) in
     record {
       run = q .left;
-      said = record { listed = q .listed-left; ascending = asc-left (stripped j (q .left)) (stripped j (q .right)) right };
+      said = record { listed = q .listed-left; ascending = asc-left (stripped j (q .left)) (stripped j (q .right)) right; short = s .short };
+      first =
+          λ i u v.
+          let f = firstPart (pointAt t table rows j i) in
+          same-eq f n (exactly (orderOf f n) (p .fails i u (omega (arith, y .high))) (q .passes i u v));
+      before = λ i u v. differs-before (firstPart (pointAt t table rows j i)) n (p .passes i u v);
+      after = λ i u v. differs-after (firstPart (pointAt t table rows j i)) n (q .fails i u v);
       names = between (side-left (stripped j (q .left)) (stripped j (q .right)) none) (q .all-before);
       its-mine = ap (λ (l : Members). mine n (stripped j l)) is ∙ middle-mine j n (p .left) (q .left) (q .right) (p .all-before) (q .none-before);
       its-under = ap (λ (l : Members). under n (stripped j l)) is ∙ middle-under j n (p .left) (q .left) (q .right) (p .all-before) (q .none-before);
@@ -177,7 +196,7 @@ goes-too n q (last m) e f =
 deep-after : (j : ℕ) (n : Name) (q : Pointer) (ms : Members) → LeadsAll (down n q) (stripped j ms) → Named n (stripped j ms) → Deep j n ms
 unfolding stripped
 deep-after j n q empty l h = deep-none
-deep-after j n q (member key label d ms) (leads-more e l) (named-more f h) = deep-more (goes-too n q (strip j (pointerOf key)) e f .1) (deep-after j n q ms l h)
+deep-after j n q (member key label d ms) (leads-more e c l) (named-more f h) = deep-more (goes-too n q (strip j (pointerOf key)) e f .1) (deep-after j n q ms l h)
 
 pub deep : (j : ℕ) (n key label : List ℕ) (d : Doc) (ms : Members) (q : Pointer) → InOrder (stripped j (member key label d ms))
     → Named n (stripped j (member key label d ms)) → strip j (pointerOf key) ≡ down (firstPart (strip j (pointerOf key))) q → Deep j n (member key label d ms)
@@ -200,7 +219,8 @@ module _ (j : ℕ) (n : Name) where
   deep-leads : {q : Pointer} {ms : Members} → Deep j n ms → LeadsAll (down n q) (stripped j ms) → LeadsAll q (stripped (j + 1) ms)
   unfolding stripped pointerOrder
   deep-leads deep-none l = leads-none
-  deep-leads (deep-more {key = key} e h) (leads-more o l) = rw (strip-on j (pointerOf key) e) (leads-more (rw (e, order-refl n) at o) (deep-leads h l))
+  deep-leads (deep-more {key = key} e h) (leads-more o c l) =
+      rw (strip-on j (pointerOf key) e) (leads-more (rw (e, order-refl n) at o) (rw (e, same-refl n) at c) (deep-leads h l))
 
   pub deep-ascending : {ms : Members} → Deep j n ms → InOrder (stripped j ms) → InOrder (stripped (j + 1) ms)
   unfolding stripped

@@ -4,13 +4,12 @@
 --     bound-made                 so a place that is found by halving parts the run
 -- Assumes nothing.
 use Prim.Native.Nat.{ℕ, _≤_, _<_}
-use mathlib.Core.Path.{_≡_, refl, ap}
+use mathlib.Core.Path.{_≡_, refl, sym, ap, _∙_}
 use mathlib.Core.Logic.{_≢_}
-use mathlib.Core.Bool.{Bool, true}
+use mathlib.Core.Bool.{Bool, true, false}
 use mathlib.Core.List.{List}
 use native.Mathlib.Omega.{arith}
 use native.Mathlib.Decide.{ℕ-discrete}
-use lib.ListN.{getD}
 use Rattle.laws.specs.Order.{orderOf, isSame}
 use Rattle.laws.proofs.Orders.{order-trans, same-eq}
 use Rattle.laws.proofs.Halving.{Falling, Halved, halved-end}
@@ -19,10 +18,10 @@ use Rattle.laws.specs.declared.Order.the-variants.{Less, Same, More}
 use Rattle.text.specs.Strings.{nameOf}
 use Rattle.text.specs.Firsts.{nameStart, nameEnd}
 use Rattle.text.specs.Doc.{Name, Members, empty, member, labelAt, docOf}
-use Rattle.contact.specs.Pointer.{Pointer, pointerOf, firstPart}
-use Rattle.pointers.specs.Pointers.{pointerOrder, strip}
-use Rattle.patch.specs.Children.{keyAt}
+use Rattle.contact.specs.Pointer.{Pointer, firstPart, clash}
+use Rattle.pointers.specs.Pointers.{pointerOrder}
 use Rattle.patch.specs.Entries.{Listed, over, next, stripped}
+use Rattle.patch.specs.Marks.{partAt, pointAt}
 use Rattle.patch.specs.Runs.{LeadsAll, leads-more, InOrder, asc-more, aheadBy, Side, side-none, side-more, joined, Bound}
 use Rattle.pointers.proofs.Laws.Orders.{first-upto}
 use Rattle.patch.proofs.Listing.Orders.{key-is}
@@ -46,23 +45,19 @@ ahead-upto past f g n u e = go (orderOf f g) refl
 -- ---- the entries of a run
 
 module _ (t table rows : List ℕ) (parts : ℕ) where
-  -- the pointer at a place of the list, without its first parts
-  abbrev pub pointAt : ℕ → Pointer
-  pointAt k = strip parts (pointerOf (keyAt t table (getD rows k 0)))
-
-  leads-at : {p : Pointer} {i n : ℕ} {ms : Members} → Listed t table rows i n ms → LeadsAll p (stripped parts ms) → (l : ℕ) → i ≤ l → l < n
-      → pointerOrder p (pointAt l) ≡ Less
+  pub leads-at : {p : Pointer} {i n : ℕ} {ms : Members} → Listed t table rows i n ms → LeadsAll p (stripped parts ms) → (l : ℕ) → i ≤ l → l < n
+      → (pointerOrder p (pointAt t table rows parts l) ≡ Less) × (clash p (pointAt t table rows parts l) ≡ false)
   unfolding stripped
   leads-at over u l a b = absurd (omega arith)
-  leads-at (next {i} g h s k stands r) (leads-more e u) l a b =
+  leads-at (next {i} g h s k stands r) (leads-more e x u) l a b =
       elim (ℕ-discrete l i) [
-        | yes same ↦ rw (same, key-is t g s stands) e
+        | yes same ↦ rw (same, key-is t g s stands) (e, x)
         | no other ↦ leads-at r u l (omega arith) b
       ]
 
   module _ (n : Name) (past : Bool) where
     abbrev pub aheadAt : ℕ → Bool
-    aheadAt k = aheadBy past (orderOf (firstPart (pointAt k)) n)
+    aheadAt k = aheadBy past (orderOf (firstPart (pointAt t table rows parts k)) n)
 
     pub falling : {lo hi : ℕ} {ms : Members} → Listed t table rows lo hi ms → InOrder (stripped parts ms) → Falling aheadAt lo hi
     unfolding stripped
@@ -71,8 +66,9 @@ module _ (t table rows : List ℕ) (parts : ℕ) where
         elim (ℕ-discrete l k) [
           | yes same ↦ rw (← same) e
           | no more ↦ elim (ℕ-discrete k i) [
-            | yes first ↦ ahead-upto past (firstPart (pointAt k)) (firstPart (pointAt l)) n
-                (first-upto (pointAt k) (pointAt l) (leads-at r (rw (first, key-is t g s stands) lead) l (omega arith) c)) e
+            | yes first ↦ ahead-upto past (firstPart (pointAt t table rows parts k)) (firstPart (pointAt t table rows parts l)) n
+                (first-upto (pointAt t table rows parts k) (pointAt t table rows parts l)
+                (leads-at r (rw (first, key-is t g s stands) lead) l (omega arith) c .0)) e
             | no other ↦ falling r u k l (omega arith) b c e
           ]
         ]
@@ -116,24 +112,40 @@ module _ {t table rows : List ℕ} where
             }
       ]
 
-module _ (t table rows : List ℕ) (parts : ℕ) (n : Name) (past : Bool) {lo hi a b : ℕ} (h : Halved (aheadAt t table rows parts n past) lo hi a b)
-    (met : b ≤ a) where
-  pub bound-made : Bound t table rows lo hi parts n past a
-  bound-made =
-      record {
-        low = h .low;
-        high = omega (arith, h .high);
-        parted =
-            λ ms l u.
-            let w = halved-end (aheadAt t table rows parts n past) lo hi h met (falling t table rows parts n past l u) in
-            let c = cut l a (h .low) (omega (arith, h .high)) in
-            record {
-              left = c .left;
-              right = c .right;
-              is = c .is;
-              listed-left = c .listed-left;
-              listed-right = c .listed-right;
-              all-before = sided t table rows parts n past (c .listed-left) (w .passes);
-              none-before = sided t table rows parts n past (c .listed-right) (w .fails);
-            };
-      }
+-- ---- the place that is found
+
+module _ (t table pt ptable rows cues : List ℕ) (n : Name) (past : Bool) where
+  -- the test by the part at hand
+  abbrev pub aheadBefore : ℕ → Bool
+  aheadBefore k = aheadBy past (orderOf (partAt t table pt ptable rows cues k) n)
+
+  module _ {lo hi a b : ℕ} (h : Halved aheadBefore lo hi a b) (met : b ≤ a) where
+    pub bound-made : Bound t table pt ptable rows cues lo hi n past a
+    bound-made =
+        record {
+          low = h .low;
+          high = omega (arith, h .high);
+          parted =
+              λ parts ms l u cued.
+              let same : (k : ℕ) → lo ≤ k → k < hi → aheadBefore k ≡ aheadAt pt ptable rows parts n past k =
+              λ k x y. ap (λ (m : Name). aheadBy past (orderOf m n)) (cued k x y) in
+              let falls = falling pt ptable rows parts n past l u in
+              let w = halved-end aheadBefore lo hi h met
+              (λ k m x y z e. same k x (omega arith) ∙ falls k m x y z (sym (same m (omega arith) z) ∙ e)) in
+              let passes : (k : ℕ) → lo ≤ k → k < a → aheadAt pt ptable rows parts n past k ≡ true =
+              λ k x y. sym (same k x (omega (arith, h .meet, h .high))) ∙ w .passes k x y in
+              let fails : (k : ℕ) → a ≤ k → k < hi → aheadAt pt ptable rows parts n past k ≡ false =
+              λ k x y. sym (same k (omega (arith, h .low)) y) ∙ w .fails k x y in
+              let c = cut l a (h .low) (omega (arith, h .high)) in
+              record {
+                left = c .left;
+                right = c .right;
+                is = c .is;
+                listed-left = c .listed-left;
+                listed-right = c .listed-right;
+                all-before = sided pt ptable rows parts n past (c .listed-left) passes;
+                none-before = sided pt ptable rows parts n past (c .listed-right) fails;
+                passes = passes;
+                fails = fails;
+              };
+        }

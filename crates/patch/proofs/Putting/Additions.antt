@@ -15,6 +15,7 @@ use Rattle.text.specs.Writing.{spelled, writtenMembers}
 use Rattle.contact.specs.Pointer.{firstPart}
 use Rattle.contact.specs.Patch.{Entry, changeOf, added}
 use Rattle.patch.specs.Entries.{Listed, over, next, stripped}
+use Rattle.patch.specs.Marks.{ShortKeys}
 use Rattle.patch.specs.Runs.{InOrder, asc-more}
 use Rattle.patch.specs.Written.{Wrote}
 use Rattle.json.specs.Lookup.{KnownAt}
@@ -40,18 +41,18 @@ asc-rest (asc-more l a) = a
 
 pub first-said : {t table rows : List ℕ} {i hi parts : ℕ} {ms : Members} → Said t table rows i hi parts ms → i < hi → First t table rows i hi parts ms
 unfolding stripped
-first-said s h = go (s .listed) (s .ascending) h
+first-said s h = go (s .listed) (s .ascending) (s .short) h
   where
-    go : {t table rows : List ℕ} {i hi parts : ℕ} {ms : Members} → Listed t table rows i hi ms → InOrder (stripped parts ms) → i < hi
+    go : {t table rows : List ℕ} {i hi parts : ℕ} {ms : Members} → Listed t table rows i hi ms → InOrder (stripped parts ms) → ShortKeys t → i < hi
         → First t table rows i hi parts ms
-    go over a h = absurd (omega arith)
-    go (next {ms = ms} g lt some kinds stands l) a h =
+    go over a short h = absurd (omega arith)
+    go (next {ms = ms} g lt some kinds stands l) a short h =
         record {
           tree = g;
           value = record { some = some; kinds = kinds; stands = stands };
           more = ms;
           is = refl;
-          said = record { listed = l; ascending = asc-rest a };
+          said = record { listed = l; ascending = asc-rest a; short = short };
         }
 
 pub none-said : {t table rows : List ℕ} {i hi : ℕ} {ms : Members} → Listed t table rows i hi ms → hi ≤ i → ms ≡ empty

@@ -5,7 +5,6 @@
 --     added-linked        the members that ascending entries add, one entry after the other: they stand in the order of the entries
 --     adds-null, adds-down, adds-last     what an entry adds
 --     passed-none, passed-some     a member that is not written, and one that is
---     there-found, there-none      the member of a name, where one is left out
 -- Assumes nothing.
 use Prim.Native.Nat.{ℕ, _<_}
 use mathlib.Core.Path.{_≡_, refl, sym, ap, _∙_}
@@ -52,6 +51,10 @@ pub based-object : (root : Bool) (ms : Members) (es : List Entry)
     → written (applied (based root (object ms)) es) ≡ 123 ∷ writtenMembers (kept (basedAll root ms) es (added (basedAll root ms) es)) true
 based-object true ms es = refl
 based-object false ms es = refl
+
+pub based-members : (root : Bool) (ms : Members) → based root (object ms) ≡ object (basedAll root ms)
+based-members true ms = refl
+based-members false ms = refl
 
 pub based-other : (root : Bool) (d : Doc) (es : List Entry) → (kindOf d ≡ 7 → ⊥) → applied (based root d) es ≡ d
 based-other true (scalar kind token) es ne = refl
@@ -109,9 +112,9 @@ less-before n m e = rw e
 -- it stands before the names of all members that later entries add
 heads-added : (n : Name) (ms : Members) (es : List Entry) → LeadsAll (last n) es → Heads n (added ms es)
 heads-added n ms [] l = tt
-heads-added n ms (entry (last m) remove ∷ es) (leads-more e l) = heads-added n ms es l
-heads-added n ms (entry (last m) (set v) ∷ es) (leads-more e l) = heads-fresh n m v (seek m ms) (added ms es) (less-before n m e) (heads-added n ms es l)
-heads-added n ms (entry (down m p) c ∷ es) (leads-more e l) = heads-added n ms es l
+heads-added n ms (entry (last m) remove ∷ es) (leads-more e x l) = heads-added n ms es l
+heads-added n ms (entry (last m) (set v) ∷ es) (leads-more e x l) = heads-fresh n m v (seek m ms) (added ms es) (less-before n m e) (heads-added n ms es l)
+heads-added n ms (entry (down m p) c ∷ es) (leads-more e x l) = heads-added n ms es l
 
 pub added-linked : (ms : Members) (p : Pointer) (c : Change) (es : List Entry) → InOrder (entry p c ∷ es)
     → added ms (entry p c ∷ es) ≡ link (adds ms (entry p c)) (firstPart p) (spelled (firstPart p)) (added ms es)
@@ -122,48 +125,6 @@ added-linked ms (last n) (set v) es (asc-more l a) = go (seek n ms)
     go : (o : Option Property) → fresh o n v (added ms es) ≡ link (freshly o v) n (spelled n) (added ms es)
     go none = first-in n v (added ms es) (heads-added n ms es l)
     go (some p) = refl
-
--- ---- the member of a name ----
-
--- without a member of a name: that one is not there, and the others are as they were
-module _ (n out : Name) where
-  without-it : same n out ≡ true → (ms : Members) → seek n (without out ms) ≡ none
-  without-it e empty = refl
-  without-it e (member m label d ms) = go (same m out) refl (without out ms) (without-it e ms)
-    where
-      go : (b : Bool) → same m out ≡ b → (left : Members) → seek n left ≡ none → seek n (cond b left (member m label d left)) ≡ none
-      go true q left h = h
-      go false q left h = rw (ap (same m) (same-eq n out e) ∙ q) h
-
-  without-other : same n out ≡ false → (ms : Members) → seek n (without out ms) ≡ seek n ms
-  without-other e empty = refl
-  without-other e (member m label d ms) = go (same m out) refl (without out ms) (without-other e ms)
-    where
-      go : (b : Bool) → same m out ≡ b → (left : Members) → seek n left ≡ seek n ms
-          → seek n (cond b left (member m label d left)) ≡ cond (same m n) (some (property label d)) (seek n ms)
-      go true q left h = rw (ap (λ (k : Name). same k n) (same-eq m out q) ∙ same-sym n out ∙ e) h
-      go false q left h = rw h
-
--- the same by what is left out at the root
-there-out : (root : Bool) (n : Name) (ms : Members) → isOut root n ≡ true → false ≡ isThere (seek n (basedAll root ms))
-there-out true n ms e = rw (without-it n (bytes "localizations") e ms)
-there-out false n ms e = let z : _≡_ {A = ℕ} 0 1 = cc in absurd (omega arith)
-
-there-in : (root : Bool) (n : Name) (ms : Members) → isOut root n ≡ false → isThere (seek n ms) ≡ isThere (seek n (basedAll root ms))
-there-in true n ms e = rw (without-other n (bytes "localizations") e ms)
-there-in false n ms e = refl
-
-module _ (root : Bool) (n : Name) (ms : Members) where
-  pub there-found : (out : Bool) → isOut root n ≡ out → {p : Property} → seek n ms ≡ some p → not out ≡ isThere (seek n (basedAll root ms))
-  there-found true e h = there-out root n ms e
-  there-found false e h = ap isThere (sym h) ∙ there-in root n ms e
-
-  pub there-none : seek n ms ≡ none → false ≡ isThere (seek n (basedAll root ms))
-  there-none h = go (isOut root n) refl
-    where
-      go : (out : Bool) → isOut root n ≡ out → false ≡ isThere (seek n (basedAll root ms))
-      go true e = there-out root n ms e
-      go false e = ap isThere (sym h) ∙ there-in root n ms e
 
 -- ---- what an entry adds ----
 
@@ -210,6 +171,6 @@ adds-is ms c e f = rw e at f
 pub passed-none : {old : List ℕ} (s : Pen) {o : Option Doc} {label : List ℕ} → length old < full → o ≡ none → Passed old s o label old s
 passed-none s fits e = rw e (record { wrote = wrote-none (s .to) fits; next = refl })
 
-pub passed-some : {old : List ℕ} {s : Pen} {o : Option Doc} {label : List ℕ} (d : Doc) {one two : List ℕ} {p q : ℕ} → o ≡ some d
-    → Wrote old (s .to) (headOf 7 (s .first) label) one p → Wrote one p (written d) two q → Passed old s o label two (record { to = q; first = false })
+pub passed-some : {old : List ℕ} {s : Pen} {o : Option Doc} {label : List ℕ} (d : Doc) {one two : List ℕ} {p q hint : ℕ} → o ≡ some d
+    → Wrote old (s .to) (headOf 7 (s .first) label) one p → Wrote one p (written d) two q → Passed old s o label two (record { to = q; first = false; hint = hint })
 passed-some {s = s} {label = label} d e a b = rw e (record { wrote = wrote-then (headOf 7 (s .first) label) (written d) a b; next = refl })

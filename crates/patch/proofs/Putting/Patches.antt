@@ -25,10 +25,10 @@ use Rattle.pointers.specs.Pointers.{strip}
 use Rattle.patch.specs.Entries.{Listed, stripped}
 use Rattle.patch.specs.Runs.{InOrder}
 use Rattle.patch.specs.Written.{Wrote}
-use Rattle.patch.specs.Patched.{Said, basedAll, isOut, OutAt, LeavesOut, BaseAt, keptBy, stays, pointerIn, isLast, isEnd, endsFirst, piece, since, Passed}
-use Rattle.pointers.specs.Parts.{Goes}
-use Rattle.pointers.specs.declared.parts.Onward.{Onward}
-use Rattle.pointers.specs.declared.parts.Onward.the-variants.{Last, Part}
+use Rattle.patch.specs.Patched.{Said, basedAll, isOut, OutAt, LeavesOut, BaseAt, keptBy, stays, pointerIn, isLast, isNothing, endsFirst, piece, since, Passed}
+use Rattle.pointers.specs.Parts.{GoesAt}
+use Rattle.pointers.specs.declared.keys.After.{After}
+use Rattle.pointers.specs.declared.keys.After.the-variants.{Nothing, At}
 use Rattle.patch.specs.declared.writing.Pen.{Pen}
 use Rattle.patch.proofs.Putting.Bytes.{BytesLeft, left-on, left-as, left-last}
 use Rattle.patch.proofs.Putting.Walks.{value-row, Walk, walk-start, walk-here, walk-on, walk-end}
@@ -39,9 +39,18 @@ use Rattle.patch.proofs.Putting.Leaving.{out-first, out-rest}
 
 -- ---- the first entry of a run ----
 
-pub goes-last : {p q : Pointer} (key : List ℕ) (o : Onward) → p ≡ q → Goes key p o → isLast q ≡ isEnd o
-goes-last {p} key Last e f = rw (← e, f)
-goes-last {p} key (Part c) e f = rw (← e, f)
+pub goes-last : {p q : Pointer} (key : List ℕ) (o : After) → p ≡ q → GoesAt key p o → isLast q ≡ isNothing o
+goes-last {p} key Nothing e f = rw (← e, f)
+goes-last {p} key (At to) e f = rw (← e, f .0)
+
+-- the same the other way: what was answered says whether it ends
+pub ended-by : (key : List ℕ) {p : Pointer} (o : After) → GoesAt key p o → isNothing o ≡ true → p ≡ last (firstPart p)
+ended-by key Nothing g e = g
+ended-by key (At to) g e = let z : _≡_ {A = ℕ} 0 1 = cc in absurd (omega arith)
+
+pub gone-by : (key : List ℕ) {p : Pointer} (o : After) → GoesAt key p o → isNothing o ≡ false → (q : Pointer) × (p ≡ down (firstPart p) q)
+gone-by key Nothing g e = let z : _≡_ {A = ℕ} 0 1 = cc in absurd (omega arith)
+gone-by key (At to) g e = (_, g .0)
 
 pub ends-by : (t : List ℕ) {table rows : List ℕ} {lo hi parts : ℕ} {ms : Members} {r : Bool} (f : First t table rows lo hi parts ms)
     → isLast (pointerIn t parts (f .tree)) ≡ r → r ≡ endsFirst (stripped parts ms)
@@ -53,7 +62,7 @@ pub no-end : {t table rows : List ℕ} {lo hi parts : ℕ} {ms : Members} → Sa
 unfolding stripped
 no-end s h = rw (none-said (s .listed) h)
 
-last-ends : (p : Pointer) → isLast p ≡ true → p ≡ last (firstPart p)
+pub last-ends : (p : Pointer) → isLast p ≡ true → p ≡ last (firstPart p)
 last-ends (last n) e = refl
 last-ends (down n p) e = let z : _≡_ {A = ℕ} 0 1 = cc in absurd (omega arith)
 
@@ -71,7 +80,19 @@ stays-by : (root : Bool) (n : Name) (es : List Entry) (d : Doc) → isOut root n
 unfolding stays
 stays-by root n es d e = rw e
 
-module _ {t table rows : List ℕ} {lo hi parts : ℕ} {n : Name} {ms : Members} (m : Middle t table rows lo hi parts n ms) (root : Bool) (d : Doc)
+-- it goes on, or there is none: the run is for the member's value, one part further
+pub goes-deep : {t table rows : List ℕ} {from to lo hi parts : ℕ} {n : Name} {ms : Members} (m : Middle t table rows from to lo hi parts n ms)
+    → false ≡ endsFirst (stripped parts (m .run)) → Deep parts n (m .run)
+unfolding stripped
+goes-deep {parts = parts} {n = n} m e = go (m .run) (m .said .ascending) (m .names) e
+  where
+    go : (ls : Members) → InOrder (stripped parts ls) → Named n (stripped parts ls) → false ≡ endsFirst (stripped parts ls) → Deep parts n ls
+    go empty a h q = deep-none
+    go (member key label v ls) a h q =
+        let g = down-goes (strip parts (pointerOf key)) (sym q) in
+        deep parts n key label v ls (g .0) a h (g .1)
+
+module _ {t table rows : List ℕ} {from to lo hi parts : ℕ} {n : Name} {ms : Members} (m : Middle t table rows from to lo hi parts n ms) (root : Bool) (d : Doc)
     (kept-in : isOut root n ≡ false) where
   -- its first pointer ends there: the entry decides
   pub stays-ends : (f : First t table rows lo hi parts (m .run)) → true ≡ endsFirst (stripped parts (m .run))
@@ -89,26 +110,15 @@ module _ {t table rows : List ℕ} {lo hi parts : ℕ} {n : Name} {ms : Members}
       ∙ ap (λ (o : Option Change). keptBy o (applied d (under n (stripped parts ms))))
       (m .its-mine ∙ ap (λ (l : Members). mine n (stripped parts l)) (f .is) ∙ its)
 
-  -- it goes on, or there is none: the run is for the member's value, one part further
-  goes-deep : false ≡ endsFirst (stripped parts (m .run)) → Deep parts n (m .run)
-  unfolding stripped
-  goes-deep e = go (m .run) (m .said .ascending) (m .names) e
-    where
-      go : (ls : Members) → InOrder (stripped parts ls) → Named n (stripped parts ls) → false ≡ endsFirst (stripped parts ls) → Deep parts n ls
-      go empty a h q = deep-none
-      go (member key label v ls) a h q =
-          let g = down-goes (strip parts (pointerOf key)) (sym q) in
-          deep parts n key label v ls (g .0) a h (g .1)
-
   module _ (e : false ≡ endsFirst (stripped parts (m .run))) where
     pub stays-goes : stays root n (stripped parts ms) d ≡ some (applied d (stripped (parts + 1) (m .run)))
     stays-goes =
-        let h = goes-deep e in
+        let h = goes-deep m e in
         stays-by root n (stripped parts ms) d kept-in
         ∙ rw (m .its-mine, m .its-under, deep-mine parts n h, deep-under parts n h)
 
     pub said-further : Said t table rows lo hi (parts + 1) (m .run)
-    said-further = record { listed = m .said .listed; ascending = deep-ascending parts n (goes-deep e) (m .said .ascending) }
+    said-further = record { listed = m .said .listed; ascending = deep-ascending parts n (goes-deep m e) (m .said .ascending); short = m .said .short }
 
 -- ---- the members of an object ----
 
@@ -117,7 +127,7 @@ abbrev pub restBy : (t : List ℕ) → (root : Bool) → List Entry → (more : 
 restBy t root es more vs first = writtenMembers (kept (basedAll root (membersOf t vs)) es more) first
 
 module _ (t : List ℕ) (root : Bool) (es : List Entry) (more : Members) where
-  rest-first : (g : Forest) → HasFirst g → (first : Bool)
+  pub rest-first : (g : Forest) → HasFirst g → (first : Bool)
       → let o = stays root (nameOf t (nameStart g) (nameEnd g)) es (docOf t g) in
       restBy t root es more g first ≡ piece o first (labelAt t (nameStart g) (nameEnd g)) ++ restBy t root es more (restAt g) (since o first)
   rest-first g s first =
@@ -140,14 +150,14 @@ module _ (t : List ℕ) (root : Bool) (es : List Entry) (more : Members) where
     pub out : LeavesOut t leave root m (walk .values)
 
   module _ {leave : ℕ} {table : List ℕ} {end : ℕ} {old : List ℕ} {at : ℕ} {total : List ℕ} where
-    pub patch-start : {row : ℕ} {g : Forest} {new : List ℕ} {s : Pen} → BaseAt t table leave row root g → end ≡ row + 1 + belowIn table row
+    unfoldable pub patch-start : {row : ℕ} {g : Forest} {new : List ℕ} {s : Pen} → BaseAt t table leave row root g → end ≡ row + 1 + belowIn table row
         → BytesLeft old at total new (s .to) (restBy t root es more (insideAt g) (s .first)) → PatchWalk leave table end old at total new s (row + 1)
     unfolding walk-start
     patch-start {s = s} b e l = record { walk = walk-start (s .first) (b .value) e l; out = b .out }
 
     module _ {new : List ℕ} {s : Pen} {m : ℕ} (w : PatchWalk leave table end old at total new s m) where
       -- one member more is written, or left out
-      pub patch-turn : (h : m < end) {new′ : List ℕ} {s′ : Pen} → let g = w .walk .values in
+      unfoldable pub patch-turn : (h : m < end) {new′ : List ℕ} {s′ : Pen} → let g = w .walk .values in
           Passed new s (stays root (nameOf t (nameStart g) (nameEnd g)) es (docOf t g)) (labelAt t (nameStart g) (nameEnd g)) new′ s′
           → (next : ℕ) → next ≡ m + 1 + belowIn table m → PatchWalk leave table end old at total new′ s′ next
       unfolding walk-on

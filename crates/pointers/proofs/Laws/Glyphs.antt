@@ -3,7 +3,8 @@
 --     coded-glyph, name-glyph, part-glyph, slash-glyph    what a byte shows
 --     tilde-one, tilde-zero, tilde-alone                  what a `~` and the byte after it show
 --     shown-order, shown-ends, shown-on                   two glyphs that are compared
---     later-self, later-fresh, later-on                   a run of bytes that stays in its part
+--     common-none, common-next                            bytes that two places have in common
+--     later-past, untilded-past                           a run of bytes without a `/` stays in its part, one without a `~` has no bad one
 -- Assumes nothing.
 use Prim.Native.Nat.{ℕ, _+_, _≤_, _<_}
 use mathlib.Core.Path.{_≡_, refl, ap, sym, _∙_}
@@ -11,6 +12,7 @@ use mathlib.Core.Bool.{Bool, true, false}
 use mathlib.Core.List.{List, [], _∷_, _++_}
 use mathlib.Core.Option.{Option}
 use native.Mathlib.Decide.{ℕ-discrete}
+use native.Mathlib.Nat.{add-zero}
 use native.Mathlib.Omega.{arith}
 use lib.ListN.{length}
 use borrow.Author.Tests.{ne-eqb}
@@ -22,13 +24,13 @@ use Rattle.text.specs.Text.{byteAt}
 use Rattle.text.specs.Doc.{Name}
 use Rattle.text.specs.Strings.{decodeFrom}
 use Rattle.text.specs.Utf8.{conts}
-use Rattle.contact.specs.Pointer.{Pointer, pointerOf}
+use Rattle.contact.specs.Pointer.{Pointer, pointerOf, badTilde}
 use Rattle.json.specs.Cursors.{rest, cursor, freshOf, nextOf}
 use Rattle.json.specs.Names.{orderAt}
 use Rattle.json.specs.declared.decode.Cursor.{Cursor}
 use Rattle.json.specs.declared.decode.Next.the-variants.{Byte}
 use Rattle.json.proofs.Alike.{decode-over, decode-byte, order-heads}
-use Rattle.pointers.specs.Parts.{partLeft, nameLeft, leftAt, tildeLeft, GlyphAt, beyond, Crosses, at-end, at-slash, past, Later}
+use Rattle.pointers.specs.Parts.{partLeft, nameLeft, leftAt, tildeLeft, GlyphAt, InCommon, beyond, Crosses, at-end, at-slash, past, Later, Untilded, RunTo, no-byte, one-more, Passes, stays, passes}
 use Rattle.pointers.specs.declared.parts.Onward.{Onward}
 use Rattle.pointers.specs.declared.parts.Glyph.{Glyph}
 use Rattle.pointers.proofs.Laws.Parts.{part-plain, part-tilde, tail-on}
@@ -39,7 +41,7 @@ no-conts : (left code : ℕ) → left ≡ 0 → conts left code ≡ []
 unfolding conts
 no-conts left code e = rw e
 
-fresh : (t : List ℕ) (c : Cursor) → c .left ≡ 0 → rest t c ≡ rest t (cursor (c .at) 0 0)
+pub fresh : (t : List ℕ) (c : Cursor) → c .left ≡ 0 → rest t c ≡ rest t (cursor (c .at) 0 0)
 unfolding conts
 fresh t c e = ap (λ (l : List ℕ). l ++ decodeFrom t (c .at)) (no-conts (c .left) (c .code) e)
 
@@ -53,11 +55,11 @@ order-fresh key name part x y e f =
     rw (left-fresh part name y f) (sym (ap (λ (n : Name). orderOf n (leftAt part name (y .at))) (left-fresh true key x e)))
 
 module _ (t : List ℕ) (at : ℕ) where
-  rest-over : byteAt t at ≡ 256 → rest t (cursor at 0 0) ≡ []
+  pub rest-over : byteAt t at ≡ 256 → rest t (cursor at 0 0) ≡ []
   unfolding conts
   rest-over e = decode-over t at e
 
-  rest-byte : (byteAt t at ≡ 92 → ⊥) → (byteAt t at ≡ 256 → ⊥) → rest t (cursor at 0 0) ≡ byteAt t at ∷ rest t (cursor (at + 1) 0 0)
+  pub rest-byte : (byteAt t at ≡ 92 → ⊥) → (byteAt t at ≡ 256 → ⊥) → rest t (cursor at 0 0) ≡ byteAt t at ∷ rest t (cursor (at + 1) 0 0)
   unfolding conts
   rest-byte s e = decode-byte t at s e
 
@@ -142,22 +144,52 @@ module _ (t : List ℕ) (at : ℕ) (tilde : byteAt t at ≡ 126) where
 
 -- ---- two glyphs ----
 
-module _ (key name : List ℕ) (part : Bool) (i j : ℕ) (p q : Glyph) (P : GlyphAt true key i p) (Q : GlyphAt part name j q) where
+module _ (key name : List ℕ) (own part : Bool) (i j : ℕ) (p q : Glyph) (P : GlyphAt own key i p) (Q : GlyphAt part name j q) where
   pub shown-order : (p .value ≡ 257 → ⊥) → (q .value ≡ 257 → ⊥) → (p .value ≡ q .value → ⊥)
-      → orderAt (p .value) (q .value) ≡ orderOf (leftAt true key i) (leftAt part name j)
+      → orderAt (p .value) (q .value) ≡ orderOf (leftAt own key i) (leftAt part name j)
   shown-order x y ne =
-      order-heads (p .value) (q .value) (leftAt true key i) (leftAt part name j) (P .over) (λ o. P .byte (omega (arith, P .most))) (Q .over)
+      order-heads (p .value) (q .value) (leftAt own key i) (leftAt part name j) (P .over) (λ o. P .byte (omega (arith, P .most))) (Q .over)
       (λ o. Q .byte (omega (arith, Q .most))) (λ e. absurd (ne e))
 
-  pub shown-ends : p .value ≡ q .value → p .value ≡ 256 → Same ≡ orderOf (leftAt true key i) (leftAt part name j)
+  pub shown-ends : p .value ≡ q .value → p .value ≡ 256 → Same ≡ orderOf (leftAt own key i) (leftAt part name j)
   unfolding orderOf
   shown-ends e o = rw (P .over o, Q .over (sym e ∙ o))
 
   pub shown-on : p .value ≡ q .value → p .value < 256
-      → orderOf (leftAt true key (i + p .len)) (leftAt part name (j + q .len)) ≡ orderOf (leftAt true key i) (leftAt part name j)
+      → orderOf (leftAt own key (i + p .len)) (leftAt part name (j + q .len)) ≡ orderOf (leftAt own key i) (leftAt part name j)
   shown-on e h =
       rw (P .byte h, Q .byte (omega arith))
-      (sym (order-on (p .value) (q .value) (leftAt true key (i + p .len)) (leftAt part name (j + q .len)) (omega arith) (omega arith)))
+      (sym (order-on (p .value) (q .value) (leftAt own key (i + p .len)) (leftAt part name (j + q .len)) (omega arith) (omega arith)))
+
+-- ---- bytes in common ----
+
+-- a byte that spells itself does so in a part as in a name
+plain-glyph : (part : Bool) (t : List ℕ) (at : ℕ) → byteAt t at ≤ 256 → (byteAt t at ≡ 47 → ⊥) → (byteAt t at ≡ 126 → ⊥) → (byteAt t at ≡ 92 → ⊥)
+    → GlyphAt part t at (glyph (byteAt t at) 1)
+plain-glyph true t at most slash tilde s = part-glyph t at most s slash tilde
+plain-glyph false t at most slash tilde s = name-glyph t at most s
+
+module _ (key : List ℕ) (i : ℕ) (name : List ℕ) (j : ℕ) where
+  pub common-none : InCommon key i name j 0
+  common-none =
+      record { ordered = λ part other. rw (add-zero i, add-zero j); fewer = λ part. rw (add-zero i) (omega arith); first = omega arith; second = omega arith }
+
+  pub common-next : (k : ℕ) → InCommon key i name j k → byteAt key (i + k) < 256 → (byteAt key (i + k) ≡ 47 → ⊥) → (byteAt key (i + k) ≡ 126 → ⊥)
+      → (byteAt key (i + k) ≡ 92 → ⊥) → byteAt key (i + k) ≡ byteAt name (j + k) → InCommon key i name j (k + 1)
+  common-next k c h slash tilde s e =
+      let x = inside key (i + k) h in
+      let y = inside name (j + k) (omega arith) in
+      let m : i + (k + 1) ≡ i + k + 1 = omega arith in
+      let n : j + (k + 1) ≡ j + k + 1 = omega arith in
+      let p : (part : Bool) → GlyphAt part key (i + k) (glyph (byteAt key (i + k)) 1) = λ part. plain-glyph part key (i + k) (omega arith) slash tilde s in
+      let q : (part : Bool) → GlyphAt part name (j + k) (glyph (byteAt name (j + k)) 1) =
+      λ part. plain-glyph part name (j + k) (omega arith) (λ z. slash (e ∙ z)) (λ z. tilde (e ∙ z)) (λ z. s (e ∙ z)) in
+      record {
+        ordered = λ part other. rw (m, n) (shown-on key name part other (i + k) (j + k) _ _ (p part) (q other) e h ∙ c .ordered part other);
+        fewer = λ part. rw m (omega (arith, ap length (p part .byte h), c .fewer part));
+        first = omega arith;
+        second = omega arith;
+      }
 
 -- ---- a run ----
 
@@ -179,18 +211,7 @@ crosses-as t e (past o n x) = past (e ∙ o) n x
 abbrev beyondIn : List ℕ → Option Pointer
 beyondIn bs = beyond (pointerOf bs)
 
-pub later-self : (t : List ℕ) (c : Cursor) → Later t c c
-later-self t c = record { follows = refl; fewer = omega arith; leads = λ r x. x }
-
-pub later-fresh : (t : List ℕ) (c d : Cursor) → c .left ≡ 0 → Later t (cursor (c .at) 0 0) d → Later t c d
-later-fresh t c d e l =
-    record {
-      follows = l .follows ∙ sym (ap beyondIn (fresh t c e));
-      fewer = omega (arith, ap length (fresh t c e), l .fewer);
-      leads = λ r x. crosses-as t (next-fresh t c e) (l .leads r x);
-    }
-
-pub later-on : (t : List ℕ) (c : Cursor) (at : ℕ) → byteAt t at < 256 → (byteAt t at ≡ 92 → ⊥) → (byteAt t at ≡ 47 → ⊥) → Later t c (cursor at 0 0)
+later-on : (t : List ℕ) (c : Cursor) (at : ℕ) → byteAt t at < 256 → (byteAt t at ≡ 92 → ⊥) → (byteAt t at ≡ 47 → ⊥) → Later t c (cursor at 0 0)
     → Later t c (cursor (at + 1) 0 0)
 later-on t c at h s slash l =
     let e = rest-byte t at s (λ z. omega arith) in
@@ -199,3 +220,30 @@ later-on t c at h s slash l =
       fewer = omega (arith, ap length e, l .fewer);
       leads = λ r x. l .leads r (past (next-byte t at s (λ z. omega arith)) slash x);
     }
+
+later-run : (t : List ℕ) (c : Cursor) {to : ℕ} → c .left ≡ 0 → RunTo t 47 (c .at) to → Later t c (cursor to 0 0)
+later-run t c e no-byte =
+    record {
+      follows = sym (ap beyondIn (fresh t c e));
+      fewer = omega (arith, ap length (fresh t c e));
+      leads = λ r x. crosses-as t (next-fresh t c e) x;
+    }
+later-run t c e (one-more {at} r h s n) = later-on t c at h s n (later-run t c e r)
+
+pub later-past : (t : List ℕ) (c : Cursor) {d : Cursor} → Passes t 47 c d → Later t c d
+later-past t c stays = record { follows = refl; fewer = omega arith; leads = λ r x. x }
+later-past t c (passes e r) = later-run t c e r
+
+untilded-run : (t : List ℕ) (c : Cursor) {to : ℕ} → c .left ≡ 0 → RunTo t 126 (c .at) to → Untilded t c (cursor to 0 0)
+untilded-run t c e no-byte = record { follows = sym (ap badTilde (fresh t c e)); fewer = omega (arith, ap length (fresh t c e)) }
+untilded-run t c e (one-more {at} r h s n) =
+    let u = untilded-run t c e r in
+    let f = rest-byte t at s (λ z. omega arith) in
+    record {
+      follows = sym (rw (ne-eqb (byteAt t at) 126 n) at (ap badTilde f)) ∙ u .follows;
+      fewer = omega (arith, ap length f, u .fewer);
+    }
+
+pub untilded-past : (t : List ℕ) (c : Cursor) {d : Cursor} → Passes t 126 c d → Untilded t c d
+untilded-past t c stays = record { follows = refl; fewer = omega arith }
+untilded-past t c (passes e r) = untilded-run t c e r

@@ -1,7 +1,7 @@
 -- Laws of the order of pointers:
 --     pointer-flip, pointer-eq, pointer-trans     Less and More are opposite, Same is said of equals alone, and Less leads on
 --     pointer-total                               so pointers sort
---     first-upto                                  a pointer before another has a first part before the other's or the same
+--     first-not-more, first-upto                  a pointer before another, or the same, has a first part before the other's or the same
 --     less-apart                                  of two pointers that do not clash, one that is not More is Less
 -- Assumes nothing.
 use mathlib.Core.Path.{_≡_, refl, ap, sym, _∙_}
@@ -55,7 +55,7 @@ by-parts (last n) (down m q) = refl
 by-parts (down n p) (last m) = refl
 by-parts (down n p) (down m q) = refl
 
-name-eq : (n m : Name) → orderOf n m ≡ Same → n ≡ m
+pub name-eq : (n m : Name) → orderOf n m ≡ Same → n ≡ m
 name-eq n m e = same-eq n m (ap isSame e)
 
 -- ---- an order
@@ -114,12 +114,11 @@ pointer-total = total-by pointerOrder pointer-flip pointer-eq pointer-trans
 
 -- ---- first parts and clashes
 
+pub first-not-more : (p q : Pointer) → pointerOrder p q ≢ More → orderOf (firstPart p) (firstPart q) ≢ More
+first-not-more p q h e = h (by-parts p q ∙ ap (λ (o : Order). orThen o (behind p q)) e)
+
 pub first-upto : (p q : Pointer) → pointerOrder p q ≡ Less → orderOf (firstPart p) (firstPart q) ≢ More
-first-upto p q e m = go (then-less (orderOf (firstPart p) (firstPart q)) (behind p q) (sym (by-parts p q) ∙ e))
-  where
-    go : (orderOf (firstPart p) (firstPart q) ≡ Less) ⊎ ((orderOf (firstPart p) (firstPart q) ≡ Same) × (behind p q ≡ Less)) → ⊥
-    go (inl a) = let z : _≡_ {A = ℕ} 0 1 = cc in omega arith
-    go (inr a) = let z : _≡_ {A = ℕ} 0 1 = cc in omega arith
+first-upto p q e = first-not-more p q (λ f. let z : _≡_ {A = ℕ} 0 1 = cc in omega arith)
 
 clash-self : (p : Pointer) → clash p p ≡ true
 clash-self (last n) = same-refl n

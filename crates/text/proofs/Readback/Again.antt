@@ -1,19 +1,22 @@
--- What is written of a document is read back: `reads-back`, for every writable document and any limits. Assumes nothing.
+-- What is written of a document is read back: `reads-back`, for every writable document and any limits; and whether names are compared or not: `reads-loose`.
+-- Assumes nothing.
 use mathlib.Core.Path.{_≡_, refl, subst, _∙_}
 use mathlib.Core.Bool.{false}
 use native.Mathlib.Nat.{le-refl}
 use lib.ListN.{length}
-use Rattle.text.specs.Limits.{Limits}
+use Rattle.text.specs.Limits.{Limits, loose}
 use Rattle.text.specs.Tree.{size}
 use Rattle.text.specs.Grammar.{JsonText, rootOf, depthOf}
 use Rattle.text.specs.Doc.{Doc}
 use Rattle.text.specs.Writing.{written}
+use Rattle.text.specs.Whole.{readOf}
 use Rattle.text.specs.Telling.{Tells}
-use Rattle.text.specs.Writable.{Lexical, ReadsBack}
+use Rattle.text.specs.Writable.{Lexical, Writable, ReadsBack}
 use Rattle.text.proofs.Grammar.Accepted.{accepts}
 use Rattle.text.proofs.Grammar.First.{tree-refuses}
 use Rattle.text.proofs.Telling.{tells-doc, told-size, told-depth}
 use Rattle.text.proofs.Answers.{told-answers}
+use Rattle.text.proofs.Loose.{told-loose}
 use Rattle.text.proofs.Readback.Says.{textDoc, text-doc}
 use Rattle.text.proofs.Readback.Derived.{written-text}
 use Rattle.text.proofs.Readback.Meant.{writable-accepts}
@@ -38,3 +41,8 @@ reads-back L d h =
       answer = told-answers L (written d) j d s;
       first = λ short. tree-refuses L (written d) short j;
     }
+
+pub reads-loose : (L : Limits) (d : Doc) → Writable d → readOf (loose L) (written d) ≡ readOf L (written d)
+reads-loose L d w =
+    let (j, again) = written-text d (w .labels) in
+    told-loose L (written d) j d (text-tells j again (w .labels)) (w .distinct)

@@ -11,15 +11,15 @@ use Rattle.card.proofs.judge.judge_rows.Tie as tie
 
 card-breach-requires : tie.Need-card-breach-requires
 card-breach-requires c κs =
-    let (f, card) = c .before .before .before .pre in
+    let (L, f, card) = c .before .before .before .pre in
     (f, card-value card, card-kinds card)
 
 returns : tie.Need-returns
-returns c = λ f h. rw (sym (c .before .before .card-breach .ensures f (card-value h) (card-kinds h)) ∙ ap foundOf (c .enum-told .given .1)) (refl, refl)
+returns c = λ L f h. rw (sym (c .before .before .card-breach .ensures f (card-value h) (card-kinds h)) ∙ ap foundOf (c .enum-told .given .1)) (refl, refl)
 
 returns-2 : tie.Need-returns-2
 returns-2 c =
-    λ f h.
+    λ L f h.
     let card-breach = c .before .before .before .before .before .before .before .before .before .before .card-breach in
     let row = c .before .before .before .before .before .before .before .before .row in
     let value-start = c .before .before .before .before .before .value-start in

@@ -4,10 +4,11 @@ use mathlib.Core.List.{List}
 use Prim.Native.Nat.{ℕ}
 use native.Mathlib.Omega.{arith}
 use borrow.Author.Needs.{needs}
-use Rattle.json.specs.Readers.{NameAsks, ItemRead}
+use Rattle.json.specs.Readers.{limitsIn, NameAsks, ItemRead}
 use Rattle.json.specs.declared.containers.Container.the-variants.{Array}
 use Rattle.json.specs.declared.members.ItemStart.the-variants.{At}
 use Rattle.json.proofs.Store.{added-none}
+use Rattle.json.proofs.Ways.{neither}
 use Rattle.json.proofs.containers.item_at.Statement.{statement}
 use Rattle.json.proofs.containers.item_at.Tie as tie
 
@@ -15,8 +16,8 @@ element : (t names : List ℕ) (end at : ℕ) → NameAsks t names end at → It
 element t names end at asks =
     record {
       inside = record { places = record { starts = omega arith; ends = omega arith }; later = omega arith; inside = asks .inside; one = omega arith; spread = omega arith };
-      is = λ depth n done. refl;
-      added = added-none end names (omega arith);
+      is = λ L depth n done. refl;
+      added = rw (neither (limitsIn names .unique)) (added-none end names (asks .room .upto));
     }
 
 returns : tie.Need-returns

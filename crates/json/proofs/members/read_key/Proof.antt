@@ -3,9 +3,7 @@ use Prim.Native.Nat.{ℕ, _+_}
 use mathlib.Core.Path.{_≡_, sym, _∙_}
 use mathlib.Core.List.{List, []}
 use native.Mathlib.Omega.{arith}
-use lib.ListN.{set}
 use borrow.Author.Needs.{needs}
-use Rattle.text.specs.Limits.{base}
 use Rattle.text.specs.Text.{byteAt}
 use Rattle.text.specs.Strings.{stringEnd}
 use Rattle.text.specs.Tree.{curly}
@@ -13,25 +11,25 @@ use Rattle.text.specs.Reader.{valueAt}
 use Rattle.text.specs.declared.Token.the-variants.{End}
 use Rattle.text.specs.declared.Refusal.{Refusal}
 use Rattle.text.proofs.Laws.{EndInside, end-inside}
-use Rattle.repeats.specs.Closed.{ownName}
-use Rattle.json.specs.Readers.{NameAsks, Begun, Coloned, ItemRead}
+use Rattle.repeats.specs.Closed.{asideName}
+use Rattle.json.specs.Readers.{limitsIn, Put, NameAsks, Begun, Coloned, ItemRead}
 use Rattle.json.specs.declared.containers.Container.the-variants.{Object}
 use Rattle.json.specs.declared.members.ItemStart.{ItemStart}
 use Rattle.json.specs.declared.members.ItemStart.the-variants.{At, Wrong}
 use Rattle.json.proofs.Ways.{member-none, member-no2, member-no3, member-closed, own-none, own-no2, own-no3, own-closed}
-use Rattle.json.proofs.Store.{added-none, added-one}
+use Rattle.json.proofs.Store.{added-none}
 use Rattle.json.proofs.members.read_key.Statement.{statement}
 use Rattle.json.proofs.members.read_key.Tie as tie
 
 module _ (t names : List ℕ) (end at : ℕ) (asks : NameAsks t names end at) where
   -- no name is closed
-  unclosed : (r : Refusal) → ownName t curly at ≡ [] → Begun Object t at (Wrong r end) → ItemRead Object t end at names names (Wrong r end)
-  unclosed r e is = record { inside = tt; is = is; added = rw e (added-none end names (omega arith)) }
+  unclosed : (r : Refusal) → asideName (limitsIn names) t curly at ≡ [] → Begun Object t at (Wrong r end) → ItemRead Object t end at names names (Wrong r end)
+  unclosed r e is = record { inside = tt; is = is; added = rw e (added-none end names (asks .room .upto)) }
 
   -- a name is closed, and what follows it
-  closed : (to : ℕ) (r : ItemStart) → byteAt t at ≡ 34 → stringEnd t (at + 1) ≡ End to → Coloned t (at + 1) to (end + 1) r
-      → ItemRead Object t end at names (set names end at) r
-  closed to (At ns ne from top) h e p =
+  closed : (to last : ℕ) (names′ : List ℕ) (r : ItemStart) → byteAt t at ≡ 34 → stringEnd t (at + 1) ≡ End to → Put names end at names′ last
+      → Coloned t (at + 1) to last r → ItemRead Object t end at names names′ r
+  closed to last names′ (At ns ne from top) h e q p =
       let i = end-inside t (at + 1) to e in
       rw (p .stays, p .starts)
       (record {
@@ -40,18 +38,18 @@ module _ (t names : List ℕ) (end at : ℕ) (asks : NameAsks t names end at) wh
               places = record { starts = omega (arith, p .inside, p .later); ends = omega (arith, p .inside, p .later, p .ends) };
               later = omega (arith, p .later);
               inside = p .inside;
-              one = omega arith;
-              spread = omega (arith, p .later);
+              one = q .one;
+              spread = omega (arith, p .later, q .one);
             };
-        is = λ depth n done. member-closed t (valueAt base t depth) done at n h to e ∙ p .is (valueAt base t depth) at n;
-        added = rw (own-closed t at h to e) (added-one end names at (asks .room));
+        is = λ L depth n done. member-closed L t (valueAt L t depth) done at n h to e ∙ p .is (valueAt L t depth) at n;
+        added = rw (own-closed t at h to e) (q .added);
       })
-  closed to (Wrong r top) h e p =
+  closed to last names′ (Wrong r top) h e q p =
       rw (p .0)
       (record {
         inside = tt;
-        is = λ depth n done. member-closed t (valueAt base t depth) done at n h to e ∙ p .1 (valueAt base t depth) at n;
-        added = rw (own-closed t at h to e) (added-one end names at (asks .room));
+        is = λ L depth n done. member-closed L t (valueAt L t depth) done at n h to e ∙ p .1 (valueAt L t depth) at n;
+        added = rw (own-closed t at h to e) (q .added);
       })
 
 -- the place where a name has ended
@@ -65,8 +63,8 @@ returns c =
     let s = c .before .before .before .before in
     let a = s .args in
     let h : byteAt (a .text .now) (a .at) ≡ 34 → ⊥ = λ q. c .if1 .taken (c .before .peek .ensures .0 ∙ q) in
-    unclosed (a .text .now) (a .names .now) (a .end) (a .at) (s .pre) _ (own-none (a .text .now) (a .at) h)
-    (λ depth n done. member-none (a .text .now) (valueAt base (a .text .now) depth) done (a .at) n h)
+    unclosed (a .text .now) (a .names .now) (a .end) (a .at) (s .pre) _ (own-none (limitsIn (a .names .now)) (a .text .now) (a .at) h)
+    (λ L depth n done. member-none L (a .text .now) (valueAt L (a .text .now) depth) done (a .at) n h)
 
 returns-2 : tie.Need-returns-2
 returns-2 c =
@@ -75,8 +73,8 @@ returns-2 c =
     let h : byteAt (a .text .now) (a .at) ≡ 34 = omega arith in
     let p = c .before .p .given .0 .0 in
     let e = sym (c .before .before .before .string-end .ensures) ∙ c .before .p .given .1 in
-    unclosed (a .text .now) (a .names .now) (a .end) (a .at) (s .pre) _ (own-no2 (a .text .now) (a .at) h p e)
-    (λ depth n done. member-no2 (a .text .now) (valueAt base (a .text .now) depth) done (a .at) n h p e)
+    unclosed (a .text .now) (a .names .now) (a .end) (a .at) (s .pre) _ (own-no2 (limitsIn (a .names .now)) (a .text .now) (a .at) h p e)
+    (λ L depth n done. member-no2 L (a .text .now) (valueAt L (a .text .now) depth) done (a .at) n h p e)
 
 returns-3 : tie.Need-returns-3
 returns-3 c =
@@ -85,23 +83,24 @@ returns-3 c =
     let h : byteAt (a .text .now) (a .at) ≡ 34 = omega arith in
     let p = c .before .p2 .given .0 .0 in
     let e = sym (c .before .before .before .string-end .ensures) ∙ c .before .p2 .given .1 in
-    unclosed (a .text .now) (a .names .now) (a .end) (a .at) (s .pre) _ (own-no3 (a .text .now) (a .at) h p e)
-    (λ depth n done. member-no3 (a .text .now) (valueAt base (a .text .now) depth) done (a .at) n h p e)
+    unclosed (a .text .now) (a .names .now) (a .end) (a .at) (s .pre) _ (own-no3 (limitsIn (a .names .now)) (a .text .now) (a .at) h p e)
+    (λ L depth n done. member-no3 L (a .text .now) (valueAt L (a .text .now) depth) done (a .at) n h p e)
 
 colon-requires : tie.Need-colon-requires
-colon-requires c κs = omega (arith, ended (c .before))
+colon-requires c κs = omega (arith, ended (c .before .before .before .before .before))
 
 returns-4 : tie.Need-returns-4
 returns-4 c =
-    let s = c .before .before .before .before .before .before .before .before .before in
+    let s = c .before .before .before .before .before .before .before .before .before .before .before .before .before in
     let a = s .args in
+    let e = c .before .before .before .before .before .before in
+    let k = c .before .before .before .put-name in
     let h : byteAt (a .text .now) (a .at) ≡ 34 = omega arith in
-    closed (a .text .now) (a .names .now) (a .end) (a .at) (s .pre) (c .before .before .to .given .0 .0) (c .colon .result) h
-    (sym (c .before .before .before .before .string-end .ensures) ∙ c .before .before .to .given .1) (c .colon .ensures)
+    closed (a .text .now) (a .names .now) (a .end) (a .at) (s .pre) (e .to .given .0 .0) (k .result) (k .last .0) (c .colon .result) h
+    (sym (e .before .before .string-end .ensures) ∙ e .to .given .1) (k .ensures) (c .colon .ensures)
 
 pub read-key-spec : {M : Type 1} → statement M
 read-key-spec =
     tie.close
     (tie.spec (λ c κs. search needs) returns (λ c. search needs) (λ c κs. search needs) (λ c. search needs) (λ c. search needs) (λ c. search needs)
-    (λ c. search needs) (λ c. search needs) (λ c. search needs) (λ c. search needs) (λ c. search needs) colon-requires returns-2 returns-3
-    (λ c. search needs) returns-4)
+    (λ c κs. search needs) (λ c. search needs) colon-requires returns-2 returns-3 (λ c. search needs) returns-4)

@@ -1,19 +1,23 @@
--- `json::read::read_rows` meets its contract: after a refusal the table is cleared. Assumes nothing.
+-- `json::read::read_rows` meets its contract. Assumes nothing.
+use denote.Ref.{now}
 use borrow.Author.Needs.{needs}
-use Rattle.json.proofs.Kept.{kept-rows, kept-none}
+use Rattle.text.specs.Limits.{base}
+use Rattle.text.specs.Whole.{readOf}
+use Rattle.json.proofs.Endings.{counted}
 use Rattle.json.proofs.read.read_rows.Statement.{statement}
 use Rattle.json.proofs.read.read_rows.Tie as tie
 
-returns : tie.Need-returns
-returns c = kept-rows (rw (c .before .n .given .1) at (c .before .before .before .before .before .read-over .ensures))
+keep-rows-requires : tie.Need-keep-rows-requires
+keep-rows-requires c κs =
+    let a = c .before .before .before .before .before .before .before .args in
+    let read = c .before .before .before .read-sized in
+    counted (readOf base (now (a .text))) (now (a .table)) (read .last .1 .0) (read .result) (read .ensures)
 
-returns-2 : tie.Need-returns-2
-returns-2 c =
-    let told = c .before .before .before .before .before in
-    let over = told .before .before .before .before .read-over in
-    kept-none (over .last .1 .0) (rw (told .r .given .1) at (over .ensures)) (over .kept .1 .0) (c .before .before .clear-words .ensures)
+returns : tie.Need-returns
+returns c =
+    let a = c .before .before .before .before .before .before .before .before .before .before .args in
+    let read = c .before .before .before .before .before .before .read-sized in
+    c .before .before .keep-rows .ensures base (now (a .text)) (now (a .table)) (read .kept .1 .0) (read .ensures)
 
 pub read-rows-spec : {M : Type 1} → statement M
-read-rows-spec =
-    tie.close
-    (tie.spec (λ c κs. search needs) (λ c. search needs) (λ c. search needs) (λ c κs. search needs) (λ c. search needs) returns (λ c. search needs) returns-2)
+read-rows-spec = tie.close (tie.spec (λ c κs. search needs) keep-rows-requires (λ c. search needs) returns)

@@ -5,7 +5,7 @@ use Rattle.text.specs.Limits.{base}
 use Rattle.text.specs.Tokens.{skip}
 use Rattle.text.specs.Reader.{valueAt}
 use Rattle.text.proofs.TokenEnds.{skip-span}
-use Rattle.json.specs.Readers.{Gone}
+use Rattle.json.specs.Readers.{limitsIn, Gone}
 use Rattle.json.proofs.Endings.{text-stop, text-more, text-good}
 use Rattle.json.proofs.read.read_whole.Statement.{statement}
 use Rattle.json.proofs.read.read_whole.Tie as tie
@@ -13,7 +13,7 @@ use Rattle.json.proofs.read.read_whole.Tie as tie
 -- where a value was read, what its reader ensures says so
 gone : (v : tie.After-v2)
     → let a = v .before .before .before .before .before .before .before .before .before .before .before .before .before .args in
-    let R = valueAt base (a .text .now) (base .depth) 0 0 (skip (a .text .now) 0) 0 in
+    let R = valueAt (limitsIn (a .names .now)) (a .text .now) (base .depth) 0 0 (skip (a .text .now) 0) 0 in
     Gone R (a .text .now) (skip (a .text .now) 0) 0 (a .table .now) (v .before .before .before .before .before .before .read-value .last .1 .0) (v .v2 .given .0 .0) (v .v2 .given .0 .1 .0)
 gone v = rw (v .v2 .given .1, v .before .before .before .before .before .before .before .before .before .skip .ensures) at (v .before .before .before .before .before .before .read-value .ensures .0)
 
@@ -27,6 +27,7 @@ read-value-requires c κs =
       places = record { starts = omega arith; ends = omega arith };
       inside = omega (arith, c .before .before .skip .ensures, k .inside);
       few = omega arith;
+      held = omega arith;
       fewer = omega arith;
       spread = omega arith;
     }
@@ -37,14 +38,14 @@ returns c =
     let s = v .before .before .before .before .before .before .before .before .before .before .before .before .before in
     let a = s .args in
     let g = gone v in
-    text-more (a .text .now) (s .pre .1) (g .trees) (v .v2 .given .0 .0) (c .before .skip2 .result) (g .is) (c .before .skip2 .ensures) (c .if1 .taken)
+    text-more (limitsIn (a .names .now)) (a .text .now) (s .pre .1) (g .trees) (v .v2 .given .0 .0) (c .before .skip2 .result) (g .is) (c .before .skip2 .ensures) (c .if1 .taken)
 
 returns-2 : tie.Need-returns-2
 returns-2 c =
     let s = c .before .before .before .before .before .before .before .before .before .before .before .before .before .before in
     let a = s .args in
     let g = c .before .v .given in
-    text-stop (a .text .now) (s .pre .1) (g .0 .0) (rw (g .1, c .before .before .before .before .before .before .before .before .before .before .skip .ensures) at (c .before .before .before .before .before .before .before .read-value .ensures .0))
+    text-stop (limitsIn (a .names .now)) (a .text .now) (s .pre .1) (g .0 .0) (rw (g .1, c .before .before .before .before .before .before .before .before .before .before .skip .ensures) at (c .before .before .before .before .before .before .before .read-value .ensures .0))
 
 returns-3 : tie.Need-returns-3
 returns-3 c =
@@ -55,7 +56,7 @@ returns-3 c =
       record {
         trees = g .trees;
         to = c .before .skip2 .result;
-        is = text-good (a .text .now) (s .pre .1) (g .trees) (v .v2 .given .0 .0) (c .before .skip2 .result) (g .is) (c .before .skip2 .ensures) (c .if1 .left);
+        is = text-good (limitsIn (a .names .now)) (a .text .now) (s .pre .1) (g .trees) (v .v2 .given .0 .0) (c .before .skip2 .result) (g .is) (c .before .skip2 .ensures) (c .if1 .left);
         count = omega (arith, g .count);
         table = g .table;
       },

@@ -1,15 +1,20 @@
--- `patch::compose::compose` meets its contract: the list has room for all values inside the PatchObject. It never calls itself. Assumes nothing.
-use Prim.Native.Nat.{ℕ, _<_}
+-- `patch::compose::compose` meets its contract: the lists have room for as many entries as were counted. It never calls itself. Assumes nothing.
+use Prim.Native.Nat.{ℕ, _≤_, _<_}
 use native.Mathlib.Omega.{arith}
+use denote.Ref.{now}
 use borrow.Author.Needs.{needs}
 use borrow.Fn.Kinds.{In}
 use borrow.Fn.PlainCycle.{Measures, is, falls, and}
+use Rattle.json.proofs.Seeking.{row-after}
+use Rattle.patch.specs.Drafts.{FewerThan}
+use Rattle.patch.proofs.Drafting.Children.{counted-few}
 use Rattle.patch.proofs.compose.compose.Reads as compose
 use Rattle.patch.proofs.compose.compose.Kinds as kinds
 use Rattle.patch.proofs.compose.+compose.Lts-compose as lts
-use Rattle.json.proofs.rows.below.Reads as below-reads
-use Rattle.patch.proofs.compose.compose_on.Reads as compose-on-reads
+use Rattle.json.proofs.lookup.next_row.Reads as next-row-reads
 use Rattle.patch.proofs.compose.compose_many.Reads as compose-many-reads
+use Rattle.patch.proofs.compose.compose_on.Reads as compose-on-reads
+use Rattle.patch.proofs.entries.count.Reads as count-reads
 use Rattle.patch.proofs.compose.+compose.{statement}
 use Rattle.patch.proofs.compose.+compose.Tie.{close}
 
@@ -24,19 +29,67 @@ below t = and 5 kinds.ps (falls 5 kinds.ps _<_ measure t) compose.Pre
 
 -- what is known of the functions that it calls
 abbrev given : ℕ → lts.Claims
-given t = (below t, compose.Post, below-reads.Asked, below-reads.Learnt, compose-on-reads.Asked, compose-on-reads.Learnt, compose-many-reads.Asked, compose-many-reads.Learnt)
+given t = (
+  below t,
+  compose.Post,
+  next-row-reads.Asked,
+  next-row-reads.Learnt,
+  count-reads.Asked,
+  count-reads.Learnt,
+  compose-on-reads.Asked,
+  compose-on-reads.Learnt,
+  compose-many-reads.Asked,
+  compose-many-reads.Learnt,
+)
 
 module _ (t : ℕ) where
   never : lts.Need-compose-requires (given t) (here t) compose.Post
   never c κs = absurd (omega arith)
 
+  -- the entries were counted
+  fewer : (c : lts.After-count (given t) (here t) compose.Post) (most : ℕ) → c .count .result ≤ most
+      → let a = c .before .before .before .before .before .before .before .before .args in FewerThan (now (a .table)) (a .patch) most
+  fewer c most le =
+      let start = c .before .before .before .before .before .before .before .before in
+      counted-few (row-after (now (start .args .table)) (start .args .patch) (c .before .next-row .ensures) (omega (arith, start .pre .1))) (c .count .ensures) le
+
   few-made : lts.Need-returns-2 (given t) (here t) compose.Post
-  few-made c = c .before .before .before .compose-on .ensures (omega arith)
+  few-made c =
+      let made = c .before .before .before .before .before in
+      let counted = made .before .before .before .before .before .before in
+      made .compose-on .ensures (λ p h. omega (arith, fewer counted 64 (omega arith) p h))
 
   some-made : lts.Need-returns-3 (given t) (here t) compose.Post
-  some-made c = c .before .before .before .compose-on2 .ensures (omega arith)
+  some-made c =
+      let made = c .before .before .before .before .before in
+      let counted = made .before .before .before .before .before .before .before in
+      made .compose-on2 .ensures (λ p h. omega (arith, fewer counted 640 (omega arith) p h))
 
 pub +compose-spec : {M : Type 1} → statement M
 +compose-spec =
     close measure
-    (λ t. lts.spec (given t) (here t) compose.Post (never t) (λ c. search needs) (λ c. search needs) (λ c κs. search needs) (λ c. search needs) (λ c κs. search needs) (λ c. search needs) (few-made t) (λ c κs. search needs) (λ c. search needs) (λ c κs. search needs) (λ c. search needs) (some-made t) (λ c κs. search needs) (λ c. search needs) (λ c. search needs))
+    (λ t. lts.spec
+    (given t)
+    (here t)
+    compose.Post
+    (never t)
+    (λ c. search needs)
+    (λ c. search needs)
+    (λ c. search needs)
+    (λ c κs. search needs)
+    (λ c κs. search needs)
+    (λ c. search needs)
+    (λ c. search needs)
+    (λ c. search needs)
+    (λ c κs. search needs)
+    (λ c. search needs)
+    (few-made t)
+    (λ c. search needs)
+    (λ c. search needs)
+    (λ c. search needs)
+    (λ c κs. search needs)
+    (λ c. search needs)
+    (some-made t)
+    (λ c κs. search needs)
+    (λ c. search needs)
+    (λ c. search needs))

@@ -4,7 +4,7 @@ use native.Mathlib.Omega.{arith}
 use borrow.Author.Needs.{needs}
 use borrow.Fn.Kinds.{In}
 use borrow.Fn.PlainCycle.{Measures, is, falls, and}
-use Rattle.patch.proofs.Drafting.Children.{inside-few}
+use Rattle.patch.proofs.Drafting.Children.{most-few}
 use Rattle.patch.proofs.compose.compose_many.Reads as compose-many
 use Rattle.patch.proofs.compose.compose_many.Kinds as kinds
 use Rattle.patch.proofs.compose.+compose_many.Lts-compose_many as lts
@@ -30,9 +30,21 @@ module _ (t : ℕ) where
   never c κs = absurd (omega arith)
 
   made : lts.Need-returns-2 (given t) (here t) compose-many.Post
-  made c = λ g p b h few. c .before .before .before .compose-on .ensures (omega (arith, inside-few h)) g p b h few
+  made c = c .before .before .before .before .before .compose-on .ensures (λ p h. omega (arith, most-few p h))
 
 pub +compose-many-spec : {M : Type 1} → statement M
 +compose-many-spec =
     close measure
-    (λ t. lts.spec (given t) (here t) compose-many.Post (never t) (λ c. search needs) (λ c. search needs) (λ c. search needs) (λ c κs. search needs) (λ c. search needs) (made t))
+    (λ t. lts.spec
+    (given t)
+    (here t)
+    compose-many.Post
+    (never t)
+    (λ c. search needs)
+    (λ c. search needs)
+    (λ c. search needs)
+    (λ c. search needs)
+    (λ c. search needs)
+    (λ c κs. search needs)
+    (λ c. search needs)
+    (made t))

@@ -2,8 +2,10 @@
 use mathlib.Core.Path.{_≡_, sym, _∙_}
 use Prim.Native.Nat.{ℕ}
 use native.Mathlib.Omega.{arith}
+use lib.ListN.{getD}
 use denote.Ref.{now}
-use Rattle.patch.proofs.Putting.Kept.{at-part}
+use Rattle.patch.specs.Children.{keyBytes}
+use Rattle.patch.proofs.Putting.Meeting.{point-in}
 use Rattle.patch.proofs.Putting.Additions.{first-said}
 use Rattle.patch.proofs.Putting.Patches.{goes-last, ends-by, no-end}
 use borrow.Author.Needs.{needs}
@@ -11,25 +13,23 @@ use Rattle.patch.proofs.writing.ends_first.Statement.{statement}
 use Rattle.patch.proofs.writing.ends_first.Tie as tie
 
 returns : tie.Need-returns
-returns c = record { some = λ e. let z : _≡_ {A = ℕ} 0 1 = cc in absurd (omega arith); is = λ ms s. no-end s (c .if1 .taken) }
-
-cast-e : tie.Need-cast-e
-cast-e c = omega (arith, c .shared-slice-known4 .given (c .before .before .before .before .before .args .lo))
+returns c = record { some = λ e. let z : _≡_ {A = ℕ} 0 1 = cc in absurd (omega arith); is = λ parts ms s w. no-end s (c .if1 .taken) }
 
 returns-2 : tie.Need-returns-2
 returns-2 c =
-    let a = c .before .before .before .before .before .before .before .before .before .args in
-    let key-at = c .before .before .before .key-at in
-    let part-at = c .before .before .part-at in
+    let a = c .before .before .before .before .before .before .before .before .before .before .args in
+    let there = c .before .before .before .before .before .if1 .left in
+    let pt = now (a .ptext) in
+    let key = keyBytes pt (now (a .ptable)) (getD (now (a .rows)) (a .lo) 0) in
     record {
-      some = λ e. c .before .before .before .before .before .if1 .left;
+      some = λ e. there;
       is =
-          λ ms s.
-          let f = first-said s (c .before .before .before .before .before .if1 .left) in
-          ends-by (now (a .ptext)) f
-          (goes-last (now (key-at .result)) (c .before .next-part .result)
-          (at-part (now (a .ptext)) (a .parts) (now (key-at .result)) (part-at .result) (f .value) (key-at .ensures) (part-at .ensures .0))
-          (c .before .next-part .ensures .0) ∙ sym (c .is-end .ensures));
+          λ parts ms s w.
+          let f = first-said s there in
+          let follows = rw (c .before .before .before .key-at .ensures) at (c .before .after-part .ensures .0) in
+          ends-by pt f
+          (goes-last key (c .before .after-part .result) (w (a .lo) (omega arith) there .left ∙ point-in pt (now (a .rows)) parts (a .lo) (f .value)) follows
+          ∙ sym (c .is-nothing .ensures));
     }
 
 pub ends-first-spec : {M : Type 1} → statement M
@@ -39,9 +39,11 @@ ends-first-spec =
     returns
     (λ c. search needs)
     (λ c. search needs)
-    cast-e
+    (λ c. omega (arith, c .shared-slice-known5 .given (c .before .before .before .before .before .before .args .lo)))
     (λ c κs. search needs)
-    (λ c κs. search needs)
+    (λ c. search needs)
+    (λ c. search needs)
+    (λ c. omega (arith, c .shared-slice-known6 .given (c .before .before .before .before .before .before .before .before .args .lo)))
     (λ c κs. search needs)
     (λ c κs. search needs)
     returns-2)

@@ -1,62 +1,45 @@
 -- `patch::writing::put_addition` meets its contract. Assumes nothing.
-use mathlib.Core.Path.{_≡_}
+use mathlib.Core.Path.{_≡_, sym, _∙_}
 use mathlib.Core.List.{[], _∷_, _++_}
 use native.Mathlib.Omega.{arith}
 use denote.Ref.{now}
-use Rattle.laws.proofs.Picks.{granted, denied}
-use Rattle.text.specs.Tree.{Forest}
 use Rattle.text.specs.Doc.{docOf}
 use Rattle.text.specs.Writing.{comma, spelled}
+use Rattle.text.proofs.Promise.{doc-kind}
 use Rattle.contact.specs.Pointer.{pointerOf, firstPart}
-use Rattle.contact.specs.Patch.{changeOf}
-use Rattle.json.specs.Cursors.{rest}
-use Rattle.json.specs.Lookup.{KnownAt}
-use Rattle.patch.specs.Patched.{pointerIn, membersIn}
+use Rattle.json.specs.Cursors.{rest, cursor}
+use Rattle.patch.specs.Children.{keyBytes}
 use Rattle.patch.proofs.Putting.Bytes.{wrote-then}
-use Rattle.patch.proofs.Putting.Kept.{at-part, adds-is, passed-none, passed-some}
+use Rattle.patch.proofs.Putting.Walks.{value-row}
+use Rattle.patch.proofs.Putting.Kept.{change-null, change-set, passed-none, passed-some}
 use borrow.Author.Needs.{needs}
 use Rattle.patch.proofs.writing.put_addition.Statement.{statement}
 use Rattle.patch.proofs.writing.put_addition.Tie as tie
 
--- the entry's pointer from the part for the object on
-pointer : (c : tie.After-is-added) {h : Forest}
-    → let a = c .before .before .before .before .before .before .before .before .args in KnownAt (now (a .ptable)) (a .e) h
-    → pointerOf (rest (now (c .before .before .key-at .result)) (c .before .part-at .result)) ≡ pointerIn (now (a .ptext)) (a .parts) h
-pointer c w =
-    let a = c .before .before .before .before .before .before .before .before .args in
-    at-part (now (a .ptext)) (a .parts) (now (c .before .before .key-at .result)) (c .before .part-at .result) w
-    (c .before .before .key-at .ensures) (c .before .part-at .ensures .0)
-
 returns : tie.Need-returns
 returns c =
-    λ root g h b w.
-    let good = c .before .before .before .before .before .before .before .before .before .good in
-    let a = c .before .before .before .before .before .before .before .before .before .args in
-    let ptext = now (a .ptext) in
-    let off = denied (c .before .is-added .result) (c .if1 .taken) in
-    let is = adds-is (membersIn root (now (a .text)) g) (changeOf (docOf ptext h)) (pointer (c .before) w)
-    (c .before .is-added .ensures root ptext g h b w) in
-    passed-none (a .from) (omega (arith, good .1 .1 .1 .1 .1 .1 .1 .1 .0 .1)) (rw off at is)
+    λ h d w.
+    let start = c .before .before .before .before .before in
+    let a = start .args in
+    let v = docOf (now (a .ptext)) h in
+    let null = doc-kind (now (a .ptext)) h (w .some) ∙ sym (value-row w .kind) ∙ sym (c .before .kind .ensures) ∙ c .if1 .taken in
+    passed-none (a .from) (omega (arith, start .good .1 .1 .1 .1 .0 .1)) (rw (change-null v null))
 
 returns-2 : tie.Need-returns-2
 returns-2 c =
-    λ root g h b w.
-    let early = c .before .before .before .before .before .before .before .before .before .before .before .before in
-    let a = early .before .before .before .before .before .before .before .before .before .before .before .before .before .args in
+    λ h d w.
+    let named = c .before .before .before .before .before .before .before .before .before .before in
+    let early = named .before .before .before .before .before .before .before .before in
+    let a = early .before .before .before .before .before .args in
     let ptext = now (a .ptext) in
-    let is-added = early .before .before .before .before .before .is-added in
-    let if1 = early .before .before .before .before .if1 in
-    let put-comma = c .before .before .before .before .before .before .before .before .before .before .before .before .before .before .put-comma in
-    let put-spelled = c .before .before .before .before .before .before .before .before .before .before .put-spelled in
-    let put-byte = c .before .before .before .before .before .before .put-byte in
-    let on = granted (is-added .result) (if1 .left) in
-    let d = docOf ptext h in
-    let label = spelled (firstPart (pointerIn ptext (a .parts) h)) in
-    let named = rw (pointer (early .before .before .before .before .before) w) at (put-spelled .ensures) in
-    let is = adds-is (membersIn root (now (a .text)) g) (changeOf d) (pointer (early .before .before .before .before .before) w)
-    (is-added .ensures root ptext g h b w) in
-    passed-some d (rw on at is)
-    (wrote-then (comma (a .from .first)) (label ++ (58 ∷ [])) (put-comma .ensures) (wrote-then label (58 ∷ []) named (put-byte .ensures)))
+    let kind = early .before .kind in
+    let v = docOf ptext h in
+    let label = spelled (firstPart (pointerOf (rest (keyBytes ptext (now (a .ptable)) (a .e)) (cursor (a .place) 0 0)))) in
+    let put-spelled = rw (named .before .before .cursor-at .ensures, named .before .before .before .key-at .ensures) at (named .put-spelled .ensures) in
+    let is = change-set v (λ e. early .if1 .left (kind .ensures ∙ value-row w .kind ∙ sym (doc-kind ptext h (w .some)) ∙ e)) in
+    passed-some v (rw is)
+    (wrote-then (comma (a .from .first)) (label ++ (58 ∷ [])) (named .before .before .before .before .before .before .put-comma .ensures)
+    (wrote-then label (58 ∷ []) put-spelled (c .before .before .before .before .before .before .put-byte .ensures)))
     (c .before .before .copy-value .ensures h w)
 
 pub put-addition-spec : {M : Type 1} → statement M
@@ -64,9 +47,9 @@ put-addition-spec =
     tie.close
     (tie.spec
     (λ c κs. search needs)
-    (λ c κs. search needs)
-    (λ c κs. search needs)
     returns
+    (λ c κs. search needs)
+    (λ c κs. search needs)
     (λ c κs. search needs)
     (λ c κs. search needs)
     (λ c κs. search needs)

@@ -1,5 +1,6 @@
--- `pointers::keys::has_bad_tilde` meets its contract. Assumes nothing.
+-- `pointers::keys::has_bad_tilde` meets its contract: each turn passes bytes without a `~` and reads one more. Assumes nothing.
 use borrow.Author.Tests.{ne-eqb}
+use Prim.Native.Nat.{_<_}
 use mathlib.Core.Path.{_≡_, refl, ap}
 use native.Mathlib.Omega.{arith}
 use lib.ListN.{length}
@@ -10,6 +11,8 @@ use Rattle.json.specs.Cursors.{rest}
 use Rattle.text.specs.Strings.{decode}
 use Rattle.text.specs.Utf8.{conts}
 use Rattle.contact.specs.Pointer.{badTilde}
+use Rattle.pointers.specs.Parts.{Untilded}
+use Rattle.pointers.proofs.Laws.Glyphs.{untilded-past}
 use Rattle.pointers.proofs.keys.has_bad_tilde.Statement.{statement}
 use Rattle.pointers.proofs.keys.has_bad_tilde.Tie as tie
 
@@ -23,43 +26,52 @@ loop-holds : tie.Need-loop-holds Inv-loop μ-loop
 unfolding conts
 loop-holds c = rw (c .start .ensures) refl
 
+-- no bad `~` stands in what is passed
+passed : (k : tie.After-past-written Inv-loop μ-loop) → Untilded (now (k .before .before .before .before .args .key)) (k .before .loop .c) (k .past-written .result)
+passed k = untilded-past _ _ (k .past-written .ensures)
+
+-- where a byte was read, less is left than the turn began with
+less : (c : tie.After-b Inv-loop μ-loop)
+    → let l = c .before .before .before .before in
+    let key = now (l .before .before .before .args .key) in
+    length (rest key (c .b .given .0 .1 .0)) < length (rest key (l .loop .c))
+less c =
+    let n = c .before .before in
+    let k = n .before in
+    omega (
+      arith,
+      ap length (byte-left (now (k .before .before .before .before .args .key)) (k .past-written .result) (n .next-byte .ensures .0) (c .b .given .1)),
+      passed k .fewer,
+    )
+
 returns : tie.Need-returns Inv-loop μ-loop
-returns c = rw (← c .before .before .before .loop .inv, ← c .before .before .next-byte .ensures .0, c .enum-told .given .1)
+returns c =
+    let n = c .before .before in
+    rw (← n .before .before .loop .inv, ← passed (n .before) .follows, ← n .next-byte .ensures .0, c .enum-told .given .1)
 
 returns-2 : tie.Need-returns-2 Inv-loop μ-loop
 returns-2 c =
-    let loop = c .before .before .before .before .before .before .before .loop in
-    let next-byte = c .before .before .before .before .before .before .next-byte in
-    let b = c .before .before .before .before .b in
-    rw (← loop .inv, ← next-byte .ensures .0, b .given .1, c .before .before .if1 .taken, ← c .before .zero-or-one .ensures, c .if2 .taken)
+    let b = c .before .before .before .before in
+    let n = b .before .before in
+    rw (← n .before .before .loop .inv, ← passed (n .before) .follows, ← n .next-byte .ensures .0, b .b .given .1, c .before .before .if1 .taken, ← c .before .zero-or-one .ensures, c .if2 .taken)
 
 loop-less : tie.Need-loop-less Inv-loop μ-loop
-loop-less c =
-    let a = c .before .before .before .before .before .before .before .before .before .before .args in
-    let loop = c .before .before .before .before .before .before .before .loop in
-    let next-byte = c .before .before .before .before .before .before .next-byte in
-    let b = c .before .before .before .before .b in
-    omega (arith, ap length (byte-left (now (a .key)) (loop .c) (next-byte .ensures .0) (b .given .1)))
+loop-less c = less (c .before .before .before .before)
 
 loop-again : tie.Need-loop-again Inv-loop μ-loop
 loop-again c =
-    let loop = c .before .before .before .before .before .before .before .loop in
-    let next-byte = c .before .before .before .before .before .before .next-byte in
-    let b = c .before .before .before .before .b in
-    rw (← loop .inv, ← next-byte .ensures .0, b .given .1, c .before .before .if1 .taken, ← c .before .zero-or-one .ensures, c .if2 .left)
+    let b = c .before .before .before .before in
+    let n = b .before .before in
+    rw (← n .before .before .loop .inv, ← passed (n .before) .follows, ← n .next-byte .ensures .0, b .b .given .1, c .before .before .if1 .taken, ← c .before .zero-or-one .ensures, c .if2 .left)
 
 loop-less-2 : tie.Need-loop-less-2 Inv-loop μ-loop
-loop-less-2 c =
-    let a = c .before .before .before .before .before .before .before .before .args in
-    let loop = c .before .before .before .before .before .loop in
-    let next-byte = c .before .before .before .before .next-byte in
-    omega (arith, ap length (byte-left (now (a .key)) (loop .c) (next-byte .ensures .0) (c .before .before .b .given .1)))
+loop-less-2 c = less (c .before .before)
 
 loop-again-2 : tie.Need-loop-again-2 Inv-loop μ-loop
 loop-again-2 c =
-    let loop = c .before .before .before .before .before .loop in
-    let next-byte = c .before .before .before .before .next-byte in
-    rw (← loop .inv, ← next-byte .ensures .0, c .before .before .b .given .1, ne-eqb _ 126 (c .if1 .left))
+    let b = c .before .before in
+    let n = b .before .before in
+    rw (← n .before .before .loop .inv, ← passed (n .before) .follows, ← n .next-byte .ensures .0, b .b .given .1, ne-eqb _ 126 (c .if1 .left))
 
 pub has-bad-tilde-spec : {M : Type 1} → statement M
 has-bad-tilde-spec =
@@ -69,6 +81,7 @@ has-bad-tilde-spec =
     μ-loop
     (λ c κs. search needs)
     loop-holds
+    (λ c κs. search needs)
     (λ c κs. search needs)
     (λ c. search needs)
     (λ c. search needs)

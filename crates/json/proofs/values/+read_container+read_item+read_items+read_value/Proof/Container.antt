@@ -3,6 +3,8 @@ use native.Mathlib.Omega.{arith}
 use Prim.Native.Nat.{ℕ, _+_, _-_}
 use mathlib.Core.Path.{refl}
 use mathlib.Core.List.{List}
+use lib.Dec.{ltb}
+use lib.ListN.{length}
 use lib.Seq.{slice}
 use Rattle.text.specs.Limits.{base}
 use Rattle.text.specs.Reader.{Read, valueAt}
@@ -10,8 +12,8 @@ use Rattle.laws.specs.Earliest.{firstRepeat}
 use Rattle.repeats.specs.Quoted.{tailAt}
 use Rattle.repeats.specs.Closed.{settle}
 use Rattle.repeats.proofs.Fair.{value-fair}
-use Rattle.repeats.proofs.Gathering.{names-climb}
-use Rattle.json.specs.Readers.{bracketOf, itemsAt, namesAt, Took}
+use Rattle.repeats.proofs.Gathering.{aside-climb}
+use Rattle.json.specs.Readers.{limitsIn, bracketOf, itemsAt, namesAt, Took}
 use Rattle.json.proofs.Ways.{container-deep, container-open}
 use Rattle.json.proofs.Closing.{kind-fits, closable, closed, took-settles}
 use Rattle.json.proofs.Store.{under-on}
@@ -30,7 +32,7 @@ calls t = (below of-items t, items.Post, settle-reads.Asked, settle-reads.Learnt
 module _ (t : ℕ) where
   pub returns : lts.Need-returns (calls t) (at of-container t) container.Post
   returns c =
-      let a = c .before .before .before .before .args in (container-deep (a .text .now) (a .ns) (a .ne) (a .at) (a .count) (a .of) (a .depth) (c .if1 .taken), λ j h. refl)
+      let a = c .before .before .before .before .args in (container-deep (limitsIn (a .names .now)) (a .text .now) (a .ns) (a .ne) (a .at) (a .count) (a .of) (a .depth) (c .if1 .taken), λ j h. refl)
 
   -- what was read inside, and the names that it closed
   abbrev Inner : Type 0
@@ -40,10 +42,10 @@ module _ (t : ℕ) where
   start k = k .before .before .before .before .before .before .before
 
   abbrev names : Inner → List ℕ
-  names k = let a = start k .args in namesAt (a .of) (a .text .now) (a .depth - 1) (a .at + 1) (a .count + 1)
+  names k = let a = start k .args in namesAt (limitsIn (a .names .now)) (a .of) (a .text .now) (a .depth - 1) (a .at + 1) (a .count + 1)
 
   abbrev inside : Inner → Read
-  inside k = let a = start k .args in itemsAt (a .of) (a .text .now) (a .depth - 1) (a .at + 1) (a .count + 1)
+  inside k = let a = start k .args in itemsAt (limitsIn (a .names .now)) (a .of) (a .text .now) (a .depth - 1) (a .at + 1) (a .count + 1)
 
   pub settle-requires : lts.Need-settle-requires (calls t) (at of-container t) container.Post
   settle-requires c κs =
@@ -51,11 +53,12 @@ module _ (t : ℕ) where
       let a = start k .args in
       let p = start k .pre .1 .0 in
       let d = k .read-items .ensures .added in
-      let value = valueAt base (a .text .now) (a .depth - 1) in
+      let L = limitsIn (a .names .now) in
+      let value = valueAt L (a .text .now) (a .depth - 1) in
       record {
         short = p .store .short;
         run = (d .from, d .room);
-        climbs = rw (d .is) (names-climb base refl (a .text .now) value (value-fair base (a .text .now) (a .depth - 1)) (bracketOf (a .of)) (a .at + 1) (a .count + 1));
+        climbs = rw (d .is) (aside-climb base (a .text .now) value (value-fair L (a .text .now) (a .depth - 1)) (ltb 0 (length (a .names .now))) (bracketOf (a .of)) (a .at + 1) (a .count + 1));
         most = omega (arith, d .long, p .store .most);
       }
 
@@ -96,7 +99,7 @@ module _ (t : ℕ) where
       let g = k .read-items in
       let o = k .before .before .before in
       let a = start k .args in
-      let opened = container-open (a .text .now) (a .ns) (a .ne) (a .at) (a .count) (a .of) (a .depth) (o .if1 .left) (omega (arith, start k .pre .1 .0 .few)) in
+      let opened = container-open (ltb 0 (length (a .names .now))) base (a .text .now) (a .ns) (a .ne) (a .at) (a .count) (a .of) (a .depth) (o .if1 .left) (omega (arith, start k .pre .1 .0 .few)) in
       let R = settle (firstRepeat (tailAt (a .text .now) 1) (names k)) (inside k) in (
         rw opened
             (closed (bracketOf (a .of)) R (a .ns) (a .ne) (a .at) (a .count) (a .text .now) (a .table .now) (g .last .1 .0) (e .last .0) (z .settle .result)

@@ -1,10 +1,8 @@
 -- The needs of `read_item`. Assumes nothing.
 use native.Mathlib.Omega.{arith}
 use Prim.Native.Nat.{ℕ}
-use lib.ListN.{length}
-use Rattle.text.specs.Limits.{base}
 use Rattle.text.specs.Reader.{valueAt}
-use Rattle.json.specs.Readers.{ItemRead}
+use Rattle.json.specs.Readers.{limitsIn, ItemRead}
 use Rattle.json.specs.declared.members.ItemStart.the-variants.{At, Wrong}
 use Rattle.json.proofs.Ways.{value-some}
 use Rattle.json.proofs.Store.{store-room, store-kept, added-kept}
@@ -28,7 +26,7 @@ module _ (t : ℕ) where
       record {
         short = omega (arith, p .store .short);
         inside = p .inside;
-        room = store-room (length (a .text .now)) (length (a .names .now)) (a .end) (a .at) (a .count) (p .store .enough) (p .few) (p .fewer) (p .inside) (p .spread);
+        room = store-room (a .text .now) (a .names .now) (a .end) (a .at) (a .count) p;
       }
 
   -- where the item begins, what `item_at` ensures says where
@@ -61,6 +59,7 @@ module _ (t : ℕ) where
           places = i .places;
           inside = i .inside;
           few = p .few;
+          held = omega (arith, begun b .added .room);
           fewer = omega (arith, p .fewer, i .one);
           spread = omega (arith, p .spread, i .spread);
         },
@@ -77,13 +76,15 @@ module _ (t : ℕ) where
       let i = k .inside in
       let from = g .1 .1 .0 in
       let top = g .1 .1 .1 .0 in
-      let R = valueAt base (a .text .now) (a .depth) (g .0) (g .1 .0) from (a .count) in
+      let L = limitsIn (a .names .now) in
+      let R = valueAt L (a .text .now) (a .depth) (g .0) (g .1 .0) from (a .count) in
+      let took = rw (k .added .long) at (v .ensures .0) in
       record {
-        took = λ done. rw (k .is (a .depth) (a .count) done)
-            (took-from R (a .text .now) (a .at) from (a .count) (a .table .now) (v .last .1 .0) (v .result) (i .later) (v .ensures .0));
+        took = λ done. rw (k .is L (a .depth) (a .count) done)
+            (took-from R (a .text .now) (a .at) from (a .count) (a .table .now) (v .last .1 .0) (v .result) (i .later) took);
         further =
-            took-further R (a .text .now) from (a .count) top (a .table .now) (v .last .1 .0) (v .result) (value-some base (a .text .now) (g .0) (g .1 .0) from (a .count) (a .depth))
-            (omega (arith, p .fewer, i .one)) (omega (arith, p .spread, i .spread)) (v .ensures .0);
+            took-further R (a .text .now) from (a .count) top (a .table .now) (v .last .1 .0) (v .result) (value-some L (a .text .now) (g .0) (g .1 .0) from (a .count) (a .depth))
+            (omega (arith, p .fewer, i .one)) (omega (arith, p .spread, i .spread)) took;
         added = added-kept (k .added) (v .last .1 .1 .0) (v .kept .1 .1 .0) (v .ensures .1);
       }
 
@@ -92,4 +93,4 @@ module _ (t : ℕ) where
       let b = c .before in
       let a = b .before .before .before .before .before .before .before .before .before .args in
       let k = wrong b in
-      record { took = λ done. k .is (a .depth) (a .count) done; further = tt; added = k .added }
+      record { took = λ done. k .is (limitsIn (a .names .now)) (a .depth) (a .count) done; further = tt; added = k .added }

@@ -1,20 +1,21 @@
 -- The needs of `read_items`. Assumes nothing.
 use native.Mathlib.Omega.{arith}
-use Prim.Native.Nat.{ℕ, _-_, _<_}
+use Prim.Native.Nat.{ℕ, _-_}
 use mathlib.Core.Path.{_≡_, sym, _∙_}
 use mathlib.Core.List.{List}
 use lib.ListN.{length}
 use Rattle.laws.proofs.Places.{inside}
 use Rattle.text.specs.Text.{byteAt}
+use Rattle.text.specs.Tree.{Forest}
 use Rattle.text.specs.Grammar.{closing}
 use Rattle.text.specs.Reader.{ItemReader}
 use Rattle.text.proofs.TokenEnds.{skip-span}
 use Rattle.text.proofs.Grammar.Sound.{byte-closing}
-use Rattle.repeats.specs.Closed.{ownName}
-use Rattle.json.specs.Readers.{Gone, Further, bracketOf, itemOf}
+use Rattle.repeats.specs.Closed.{asideName}
+use Rattle.json.specs.Readers.{limitsIn, Added, Took, Gone, Further, bracketOf, itemOf}
 use Rattle.json.specs.declared.values.Progress.the-variants.{Next}
-use Rattle.json.proofs.Store.{store-room, store-kept}
-use Rattle.json.proofs.Closing.{took-next, further-next}
+use Rattle.json.proofs.Store.{store-kept}
+use Rattle.json.proofs.Closing.{took-next, took-stop, further-next}
 use Rattle.json.proofs.Items.{Upto, Open, inside-none, names-none, upto-none, upto-length, upto-stop, stop-names, upto-bad, bad-names, upto-done, done-names, upto-more, more-later}
 use Rattle.json.proofs.values.read_items.Reads as items
 use Rattle.json.proofs.values.read_item.Reads as item
@@ -26,7 +27,7 @@ use Rattle.json.proofs.values.+read_container+read_item+read_items+read
 
 abbrev pub Inv-loop : lts.InvT-loop
 Inv-loop text table₀ names₀ depth top of from first z start b at₀ count₀ end₀ table names at count end =
-    Upto text (ownName text (bracketOf of)) (itemOf of text depth) (closing (bracketOf of)) start first top table₀ names₀ at count end table names
+    Upto text (asideName (limitsIn names₀) text (bracketOf of)) (itemOf (limitsIn names₀) of text depth) (closing (bracketOf of)) start first top table₀ names₀ at count end table names
 
 abbrev pub μ-loop : lts.MeasureT-loop
 μ-loop text table₀ names₀ depth top of from first z start b at₀ count₀ end₀ table names at count end = length text - at
@@ -42,10 +43,10 @@ module _ (t : ℕ) where
 
   -- what reads one item, the names of its own, and the closing byte
   abbrev item-of : Start → ItemReader
-  item-of c = itemOf (c .args .of) (c .args .text .now) (c .args .depth)
+  item-of c = itemOf (limitsIn (c .args .names .now)) (c .args .of) (c .args .text .now) (c .args .depth)
 
   abbrev own-of : Start → ℕ → List ℕ
-  own-of c = ownName (c .args .text .now) (bracketOf (c .args .of))
+  own-of c = asideName (limitsIn (c .args .names .now)) (c .args .text .now) (bracketOf (c .args .of))
 
   abbrev z : Start → ℕ
   z c = closing (bracketOf (c .args .of))
@@ -65,13 +66,6 @@ module _ (t : ℕ) where
 
   empty : (c : Empty) → let s = c .before .before .before .before .before .before .before in byteAt (s .args .text .now) (c .before .before .skip .result) ≡ z s
   empty c = sym (c .before .peek .ensures .0) ∙ c .if1 .taken ∙ c .before .before .before .closing .ensures
-
-  -- there is room for the names that are there
-  room : (s : Start) → s .args .top < length (s .args .names .now)
-  room s =
-      let p = s .pre .1 in
-      let a = s .args in
-      store-room (length (a .text .now)) (length (a .names .now)) (a .top) (a .from) (a .first) (p .store .enough) (p .few) (p .fewer) (p .inside) (p .spread)
 
   -- the place where an item has been read, and from there the places before it
   abbrev Item : Type 0
@@ -95,7 +89,17 @@ module _ (t : ℕ) where
   kept-names : (v : Item) → length (v .read-item .last .1 .1 .0) ≡ length (start v .args .names .now)
   kept-names v = v .read-item .kept .1 .1 .0 ∙ loop v .loop .inv .added .long
 
-  -- what the item's reader ensures there, by the case that was matched
+  -- what the item's reader ensures there: the store is as long as at the start, so the limits are the same
+  told : (v : Item)
+      → let a = start v .args in
+      let l = loop v .loop in
+      ((done : Forest) → Took (item-of (start v) done (l .at) (l .count)) (a .text .now) (l .at) (l .count) (l .table) (v .read-item .last .1 .0) (v .read-item .result .read))
+      × Added (own-of (start v) (l .at)) (l .end) (l .names) (v .read-item .result .end) (v .read-item .last .1 .1 .0)
+  told v =
+      let long = loop v .loop .inv .added .long in
+      (rw long at (v .read-item .ensures .took), rw long at (v .read-item .ensures .added))
+
+  -- by the case that was matched
   abbrev Read : Type 0
   Read = lts.After-read (calls t) (at of-items t) items.Post Inv-loop μ-loop
 
@@ -118,7 +122,7 @@ module _ (t : ℕ) where
       let a = start v .args in
       let l = loop v .loop in
       took-next (item-of (start v) (l .inv .done) (l .at) (l .count)) (a .text .now) (l .at) (l .count) (l .table) (v .read-item .last .1 .0)
-      (v .read-item .ensures .took (l .inv .done)) (r .read .given .1)
+      (told v .0 (l .inv .done)) (r .read .given .1)
 
   further : (r : Read) → Further (item-at r .read-item .result .end) (Next (to r) (after r))
   further r = further-next (item-at r .read-item .result .end) (item-at r .read-item .ensures .further) (r .read .given .1)
@@ -144,7 +148,7 @@ module _ (t : ℕ) where
       let x = c .before .before .skip in
       record {
         took = inside-none (a .text .now) (own-of s) (item-of s) (bracketOf (a .of)) (a .from) (x .result) (a .first) (x .ensures) (empty c) (a .table .now) (p .inside) (p .few);
-        added = names-none (a .text .now) (own-of s) (item-of s) (bracketOf (a .of)) (a .from) (x .result) (a .first) (x .ensures) (empty c) (a .top) (a .names .now) (omega (arith, room s));
+        added = names-none (a .text .now) (own-of s) (item-of s) (bracketOf (a .of)) (a .from) (x .result) (a .first) (x .ensures) (empty c) (a .top) (a .names .now) (p .held);
       }
 
   pub loop-holds : lts.Need-loop-holds (calls t) (at of-items t) items.Post Inv-loop μ-loop
@@ -154,7 +158,7 @@ module _ (t : ℕ) where
       let p = s .pre .1 in
       let x = c .before .before .skip in
       let k = skip-span (a .text .now) (a .from) (p .inside) in
-      upto-none (omega (arith, x .ensures, k .inside)) (p .few) (omega (arith, room s)) (p .fewer) (omega (arith, x .ensures, p .spread))
+      upto-none (omega (arith, x .ensures, k .inside)) (p .few) (p .held) (p .fewer) (omega (arith, x .ensures, p .spread))
 
   pub read-item-requires : lts.Need-read-item-requires (calls t) (at of-items t) items.Post Inv-loop μ-loop
   read-item-requires c κs =
@@ -167,6 +171,7 @@ module _ (t : ℕ) where
           store = store-kept (p .store) (l .names) (u .added .long);
           inside = u .within;
           few = u .few;
+          held = u .added .room;
           fewer = u .fewer;
           spread = u .spread;
         },
@@ -181,10 +186,12 @@ module _ (t : ℕ) where
   pub returns-2 : lts.Need-returns-2 (calls t) (at of-items t) items.Post Inv-loop μ-loop
   returns-2 c =
       let v = c .before .before .before .before .before .before in
-      let u = loop v .loop .inv in
+      let l = loop v .loop in
+      let u = l .inv in
+      let a = start v .args in
       let o = c .enum-told .given in
-      let e = (rw (o .1) at (v .read-item .ensures .took)) (u .done) in
-      record { took = rw (o .1) (upto-stop u (opening (opened v)) e); added = stop-names u (v .read-item .ensures .added) (opening (opened v)) e }
+      let e = took-stop (item-of (start v) (u .done) (l .at) (l .count)) (a .text .now) (l .at) (l .count) (l .table) (v .read-item .last .1 .0) (told v .0 (u .done)) (o .1) in
+      record { took = rw (o .1) (upto-stop u (opening (opened v)) e); added = stop-names u (told v .1) (opening (opened v)) e }
 
   pub add-next-2 : lts.Need-add-next-2 (calls t) (at of-items t) items.Post Inv-loop μ-loop
   add-next-2 c =
@@ -206,7 +213,7 @@ module _ (t : ℕ) where
       let x = c .before .before .skip2 in
       record {
         took = upto-done u (gone r) (x .result) (x .ensures) (opening (opened v)) (last c) (start v .pre .1 .inside) (byte-closing (bracketOf (start v .args .of)));
-        added = done-names u (gone r) (x .result) (x .ensures) (opening (opened v)) (last c) (v .read-item .ensures .added);
+        added = done-names u (gone r) (x .result) (x .ensures) (opening (opened v)) (last c) (told v .1);
       }
 
   pub same-length-5 : lts.Need-same-length-5 (calls t) (at of-items t) items.Post Inv-loop μ-loop
@@ -227,7 +234,7 @@ module _ (t : ℕ) where
       let no-comma : byteAt text (x .result) ≡ 44 → ⊥ = λ q. c .if3 .taken (b .ensures .0 ∙ q) in
       record {
         took = upto-bad u (gone r) (x .result) (x .ensures) (opening (opened v)) no-end no-comma;
-        added = bad-names u (gone r) (x .result) (x .ensures) (opening (opened v)) no-end no-comma (v .read-item .ensures .added);
+        added = bad-names u (gone r) (x .result) (x .ensures) (opening (opened v)) no-end no-comma (told v .1);
       }
 
   pub add-skip : lts.Need-add-skip (calls t) (at of-items t) items.Post Inv-loop μ-loop
@@ -252,4 +259,4 @@ module _ (t : ℕ) where
       let r = c .before .before .before .before .before .before in
       let v = item-at r in
       let x = c .before .before .before .before .skip2 in
-      upto-more (loop v .loop .inv) (gone r) (x .result) (x .ensures) (no-end c) (omega arith) (c .skip3 .result) (c .skip3 .ensures) (v .read-item .ensures .added) (further r)
+      upto-more (loop v .loop .inv) (gone r) (x .result) (x .ensures) (no-end c) (omega arith) (c .skip3 .result) (c .skip3 .ensures) (told v .1) (further r)

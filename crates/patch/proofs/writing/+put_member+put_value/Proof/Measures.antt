@@ -9,20 +9,20 @@ use Rattle.patch.proofs.writing.put_member.Kinds as member-kinds
 use Rattle.patch.proofs.writing.put_value.Reads as value
 use Rattle.patch.proofs.writing.put_value.Kinds as value-kinds
 
-abbrev pub μ-member : Measures 6 member-kinds.ps ℕ
+abbrev pub μ-member : Measures 8 member-kinds.ps ℕ
 μ-member κs a = 2 * (length (a .1 .0 .now) - a .1 .1 .0) + 1
 
-abbrev pub μ-value : Measures 6 value-kinds.ps ℕ
+abbrev pub μ-value : Measures 8 value-kinds.ps ℕ
 μ-value κs a = 2 * (length (a .1 .0 .now) - a .1 .1 .0)
 
-abbrev pub member-at : ℕ → In 6 member-kinds.ps
-member-at t = and 6 member-kinds.ps (is 6 member-kinds.ps μ-member t) member.Pre
+abbrev pub member-at : ℕ → In 8 member-kinds.ps
+member-at t = and 8 member-kinds.ps (is 8 member-kinds.ps μ-member t) member.Pre
 
-abbrev pub member-below : ℕ → In 6 member-kinds.ps
-member-below t = and 6 member-kinds.ps (falls 6 member-kinds.ps _<_ μ-member t) member.Pre
+abbrev pub member-below : ℕ → In 8 member-kinds.ps
+member-below t = and 8 member-kinds.ps (falls 8 member-kinds.ps _<_ μ-member t) member.Pre
 
-abbrev pub value-at : ℕ → In 6 value-kinds.ps
-value-at t = and 6 value-kinds.ps (is 6 value-kinds.ps μ-value t) value.Pre
+abbrev pub value-at : ℕ → In 8 value-kinds.ps
+value-at t = and 8 value-kinds.ps (is 8 value-kinds.ps μ-value t) value.Pre
 
-abbrev pub value-below : ℕ → In 6 value-kinds.ps
-value-below t = and 6 value-kinds.ps (falls 6 value-kinds.ps _<_ μ-value t) value.Pre
+abbrev pub value-below : ℕ → In 8 value-kinds.ps
+value-below t = and 8 value-kinds.ps (falls 8 value-kinds.ps _<_ μ-value t) value.Pre

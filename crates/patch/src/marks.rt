@@ -1,0 +1,87 @@
+// What is marked of the entries while they are walked (docs/RULES.md, 6.3), by their places in the sorted list. A word, the cue: below MET the place in the
+// entry's key where its part at hand begins; from MET on the entry has met a member of the object at hand, and the rest is that member's row. And a byte: where
+// the walk ends.
+use crate::children::key_at;
+use pointers::keys::After;
+use pointers::keys::after_part;
+ghost use Rattle.laws.specs.Lists.{RunIn};
+ghost use Rattle.patch.specs.Marks.{PlaceWord, MetWord, FilledWith, MetWith, RunCued, NextCue, Advanced};
+
+// No card has a key as long as this, nor as many rows.
+pub(crate) const MET: usize = 2147483648;
+
+// The walk arrives at an object, goes inside an array (25), or meets no object (26).
+pub(crate) const ARRIVES: u8 = 0;
+
+pub(crate) const IN_ARRAY: u8 = 1;
+
+pub(crate) const NO_OBJECT: u8 = 2;
+
+// A place as a cue.
+fn place_word(at: usize) -> u32
+    ensures { λ r. ⌜ PlaceWord at r ⌝ }
+{
+    if MET <= at {
+        return 0;
+    }
+    at as u32
+}
+
+// A member's row as a cue.
+pub(crate) fn met_word(row: usize) -> u32
+    ensures { λ r. ⌜ MetWord row r ⌝ }
+{
+    if MET <= row {
+        return 0;
+    }
+    (MET + row) as u32
+}
+
+// The entries from lo up to hi have met the member at a row.
+pub(crate) fn meet(cues: &mut [u32], lo: usize, hi: usize, row: usize)
+    requires { ⌜ RunIn (now cues) lo hi ⌝ }
+    ensures { λ _. ⌜ MetWith (now (cues .entry)) lo hi row (now (cues .exit)) ⌝ }
+{
+    let w = met_word(row);
+    for i in lo..hi {
+        cues[i] = w;
+    }
+}
+
+// The walks of the entries from lo up to hi end so.
+pub(crate) fn end_all(walks: &mut [u8], lo: usize, hi: usize, code: u8)
+    requires { ⌜ RunIn (now walks) lo hi ⌝ }
+    ensures { λ _. ⌜ FilledWith (now (walks .entry)) lo hi code (now (walks .exit)) ⌝ }
+{
+    for i in lo..hi {
+        walks[i] = code;
+    }
+}
+
+// Where the part after the one at a place of a key begins, as a cue; 0 if there is none.
+fn next_cue(key: &[u8], at: usize) -> u32
+    ensures { λ r. ⌜ NextCue (now (key .entry)) at r ⌝ }
+{
+    match after_part(key, at) {
+        After::Nothing => 0,
+        After::At(to) => place_word(to),
+    }
+}
+
+// The entries from lo up to hi go on to their next parts.
+pub(crate) fn advance(
+    ptext: &[u8],
+    ptable: &[u32],
+    rows: &[u32],
+    cues: &mut [u32],
+    lo: usize,
+    hi: usize,
+)
+    requires { ⌜ RunCued (now rows) (now cues) lo hi ⌝ }
+    ensures { λ _. ⌜ Advanced (now (ptext .entry)) (now (ptable .entry)) (now (rows .entry)) lo hi (now (cues .entry)) (now (cues .exit)) ⌝ }
+{
+    for i in lo..hi {
+        let key = key_at(ptext, ptable, rows[i] as usize);
+        cues[i] = next_cue(key, cues[i] as usize);
+    }
+}
