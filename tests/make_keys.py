@@ -108,6 +108,35 @@ def alike():
         yield keyed(way[::-1] + b"/x", way)
 
 
+def spelled_ways():
+    """`localizations` and the language spelled by escapes: the key stands further on."""
+    for member in (b"localizations", b"\\u006cocalizations", b"localization\\u0073"):
+        for language in (b"de", b"\\u0064e", b"d\\u0065", b"\\u0064\\u0065"):
+            for key in (b"b~", b"localizations", b"a/b/c/d", b"x/0", b"good"):
+                yield card(OWN, b'"' + member + b'":{"fr":{"~":1},"' + language + b'":{' + entry(key) + b"}}")
+
+
+# What may follow a beginning that keys have in common: tildes in any company, escapes of them, slashes, and the bytes beside these.
+TAILS = (
+    b"~0a", b"~1a", b"~01", b"~00", b"~1", b"~0~1", b"~1~0", b"a", b"!", b"\\u007e0b", b"~\\u0031b", b"\\u007e\\u0030c", b"\\u0061b", b"\\n", b"\xc3\xa9",
+    b"\\u00e9a", b"b/a")
+
+
+def eights():
+    """Keys that are told apart behind beginnings of up to 17 bytes, since bytes are compared eight at a time: which of them clashes, and which member each
+    replaces or adds; names with slashes and tildes among the members."""
+    names = {b"": b"", b"/": b"~1", b"~": b"~0", b"~1": b"~01", b"/a": b"~1a", b"0": b"0", b"\\u002fb": b"~1b", b"\\u007e0": b"~00", b"z": b"\\u007a", b"/~/": b"~1~0~1"}
+    for size in (0, 1, 5, 6, 7, 8, 9, 14, 15, 16, 17):
+        for same in sorted({b"y" * size, (b"~1~0" * 5)[:size - size % 2] + b"y" * (size % 2)}):
+            for tail in TAILS[size % 4::4]:
+                yield keyed(*(same + other for other in TAILS), same + tail + b"/x")
+        same = b"y" * size
+        inside = b'"w":{' + b",".join(entry(same + name, b"[]") for name in names) + b"}"
+        for some in (list(names), list(names)[::-2], list(names)[1::3]):
+            yield patched(*(entry(b"w/" + same + names[name], b"{}") for name in some), own=inside)
+            yield patched(*(entry(b"w/" + same + names[name] + b"q", b"{}") for name in some), entry(b"w/" + same + b"~1", b"null"), own=inside)
+
+
 # Names that are taken by chance, and as parts of keys: bytes around `/`, tildes, nothing at all, and another alphabet.
 NAMES = {
     b"a": b"a", b"b": b"\\u0062", b"a!": b"a!", b"a0": b"a0", b"": b"", b"ab": b"ab", b"~": b"~0", b"/": b"~1", b"a/": b"\\u0061~1", b"\\u00e9": b"\xc3\xa9", b"x": b"x"}
@@ -221,7 +250,7 @@ def limits():
 
 def texts():
     """All that share one base text, but for those in every order."""
-    return itertools.chain(several(), standing(), alike())
+    return itertools.chain(several(), standing(), alike(), spelled_ways(), eights())
 
 
 def recipes():

@@ -100,9 +100,8 @@ pub record SmallestKey (d : Doc) (ms : Members) (number : ℕ) (key : Name) : Ty
 
 -- the smallest number that is broken, and of the keys that break it the smallest in byte order
 pub record FirstBroken (d : Doc) (ms : Members) (number : ℕ) (key : Name) : Type 0 where
-  pub breaks : BreaksWith d ms number key
+  pub smallest : SmallestKey d ms number key
   pub least : (m : ℕ) (other : Name) → BreaksWith d ms m other → number ≤ m
-  pub no-earlier : (other : Name) → BreaksWith d ms number other → ¬ Earlier other key
 
 -- ---- the PatchObject, and the card without its localizations
 

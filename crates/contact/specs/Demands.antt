@@ -40,7 +40,7 @@ use Rattle.contact.specs.Signatures.{AsSigned}
 use Rattle.contact.specs.Breaches.{Sees}
 use Rattle.contact.specs.Judging.{CardText, Offends, Judges}
 use Rattle.contact.specs.Places.{KeyStands, keyPlace}
-use Rattle.contact.specs.Conditions.{LooseTilde, HasKey, PointsAt, PatchOf, PatchUnder, SecondNumber, BrokenCondition, Applicable, FirstBroken, Smallest}
+use Rattle.contact.specs.Conditions.{LooseTilde, HasKey, PointsAt, PatchOf, PatchUnder, LeftOutOf, SecondNumber, BrokenCondition, Applicable, FirstBroken, Smallest}
 use Rattle.contact.specs.Entries.{Asked}
 use Rattle.contact.specs.Patching.{OrderOnly, PatchedCard, WrittenCard}
 use Rattle.contact.specs.Contract.{Localizes}
@@ -222,7 +222,8 @@ pub record Localizing (L : Limits) (serve : Call → Left) : Type 0 where
   -- the place at which that key stands in the text
   pub key-at-fault : (t : List ℕ) (lang : Name) (words room : ℕ) (f : Forest) → CardText L words t f → (n place : ℕ) → Within 22 26 n
       → (serve (localize t lang words room) .answer ≡ numbers n place 0)
-      ↔ ((ms : Members) × (key : Name) × PatchOf (docOf t f) lang ms × FirstBroken (start (docOf t f)) ms n key × KeyStands t f lang key place)
+      ↔ ((ms : Members) × (card : Doc) × (key : Name) × PatchOf (docOf t f) lang ms × LeftOutOf (bytes "localizations") (docOf t f) card
+      × FirstBroken card ms n key × KeyStands t f lang key place)
   -- each key of the PatchObject stands at one place, which is the one that is found
   pub key-places : (t : List ℕ) (lang : Name) (words : ℕ) (f : Forest) → CardText L words t f → (ms : Members) → PatchOf (docOf t f) lang ms
       → (key : Name) → HasKey key ms → (place : ℕ) → KeyStands t f lang key place ↔ (place ≡ keyPlace t f lang key)

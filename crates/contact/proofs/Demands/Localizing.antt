@@ -7,6 +7,7 @@ use mathlib.Core.Logic.{_⊎_, _↔_}
 use mathlib.Core.List.{List}
 use lib.ListN.{length}
 use Rattle.text.specs.Limits.{Limits}
+use Rattle.text.specs.Text.{bytes}
 use Rattle.text.specs.Tree.{Forest}
 use Rattle.text.specs.Sheet.{numbers}
 use Rattle.text.specs.Grammar.{rootOf}
@@ -17,7 +18,7 @@ use Rattle.text.proofs.Grammar.Accepted.{accepts}
 use Rattle.contact.specs.Verdict.{refusedCard, Judged, passed, failed, judgedOf, sheetOfJudged, paperOfVerdict}
 use Rattle.contact.specs.Localize.{refusedLocal, keyRefusal, Outcome, done, denied, start, patchedDoc, localizedDoc, localizedOf, sheetOfOutcome, tableOfOutcome, outputOfOutcome, answerOfOutcome, paperOfLocalized}
 use Rattle.contact.specs.Places.{KeyStands, keyPlace}
-use Rattle.contact.specs.Conditions.{PatchOf, SecondNumber, inside, BrokenCondition, Applicable, FirstBroken, Smallest}
+use Rattle.contact.specs.Conditions.{PatchOf, LeftOutOf, SecondNumber, inside, BrokenCondition, Applicable, FirstBroken, Smallest}
 use Rattle.contact.specs.Services.{judge, localize, served}
 use Rattle.contact.specs.Judging.{CardText}
 use Rattle.contact.specs.Demands.{Passes, Within, WouldBe, Localization}
@@ -31,6 +32,7 @@ use Rattle.contact.proofs.Patching.Public.{passed-so, failed-so}
 use Rattle.contact.proofs.Patching.Entering.{Accepted, late-applicable, unfit-of, key-second, key-smallest, smallest-key}
 use Rattle.contact.proofs.Patching.Faults.{breaks-there}
 use Rattle.contact.proofs.Patching.Places.{key-places}
+use Rattle.contact.proofs.Patching.Start.{start-left, start-only}
 use Rattle.contact.proofs.Patching.Refused.{AcceptedCard, accepted-iff, accepted-unbroken, refused-iff, patch-of, smallest-of, smallest-on, broken-number, broken-second}
 use Rattle.contact.proofs.Patching.Fine.{fine}
 use Rattle.contact.proofs.Patching.Together.{patched-card}
@@ -136,25 +138,31 @@ module _ (L : Limits) (unique : L .unique ≡ true) (words room : ℕ) (t : List
             rw (passed-so L words room t lang f pass, e) (second-sheet x ∙ ap (λ (m : ℕ). numbers m second 0) number)
 
     -- 22 to 26 by the key
+    abbrev AtFault : (n p : ℕ) → Type 0
+    AtFault n p =
+        (ms : Members) × (card : Doc) × (key : Name) × PatchOf (docOf t f) lang ms × LeftOutOf (bytes "localizations") (docOf t f) card
+        × FirstBroken card ms n key × KeyStands t f lang key p
+
     pub localize-key : CardText L words t f → (n p : ℕ) → Within 22 26 n
         → (served L (localize t lang words room) .answer ≡ numbers n p 0)
-        ↔ ((ms : Members) × (key : Name) × PatchOf (docOf t f) lang ms × FirstBroken (start (docOf t f)) ms n key × KeyStands t f lang key p)
+        ↔ AtFault n p
     localize-key c n p (low, high) = (λ e. to (localize-refused n p (omega arith) .0 e), λ x. localize-refused n p (omega arith) .1 (from x))
       where
         to : (r : LocalRefusal) × SecondNumber r p × Smallest (BrokenCondition L words room place (docOf t f) lang) n r
-            → (ms : Members) × (key : Name) × PatchOf (docOf t f) lang ms × FirstBroken (start (docOf t f)) ms n key × KeyStands t f lang key p
+            → AtFault n p
         to (r, x, s) =
             let (ms, patch) = patch-of L words room place (docOf t f) lang (s .broken) (omega arith) in
             let (key, b, is) = smallest-key L words room place (start (docOf t f)) ms n r high (smallest-on L words room place (docOf t f) lang ms patch s) in
-            let e : p ≡ place key = one-second (subst (λ (q : LocalRefusal). SecondNumber q p) is x) (key-second (place key) (b .breaks)) in
-            (ms, key, patch, b, key-places L unique words t f c lang ms patch key (breaks-there (b .breaks)) p .1 e)
+            let e : p ≡ place key = one-second (subst (λ (q : LocalRefusal). SecondNumber q p) is x) (key-second (place key) (b .smallest .breaks)) in
+            (ms, start (docOf t f), key, patch, start-left (docOf t f) lang ms patch, b, key-places L unique words t f c lang ms patch key (breaks-there (b .smallest .breaks)) p .1 e)
 
-        from : (ms : Members) × (key : Name) × PatchOf (docOf t f) lang ms × FirstBroken (start (docOf t f)) ms n key × KeyStands t f lang key p
+        from : AtFault n p
             → (r : LocalRefusal) × SecondNumber r p × Smallest (BrokenCondition L words room place (docOf t f) lang) n r
-        from (ms, key, patch, b, k) =
-            let e : p ≡ place key = key-places L unique words t f c lang ms patch key (breaks-there (b .breaks)) p .0 k in (
+        from (ms, card, key, patch, left, first, k) =
+            let b = subst (λ (d : Doc). FirstBroken d ms n key) (start-only left) first in
+            let e : p ≡ place key = key-places L unique words t f c lang ms patch key (breaks-there (b .smallest .breaks)) p .0 k in (
               keyRefusal n (place key),
-              subst (SecondNumber (keyRefusal n (place key))) (sym e) (key-second (place key) (b .breaks)),
+              subst (SecondNumber (keyRefusal n (place key))) (sym e) (key-second (place key) (b .smallest .breaks)),
               smallest-of L words room place (docOf t f) lang ms patch (key-smallest L words room place (start (docOf t f)) ms b),
             )
 

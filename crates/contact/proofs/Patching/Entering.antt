@@ -85,15 +85,15 @@ module _ (L : Limits) (words room : ℕ) (place : Name → ℕ) (d : Doc) (ms : 
   -- ---- 22 to 26
 
   first-broken : {n : ℕ} {key : Name} → FirstBroken d ms n key → B n (keyRefusal n (place key))
-  first-broken s = withKey (record { breaks = s .breaks; no-earlier = s .no-earlier })
+  first-broken s = withKey (s .smallest)
 
   pub key-smallest : {n : ℕ} {key : Name} → FirstBroken d ms n key → Smallest B n (keyRefusal n (place key))
   key-smallest {n} {key} s = record { broken = first-broken s; least = go }
     where
       go : (m : ℕ) (q : LocalRefusal) → B m q → n ≤ m
       go m q (withKey {key = other} b) = s .least m other (b .breaks)
-      go m q (short k) = omega (arith, up-to-26 d ms n key (s .breaks))
-      go m q (unfit e) = omega (arith, up-to-26 d ms n key (s .breaks))
+      go m q (short k) = omega (arith, up-to-26 d ms n key (s .smallest .breaks))
+      go m q (unfit e) = omega (arith, up-to-26 d ms n key (s .smallest .breaks))
 
   from-27 : Applicable d ms → AtLeast 27
   from-27 u m q (withKey {key = key} b) = absurd (u m key (b .breaks))
@@ -106,7 +106,7 @@ module _ (L : Limits) (words room : ℕ) (place : Name → ℕ) (d : Doc) (ms : 
     where
       go : (f : PatchFault) → Due d ms f → Applicable d ms
       go allKept u = u
-      go (brokenBy n key) s = absurd (omega (arith, h n _ (first-broken s), up-to-26 d ms n key (s .breaks)))
+      go (brokenBy n key) s = absurd (omega (arith, h n _ (first-broken s), up-to-26 d ms n key (s .smallest .breaks)))
 
   -- ---- 27 and 28
 

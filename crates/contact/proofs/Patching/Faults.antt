@@ -162,7 +162,7 @@ module _ (d : Doc) (ms : Members) where
   or-else n (some key) rest h l go = smallest
     where
       smallest : FirstBroken d ms n key
-      smallest = record { breaks = l .0; least = h; no-earlier = λ other b e. true≢false (sym (before-earlier other key .1 e) ∙ l .1 other b) }
+      smallest = record { smallest = record { breaks = l .0; no-earlier = λ other b e. true≢false (sym (before-earlier other key .1 e) ∙ l .1 other b) }; least = h }
 
   pub fault-found : Due (faultIn d ms)
   unfolding faultIn
@@ -177,18 +177,18 @@ module _ (d : Doc) (ms : Members) where
   -- ---- the theorems
 
   fault-so : (f : PatchFault) → Due f → (n : ℕ) (key : Name) → FirstBroken d ms n key → f ≡ brokenBy n key
-  fault-so allKept u n key s = absurd (u n key (s .breaks))
+  fault-so allKept u n key s = absurd (u n key (s .smallest .breaks))
   fault-so (brokenBy m other) u n key s =
-      let h : n ≤ m = s .least m other (u .breaks) in
-      let k : m ≤ n = u .least n key (s .breaks) in
+      let h : n ≤ m = s .least m other (u .smallest .breaks) in
+      let k : m ≤ n = u .least n key (s .smallest .breaks) in
       let e : m ≡ n = omega arith in
       let v : FirstBroken d ms n other = subst (λ (x : ℕ). FirstBroken d ms x other) e u in
-      let q : other ≡ key = one-key other key (s .no-earlier other (v .breaks)) (v .no-earlier key (s .breaks)) in
+      let q : other ≡ key = one-key other key (s .smallest .no-earlier other (v .smallest .breaks)) (v .smallest .no-earlier key (s .smallest .breaks)) in
       ap₂ brokenBy e q
 
   kept-so : (f : PatchFault) → Due f → Applicable d ms → f ≡ allKept
   kept-so allKept u a = refl
-  kept-so (brokenBy n key) u a = absurd (a n key (u .breaks))
+  kept-so (brokenBy n key) u a = absurd (a n key (u .smallest .breaks))
 
   pub fault-iff : (n : ℕ) (key : Name) → (faultIn d ms ≡ brokenBy n key) ↔ FirstBroken d ms n key
   fault-iff n key = (λ e. subst Due e fault-found, fault-so (faultIn d ms) fault-found n key)

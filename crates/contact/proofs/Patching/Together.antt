@@ -221,7 +221,7 @@ module _ (L : Limits) (words room : ℕ) (place other : Name → ℕ) where
       go (brokenBy n key) e =
           let q = sym (fault-order d σ) ∙ e in
           rw (broken-so L words room place d ms n key e, broken-so L words room other d ns n key q)
-          (one-fault (fault-iff d ms n key .0 e .breaks) (fault-iff d ns n key .0 q .breaks))
+          (one-fault (fault-iff d ms n key .0 e .smallest .breaks) (fault-iff d ns n key .0 q .smallest .breaks))
 
 -- with its PatchObject a card is localized by the entries
 patch-so : (L : Limits) (words room : ℕ) (place : Name → ℕ) (card : Doc) (lang : Name) (ms : Members) → PatchOf card lang ms
