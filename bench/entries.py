@@ -9,9 +9,9 @@ LONGEST, MOST_VALUES = 1 << 20, 32768  # bytes and values that a text may have
 LEAST, SIZES = 400, 6  # entries, or parts, of the smallest size, and how many sizes there are at most
 DEEPEST = 63  # objects below the card's own
 
-# A sort of patch: its name, a card text for so many entries (or parts of a key), how many these are at the limits, and whether the card is localized, so
-# that its time is held to that of judging.
-Sort = collections.namedtuple("Sort", "name text most localized")
+# A sort of patch: its name, a card text for so many entries (or parts of a key), how many these are at the limits, and whether its time is held to that of
+# judging: not where the card is refused, and not where a stranger makes comparisons dear.
+Sort = collections.namedtuple("Sort", "name text most held")
 
 
 def members(names, value=b"0"):
@@ -50,17 +50,15 @@ def squared(count):
     return patched([b'"x":{' + members(mixed(names), inner) + b"}"], [b"x/%s/n%03d" % (name, i) for name in names for i in range(side)])
 
 
-def nest(inner, levels):
+def nest(inner, levels, name):
     """Objects, one in the other."""
-    return b'"x":' + b'{"a":' * levels + inner + b"}" * levels
+    return b'"x":' + b'{"%s":' % name * levels + inner + b"}" * levels
 
 
-WAY = b"x" + b"/a" * (DEEPEST - 2)
-
-
-def deep(key):
-    """The members stand in the innermost object, so every key has as many parts as may be."""
-    return lambda count: patched([nest(b"{" + members(mixed(numbered(b"n%05d", count))) + b"}", DEEPEST - 2)], numbered(WAY + key, count))
+def deep(key, name=b"a", part=b"a"):
+    """The members stand in the innermost object, so every key has as many parts as may be; the objects between have one name, by this part of a key."""
+    way = b"x" + b"/" + (part + b"/") * (DEEPEST - 2)
+    return lambda count: patched([nest(b"{" + members(mixed(numbered(b"n%05d", count))) + b"}", DEEPEST - 2, name)], numbered(way + key, count))
 
 
 def every_depth(count):
@@ -86,9 +84,9 @@ def long_part(count):
     return patched([held], [b"x/" + b"y" * count])
 
 
-def long_keys(count):
-    """Names of members that begin alike for a long way."""
-    return patched([b'"x":{' + members(mixed(numbered(b"y" * 300 + b"%05d", count))) + b"}"], numbered(b"x/" + b"y" * 300 + b"%05d", count))
+def long_keys(name, part):
+    """Names of members that begin alike for a long way, and what stands for this in a key."""
+    return lambda count: patched([b'"x":{' + members(mixed(numbered(name + b"%05d", count))) + b"}"], numbered(b"x/" + part + b"%05d", count))
 
 
 def spelled(count):
@@ -118,11 +116,14 @@ def sorts():
     yield Sort("entered, of the card", own_members(b"x%05d/a"), 10910, True)
     yield Sort("entered, to add", own_members(b"x%05d/b"), 10910, True)
     yield Sort("objects of many", squared, 16000, True)
-    yield Sort("deep pointers", deep(b"/n%05d"), 6900, True)
-    yield Sort("deep pointers, to add", deep(b"/m%05d"), 6900, True)
+    yield Sort("deep pointers", deep(b"n%05d"), 6900, True)
+    yield Sort("deep pointers, to add", deep(b"m%05d"), 6900, True)
     yield Sort("at every depth", every_depth, 10000, True)
-    yield Sort("long keys", long_keys, 1650, True)
+    yield Sort("long keys", long_keys(b"y" * 300, b"y" * 300), 1650, True)
     yield Sort("spelled by escapes", spelled, 16370, True)
+    yield Sort("parts of tildes", deep(b"n%05d", b"/", b"~1"), 4900, False)
+    yield Sort("names of tildes", long_keys(b"/" * 100, b"~1" * 100), 3000, False)
+    yield Sort("behind an escape", long_keys(b"\\n" + b"y" * 300, b"\\n" + b"y" * 300), 1640, False)
     yield Sort("one key of many parts", many_parts, 130000, False)
     yield Sort("one key of one long part", long_part, 260000, True)
     yield Sort("no parent: 26", one_object(b"no/n%05d"), 16370, False)
