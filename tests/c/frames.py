@@ -16,10 +16,11 @@ OPEN = {"json::values::read_value": 65, "json::values::read_container": 64, "car
     "patch::writing::copy_value": 65, "patch::writing::put_value": 65, "patch::sort::sort": 16, "json::sort::sort": 16}
 # These never call themselves: they are written so that their arrays are in no other frame. The texts, names and entries that they would do it for are
 # refused before.
-ONCE = {"json::read::read_long", "json::sort::sort_names", "json::sort::sort_many", "patch::compose::compose", "patch::compose::compose_many"}
+ONCE = {"json::read::read_long", "json::sort::sort_names", "json::sort::sort_many", "patch::compose::compose", "patch::compose::compose_more",
+    "patch::compose::compose_many"}
 # And these only a text of more than BEZINKOL_SHORT_BYTES bytes reaches, which has more than 1,024 names or more than 640 entries: they are left out of the
 # figure for short texts.
-LONG = {"json::read::read_long", "json::sort::sort_many", "patch::compose::compose_many"}
+LONG = {"json::read::read_long", "json::sort::sort_many", "patch::compose::compose_more", "patch::compose::compose_many"}
 OBJDUMP = os.environ.get("OBJDUMP", "objdump")
 PROBE = 0x1000  # a large frame is taken by pages; where that is a loop, its size is in r11
 

@@ -1,17 +1,21 @@
--- The marks that `plain_bytes` makes: a byte that isn't plain gets its highest bit, so the zeros below the lowest mark tell how many bytes are plain.
--- What the code does to eight bytes at once it does to each: by blocks of a byte (`marks-bytes`), and of one byte by trying all 256 (`computed`).
+-- Marks in the bytes of a number, by which the code tells eight bytes at once:
+--     xor-seven                                  its sums fit
+--     plain-marked, own-marked                   the bytes below the lowest mark are plain, and plain and neither slashes nor tildes
+--     counted                                    zeros below the lowest bit, eight for each byte
+--     alike-marked                               bytes below the lowest mark and the lowest bit in which two numbers differ
+-- What the code does to eight bytes at once it does to each: by blocks of a byte (`marks-bytes`), and of one byte by trying all 256 (`by-trying`).
 -- Assumes nothing.
 use Prim.Native.Nat.{ℕ, zero, suc, _+_, _*_, _/_, _%_, _≤_, _<_}
-use mathlib.Core.Path.{_≡_, refl, sym, subst}
+use mathlib.Core.Path.{_≡_, refl, sym, subst, _∙_}
 use mathlib.Core.Bool.{Bool, true, false, _&&_, _||_, not, true≢false}
 use native.Mathlib.Omega.{arith}
 use native.Mathlib.Decide.{decLe}
 use lib.Dec.{ltb, leb, eqb}
-use lib.Bits.{bitAnd, bitOr, bitXor, and-block, or-block, xor-block, and-le-l, and-le-r, xor-add-and, or-lt, xor-lt, and-lt}
+use lib.Bits.{bitAnd, bitOr, bitXor, and-block, or-block, xor-block, and-le-l, and-le-r, or-add-and, xor-add-and, or-lt, xor-lt, and-lt}
 use lib.Count.{under, trailingZeros, trailing-le}
 use borrow.Author.Tests.{ltb-true, leb-true, eqb-false}
 use Rattle.laws.proofs.Picks.{denied}
-use Rattle.json.specs.Plain.{Plain, Plains, AlikeBytes}
+use Rattle.json.specs.Plain.{Plain, Own, Bytes, AlikeBytes, Zero, Marked}
 
 -- ---- bytes of a number
 
@@ -45,44 +49,52 @@ repeated : (n c : ℕ) → c < 256 → Block (rep (suc n) c) (rep n c) c
 unfolding rep
 repeated n c h = record { is = refl; small = h }
 
+-- where the lowest byte is zero
+clear : (k : ℕ) {w v b : ℕ} → Block w v b → Bytes Zero (suc k) w → (b ≡ 0) × Bytes Zero k v
+clear k {w} {v} {b} p z =
+    let high : w / 256 ≡ v = omega (arith, p .is, p .small) in
+    let low : w % 256 ≡ b = omega (arith, p .is, p .small) in
+    (sym low ∙ z .0, subst (Bytes Zero k) high (z .1))
+
 -- ---- the marks
 
-abbrev marked : (w low turned shown slash ones top : ℕ) → ℕ
-marked w low turned shown slash ones top = bitAnd (bitOr w (bitXor (bitAnd (bitXor low turned + shown) (bitXor low slash + ones)) top)) top
+-- a byte has its mark unless both sums of its lowest seven bits reach 128
+abbrev marked : (w low x c y d top : ℕ) → ℕ
+marked w low x c y d top = bitAnd (bitOr w (bitXor (bitAnd (bitXor low x + c) (bitXor low y + d)) top)) top
 
-unfoldable marks : (n w : ℕ) → ℕ
-marks n w = marked w (bitAnd w (rep n 127)) (rep n 2) (rep n 95) (rep n 92) (rep n 127) (rep n 128)
+module _ (x c y d : ℕ) where
+  unfoldable marks : (n w : ℕ) → ℕ
+  marks n w = marked w (bitAnd w (rep n 127)) (rep n x) (rep n c) (rep n y) (rep n d) (rep n 128)
 
-unfoldable mark : ℕ → ℕ
-mark b = marked b (bitAnd b 127) 2 95 92 127 128
+  unfoldable mark : ℕ → ℕ
+  mark b = marked b (bitAnd b 127) x c y d 128
 
-marks-bytes : (n : ℕ) {w v b : ℕ} → Block w v b → Block (marks (suc n) w) (marks n v) (mark b)
-unfolding marks mark
-marks-bytes n {w} {v} {b} p =
-    let seven = repeated n 127 (omega arith) in
-    let top = repeated n 128 (omega arith) in
-    let low = and-bytes p seven in
-    let l = and-le-r b 127 in
-    let q = xor-lt 7 (bitAnd b 127) 2 (omega arith) (omega arith) in
-    let s = xor-lt 7 (bitAnd b 127) 92 (omega arith) (omega arith) in
-    let shown = sum-bytes (xor-bytes low (repeated n 2 (omega arith))) (repeated n 95 (omega arith)) (omega arith) in
-    let slash = sum-bytes (xor-bytes low (repeated n 92 (omega arith))) seven (omega arith) in
-    and-bytes (or-bytes p (xor-bytes (and-bytes shown slash) top)) top
+  module _ (x-seven : x < 128) (c-most : c ≤ 128) (y-seven : y < 128) (d-most : d ≤ 128) where
+    marks-bytes : (n : ℕ) {w v b : ℕ} → Block w v b → Block (marks (suc n) w) (marks n v) (mark b)
+    unfolding marks mark
+    marks-bytes n {w} {v} {b} p =
+        let top = repeated n 128 (omega arith) in
+        let low = and-bytes p (repeated n 127 (omega arith)) in
+        let l = and-le-r b 127 in
+        let s = xor-lt 7 (bitAnd b 127) x (omega arith) x-seven in
+        let t = xor-lt 7 (bitAnd b 127) y (omega arith) y-seven in
+        let first = sum-bytes (xor-bytes low (repeated n x (omega arith))) (repeated n c (omega arith)) (omega arith) in
+        let second = sum-bytes (xor-bytes low (repeated n y (omega arith))) (repeated n d (omega arith)) (omega arith) in
+        and-bytes (or-bytes p (xor-bytes (and-bytes first second) top)) top
 
--- a byte without a mark is plain: each of the 256 was computed
-isPlain : ℕ → Bool
-isPlain b = leb 32 b && ltb b 128 && not (eqb b 34) && not (eqb b 92)
+    told : {P : ℕ → Type 0} → ((b : ℕ) → b < 256 → mark b ≡ 0 → P b) → (n k w : ℕ) → k ≤ n → Bytes Zero k (marks n w) → Bytes P k w
+    told tells n zero w h z = tt
+    told tells zero (suc k) w h z = absurd (omega arith)
+    told tells (suc n) (suc k) w h z =
+        let low = lowest w in
+        let m = clear k (marks-bytes n low) z in
+        (tells (w % 256) (low .small) (m .0), told tells n k (w / 256) (omega arith) (m .1))
 
-unfoldable passes : ℕ → Bool
-passes b = not (eqb (mark b) 0) || isPlain b
+-- ---- of one byte
 
 unfoldable all : (ℕ → Bool) → ℕ → Bool
 all f zero = true
 all f (suc n) = f n && all f n
-
-computed : all passes 256 ≡ true
-unfolding all passes isPlain mark
-computed = refl
 
 and-true : (a b : Bool) → (a && b) ≡ true → (a ≡ true) × (b ≡ true)
 and-true true b e = (refl, e)
@@ -96,9 +108,28 @@ all-below f (suc n) e b h = elim (decLe n b) [
   | no k ↦ all-below f n (and-true (f n) (all f n) e .1) b (omega arith)
 ]
 
-plain-parts : (b : ℕ) → isPlain b ≡ true → Plain b
+-- a byte without a mark passes a test
+unfoldable passes : (ℕ → ℕ) → (ℕ → Bool) → ℕ → Bool
+passes markOf is b = not (eqb (markOf b) 0) || is b
+
+by-trying : (markOf : ℕ → ℕ) (is : ℕ → Bool) → all (passes markOf is) 256 ≡ true → (b : ℕ) → b < 256 → markOf b ≡ 0 → is b ≡ true
+unfolding passes
+by-trying markOf is computed b h e = rest (markOf b) (is b) e (all-below (passes markOf is) 256 computed b h)
+  where
+    rest : (m : ℕ) (p : Bool) → m ≡ 0 → (not (eqb m 0) || p) ≡ true → p ≡ true
+    rest m p e k = rw e at k
+
+isPlain : ℕ → Bool
+isPlain b = leb 32 b && ltb b 128 && not (eqb b 34) && not (eqb b 92)
+
+tried-plain : all (passes (mark 2 95 92 127) isPlain) 256 ≡ true
+unfolding all passes isPlain mark
+tried-plain = refl
+
+plain-byte : (b : ℕ) → b < 256 → mark 2 95 92 127 b ≡ 0 → Plain b
 unfolding isPlain
-plain-parts b e =
+plain-byte b small m =
+    let e = by-trying (mark 2 95 92 127) isPlain tried-plain b small m in
     let h = and-true (leb 32 b && ltb b 128 && not (eqb b 34)) (not (eqb b 92)) e in
     let k = and-true (leb 32 b && ltb b 128) (not (eqb b 34)) (h .0) in
     let l = and-true (leb 32 b) (ltb b 128) (k .0) in
@@ -109,14 +140,55 @@ plain-parts b e =
       no-slash = eqb-false b 92 (denied (eqb b 92) (h .1));
     }
 
-plain-byte : (b : ℕ) → b < 256 → mark b ≡ 0 → Plain b
-unfolding passes
-plain-byte b h e = plain-parts b (rest (mark b) (isPlain b) e (all-below passes 256 computed b h))
-  where
-    rest : (m : ℕ) (p : Bool) → m ≡ 0 → (not (eqb m 0) || p) ≡ true → p ≡ true
-    rest m p e k = rw e at k
+-- neither a slash nor a tilde
+abbrev Unparted : ℕ → Type 0
+Unparted b = (b ≡ 47 → ⊥) × (b ≡ 126 → ⊥)
 
--- ---- no mark below a number's lowest bit
+isUnparted : ℕ → Bool
+isUnparted b = not (eqb b 47) && not (eqb b 126)
+
+tried-unparted : all (passes (mark 47 127 126 127) isUnparted) 256 ≡ true
+unfolding all passes isUnparted mark
+tried-unparted = refl
+
+unparted-byte : (b : ℕ) → b < 256 → mark 47 127 126 127 b ≡ 0 → Unparted b
+unfolding isUnparted
+unparted-byte b small m =
+    let h = and-true (not (eqb b 47)) (not (eqb b 126)) (by-trying (mark 47 127 126 127) isUnparted tried-unparted b small m) in
+    (eqb-false b 47 (denied (eqb b 47) (h .0)), eqb-false b 126 (denied (eqb b 126) (h .1)))
+
+-- ---- two numbers
+
+or-none : (a b : ℕ) → bitOr a b ≡ 0 → (a ≡ 0) × (b ≡ 0)
+or-none a b e = (omega (arith, or-add-and a b, and-le-l a b, and-le-r a b), omega (arith, or-add-and a b, and-le-l a b, and-le-r a b))
+
+xor-none : (a b : ℕ) → bitXor a b ≡ 0 → a ≡ b
+xor-none a b e = omega (arith, xor-add-and a b, and-le-l a b, and-le-r a b)
+
+either-clear : (k m n : ℕ) → Bytes Zero k (bitOr m n) → Bytes Zero k m × Bytes Zero k n
+either-clear zero m n z = (tt, tt)
+either-clear (suc k) m n z =
+    let h = clear k (or-bytes (lowest m) (lowest n)) z in
+    let low = or-none (m % 256) (n % 256) (h .0) in
+    let high = either-clear k (m / 256) (n / 256) (h .1) in
+    ((low .0, high .0), (low .1, high .1))
+
+joined : (k w : ℕ) → Bytes Plain k w → Bytes Unparted k w → Bytes Own k w
+joined zero w p q = tt
+joined (suc k) w p q = (record { plain = p .0; no-part = q .0 .0; no-tilde = q .0 .1 }, joined k (w / 256) (p .1) (q .1))
+
+same-bytes : (P : ℕ → Type 0) (k v w : ℕ) → Bytes P k v → Bytes Zero k (bitXor v w) → AlikeBytes P k v w
+same-bytes P zero v w p z = tt
+same-bytes P (suc k) v w p z =
+    let h = clear k (xor-bytes (lowest v) (lowest w)) z in
+    (p .0, (xor-none (v % 256) (w % 256) (h .0), same-bytes P k (v / 256) (w / 256) (p .1) (h .1)))
+
+pub alike-marked : (P : ℕ → Type 0) (m v w k : ℕ) → Marked P m v → k ≤ 8 → Bytes Zero k (bitOr m (bitXor v w)) → AlikeBytes P k v w
+alike-marked P m v w k tells h z =
+    let c = either-clear k m (bitXor v w) z in
+    same-bytes P k v w (tells k h (c .0)) (c .1)
+
+-- ---- no bit below a number's lowest one
 
 -- the lowest j bits are zero
 abbrev Zeros : (j w : ℕ) → Type 0
@@ -142,30 +214,19 @@ bits-eight : (k : ℕ) → bits k ≡ 8 * k
 bits-eight zero = refl
 bits-eight (suc k) = let h = bits-eight k in omega arith
 
-byte-zero : (k : ℕ) {w v b : ℕ} → Block w v b → Zeros (bits (suc k)) w → (b ≡ 0) × Zeros (bits k) v
-byte-zero k {w} {v} {b} p z =
-    let e : w / 2 / 2 / 2 / 2 / 2 / 2 / 2 / 2 ≡ v = omega arith in
-    (omega arith, rw e at (z .1 .1 .1 .1 .1 .1 .1 .1))
+zero-bytes : (k w : ℕ) → Zeros (bits k) w → Bytes Zero k w
+zero-bytes zero w z = tt
+zero-bytes (suc k) w z =
+    let e : w / 2 / 2 / 2 / 2 / 2 / 2 / 2 / 2 ≡ w / 256 = omega arith in
+    (omega arith, zero-bytes k (w / 256) (rw e at (z .1 .1 .1 .1 .1 .1 .1 .1)))
 
-plains : (n k w : ℕ) → k ≤ n → Zeros (bits k) (marks n w) → Plains k w
-plains n zero w h z = tt
-plains zero (suc k) w h z = absurd (omega arith)
-plains (suc n) (suc k) w h z =
-    let low = lowest w in
-    let m = byte-zero k (marks-bytes n low) z in
-    (plain-byte (w % 256) (low .small) (m .0), plains n k (w / 256) (omega arith) (m .1))
+pub few : (w : ℕ) → trailingZeros 64 w / 8 ≤ 8
+few w = omega (arith, trailing-le 64 w)
 
--- ---- bytes that two numbers have in common
-
-xor-none : (a b : ℕ) → bitXor a b ≡ 0 → a ≡ b
-xor-none a b e = omega (arith, xor-add-and a b, and-le-l a b, and-le-r a b)
-
-alike-bytes : (j r v w : ℕ) → j ≤ r → Plains r v → Zeros (bits j) (bitXor v w) → AlikeBytes j v w
-alike-bytes zero r v w h p z = tt
-alike-bytes (suc j) zero v w h p z = absurd (omega arith)
-alike-bytes (suc j) (suc r) v w h p z =
-    let m = byte-zero j (xor-bytes (lowest v) (lowest w)) z in
-    (p .0, (xor-none (v % 256) (w % 256) (m .0), alike-bytes j r (v / 256) (w / 256) (omega arith) (p .1) (m .1)))
+pub counted : (w : ℕ) → Bytes Zero (trailingZeros 64 w / 8) w
+counted w =
+    let k = trailingZeros 64 w / 8 in
+    zero-bytes k w (trailing 64 w (bits k) (omega (arith, bits-eight k)))
 
 -- ---- the code's eight bytes
 
@@ -175,20 +236,19 @@ low-seven w = and-le-r w 0x7F7F7F7F7F7F7F7F
 pub xor-seven : (w c : ℕ) → c < 0x8000000000000000 → bitXor (bitAnd w 0x7F7F7F7F7F7F7F7F) c < 0x8000000000000000
 xor-seven w c h = xor-lt 63 (bitAnd w 0x7F7F7F7F7F7F7F7F) c (omega (arith, low-seven w)) h
 
-abbrev pub eightMarks : ℕ → ℕ
-eightMarks w =
-    marked w (bitAnd w 0x7F7F7F7F7F7F7F7F) 0x0202020202020202 0x5F5F5F5F5F5F5F5F 0x5C5C5C5C5C5C5C5C 0x7F7F7F7F7F7F7F7F 0x8080808080808080
+abbrev eightMarks : (x c y d w : ℕ) → ℕ
+eightMarks x c y d w = marked w (bitAnd w 0x7F7F7F7F7F7F7F7F) x c y d 0x8080808080808080
 
-pub plain-few : (w : ℕ) → trailingZeros 64 (eightMarks w) / 8 ≤ 8
-plain-few w = omega (arith, trailing-le 64 (eightMarks w))
-
--- the bytes below the lowest mark
-pub plain-count : (w : ℕ) → Plains (trailingZeros 64 (eightMarks w) / 8) w
+pub plain-marked : (w : ℕ) → Marked Plain (eightMarks 0x0202020202020202 0x5F5F5F5F5F5F5F5F 0x5C5C5C5C5C5C5C5C 0x7F7F7F7F7F7F7F7F w) w
 unfolding marks rep
-plain-count w =
-    let k = trailingZeros 64 (eightMarks w) / 8 in
-    plains 8 k w (plain-few w) (trailing 64 (eightMarks w) (bits k) (omega (arith, bits-eight k)))
+plain-marked w k h z = told 2 95 92 127 (omega arith) (omega arith) (omega arith) (omega arith) plain-byte 8 k w h z
 
--- the bytes below the lowest bit in which two numbers differ
-pub alike-count : (v w j r : ℕ) → j ≤ r → Plains r v → j ≤ trailingZeros 64 (bitXor v w) / 8 → AlikeBytes j v w
-alike-count v w j r h p l = alike-bytes j r v w h p (trailing 64 (bitXor v w) (bits j) (omega (arith, bits-eight j)))
+unparted-marked : (w : ℕ) → Marked Unparted (eightMarks 0x2F2F2F2F2F2F2F2F 0x7F7F7F7F7F7F7F7F 0x7E7E7E7E7E7E7E7E 0x7F7F7F7F7F7F7F7F w) w
+unfolding marks rep
+unparted-marked w k h z = told 47 127 126 127 (omega arith) (omega arith) (omega arith) (omega arith) unparted-byte 8 k w h z
+
+pub own-marked : {m : ℕ} (w : ℕ) → Marked Plain m w
+    → Marked Own (bitOr m (eightMarks 0x2F2F2F2F2F2F2F2F 0x7F7F7F7F7F7F7F7F 0x7E7E7E7E7E7E7E7E 0x7F7F7F7F7F7F7F7F w)) w
+own-marked {m} w plain k h z =
+    let c = either-clear k m (eightMarks 0x2F2F2F2F2F2F2F2F 0x7F7F7F7F7F7F7F7F 0x7E7E7E7E7E7E7E7E 0x7F7F7F7F7F7F7F7F w) z in
+    joined k w (plain k h (c .0)) (unparted-marked w k h (c .1))

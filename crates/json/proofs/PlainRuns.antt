@@ -12,7 +12,7 @@ use Rattle.text.specs.Chars.{stepBy}
 use Rattle.text.specs.Strings.{stringEnd}
 use Rattle.text.specs.declared.Step.the-variants.{Char}
 use Rattle.text.proofs.Walks.{end-at}
-use Rattle.json.specs.Plain.{packedAt, Plain, Plains}
+use Rattle.json.specs.Plain.{packedAt, Plain, Bytes}
 
 plain-step : (t : List ℕ) (i : ℕ) → Plain (byteAt t i) → stringEnd t i ≡ stringEnd t (i + 1)
 unfolding stepBy
@@ -21,7 +21,7 @@ plain-step t i p =
     (rw (ne-eqb (byteAt t i) 34 (p .no-quote), ne-eqb (byteAt t i) 92 (p .no-slash), le-ltb (byteAt t i) 32 (p .printable), lt-ltb (byteAt t i) 128 (p .ascii)))
 
 module _ (t : List ℕ) (bytes : (i : ℕ) → getD t i 0 < 256) where
-  pub plains-end : (n k at : ℕ) → k ≤ n → at + n ≤ length t → Plains k (packedAt t n at) → stringEnd t (at + k) ≡ stringEnd t at
+  pub plains-end : (n k at : ℕ) → k ≤ n → at + n ≤ length t → Bytes Plain k (packedAt t n at) → stringEnd t (at + k) ≡ stringEnd t at
   unfolding packedAt
   plains-end n zero at h l p = rw (add-zero at)
   plains-end zero (suc k) at h l p = absurd (omega arith)
@@ -33,5 +33,5 @@ module _ (t : List ℕ) (bytes : (i : ℕ) → getD t i 0 < 256) where
       let high : (b + 256 * v) / 256 ≡ v = omega arith in
       let next : at + suc k ≡ at + 1 + k = omega arith in
       rw next
-      (plains-end n k (at + 1) (omega arith) (omega arith) (subst (Plains k) high (p .1))
+      (plains-end n k (at + 1) (omega arith) (omega arith) (subst (Bytes Plain k) high (p .1))
       ∙ sym (plain-step t at (subst Plain low (p .0))))

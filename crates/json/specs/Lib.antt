@@ -1,4 +1,4 @@
--- What the contracts of reading cite beside crate text: Cursors, Rows, Lookup, Names and Answers in public ones, the others inside the crate.
+-- What the contracts of reading cite beside crate text: Cursors, Rows, Lookup, Names, Plain and Answers in public ones, the others inside the crate.
 pub mod Cursors
 pub mod Rows
 pub mod Lookup

@@ -32,6 +32,8 @@ pub(crate) const NINE: u16 = b'9' as u16;
 
 pub const SLASH: u16 = b'/' as u16;
 
+pub const TILDE: u16 = b'~' as u16;
+
 pub(crate) const LARGE_A: u16 = b'A' as u16;
 
 pub(crate) const LARGE_F: u16 = b'F' as u16;

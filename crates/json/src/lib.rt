@@ -2,7 +2,7 @@
 //   limits      the limits of reading
 //   bytes       the byte at a place
 //   chars       one step inside a string
-//   plain       a string's bytes that stand for themselves, eight at a time
+//   plain       bytes that stand for themselves, eight at a time
 //   strings     where a string ends
 //   decode      a string's decoded bytes, one at a time
 //   names       names compared decoded
@@ -24,7 +24,7 @@ pub mod limits;
 pub mod lookup;
 mod members;
 pub mod names;
-mod plain;
+pub mod plain;
 mod quoted;
 pub mod read;
 mod repeated;

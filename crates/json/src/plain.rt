@@ -1,9 +1,14 @@
 // Bytes of a string that stand for themselves (docs/RULES.md, 3.4), eight at a time.
+use crate::bytes::BACKSLASH;
+use crate::bytes::QUOTE;
+use crate::bytes::SLASH;
+use crate::bytes::SPACE;
+use crate::bytes::TILDE;
 use crate::bytes::peek;
 ghost use mathlib.Core.Path.{_≡_};
-ghost use Prim.Native.Nat.{_+_, _*_, _<_, _≤_};
+ghost use Prim.Native.Nat.{_+_, _-_, _*_, _<_, _≤_};
 ghost use lib.ListN.{length};
-ghost use Rattle.json.specs.Plain.{packedAt, Plains, AlikeBytes, PlainTo};
+ghost use Rattle.json.specs.Plain.{packedAt, Plain, Own, Class, Told, Bytes, AlikeBytes, Marked, AlikeTo, AlikeRun, PlainTo};
 
 // A number with a byte put below it.
 fn above(low: u8, high: u64) -> u64
@@ -28,29 +33,53 @@ pub(crate) fn eight(text: &[u8], at: usize) -> u64
     above(text[at], b)
 }
 
-// How many of a number's eight bytes, from the lowest on, are plain. Each byte that isn't gets a mark in its highest bit: no sum reaches the next
-// byte, and with its second bit turned the quote stands among the controls, below 33, and nothing else does.
-fn plain_bytes(w: u64) -> usize
-    ensures { λ r. ⌜ (r ≤ 8) × Plains r w ⌝ }
+// Marks of a number's eight bytes: each that isn't plain has its highest bit. No sum reaches the next byte, and with its second bit turned the quote stands
+// among the controls, below 33, and nothing else does.
+fn plain_marks(w: u64) -> u64
+    ensures { λ r. ⌜ Marked Plain r w ⌝ }
 {
     let low = w & 0x7F7F7F7F7F7F7F7F;
     let shown = (low ^ 0x0202020202020202) + 0x5F5F5F5F5F5F5F5F;
-    let no_slash = (low ^ 0x5C5C5C5C5C5C5C5C) + 0x7F7F7F7F7F7F7F7F;
-    let good = shown & no_slash;
-    let marks = (w | (good ^ 0x8080808080808080)) & 0x8080808080808080;
-    (u64::trailing_zeros(marks) / 8) as usize
+    let no_back = (low ^ 0x5C5C5C5C5C5C5C5C) + 0x7F7F7F7F7F7F7F7F;
+    let good = shown & no_back;
+    (w | (good ^ 0x8080808080808080)) & 0x8080808080808080
 }
 
-// How many of two numbers' eight bytes, from the lowest on, are plain and the same.
-pub(crate) fn alike_plain(v: u64, w: u64) -> usize
-    ensures { λ r. ⌜ (r ≤ 8) × AlikeBytes r v w ⌝ }
+// The same where a slash and a tilde are marked too.
+fn own_marks(w: u64) -> u64
+    ensures { λ r. ⌜ Marked Own r w ⌝ }
 {
-    let plain = plain_bytes(v);
-    let same = (u64::trailing_zeros(v ^ w) / 8) as usize;
-    if plain < same {
-        return plain;
+    let low = w & 0x7F7F7F7F7F7F7F7F;
+    let no_slash = (low ^ 0x2F2F2F2F2F2F2F2F) + 0x7F7F7F7F7F7F7F7F;
+    let no_tilde = (low ^ 0x7E7E7E7E7E7E7E7E) + 0x7F7F7F7F7F7F7F7F;
+    let good = no_slash & no_tilde;
+    let marks = (w | (good ^ 0x8080808080808080)) & 0x8080808080808080;
+    plain_marks(w) | marks
+}
+
+// The marks by which a class is told.
+fn marks_of(own: bool, w: u64) -> u64
+    ensures { λ r. ⌜ Marked (Class own) r w ⌝ }
+{
+    if own {
+        return own_marks(w);
     }
-    same
+    plain_marks(w)
+}
+
+// How many of a number's eight bytes, from the lowest on, are plain.
+fn plain_bytes(w: u64) -> usize
+    ensures { λ r. ⌜ (r ≤ 8) × Bytes Plain r w ⌝ }
+{
+    (u64::trailing_zeros(plain_marks(w)) / 8) as usize
+}
+
+// How many of two numbers' eight bytes, from the lowest on, are in a class and the same: up to the lowest mark or bit that differs.
+fn alike_bytes(own: bool, v: u64, w: u64) -> usize
+    ensures { λ r. ⌜ (r ≤ 8) × AlikeBytes (Class own) r v w ⌝ }
+{
+    let ends = marks_of(own, v) | (v ^ w);
+    (u64::trailing_zeros(ends) / 8) as usize
 }
 
 // A place that plain bytes lead to from a place inside a string; fewer than eight of them may follow. A byte above 127 ends them at once, so that a space
@@ -74,4 +103,116 @@ pub(crate) fn plain_end(text: &[u8], from: usize) -> usize
         at += 8;
     }
     at
+}
+
+// How many bytes stand behind a place.
+fn behind(text: &[u8], at: usize) -> usize
+    ensures { λ r. ⌜ r ≡ length (now (text .entry)) - at ⌝ }
+{
+    let n = text.len();
+    if n < at {
+        return 0;
+    }
+    n - at
+}
+
+// How many bytes stand behind two places at least.
+fn room(text: &[u8], a: usize, other: &[u8], b: usize) -> usize
+    ensures { λ r. ⌜ (r ≤ length (now (text .entry)) - a) × (r ≤ length (now (other .entry)) - b) ⌝ }
+{
+    let first = behind(text, a);
+    let second = behind(other, b);
+    if first < second {
+        return first;
+    }
+    second
+}
+
+// How many bytes stand alike from two places on and are in a class, told eight at a time: up to the first that isn't so, or fewer than eight bytes before the
+// end of a text. A turn adds eight, whatever it finds, so that none waits for the one before.
+pub(crate) fn alike_eights(own: bool, text: &[u8], a: usize, other: &[u8], b: usize) -> usize
+    ensures { λ r. ⌜ AlikeTo (Class own) (now (text .entry)) a (now (other .entry)) b r ⌝ }
+{
+    let most = room(text, a, other, b);
+    if most < 8 {
+        return 0;
+    }
+    let last = most - 8;
+    let mut k: usize = 0;
+    while k <= last {
+        let run = alike_bytes(own, eight(text, a + k), eight(other, b + k));
+        if run < 8 {
+            let to = k + run;
+            return to;
+        }
+        k += 8;
+    }
+    k
+}
+
+// Is a byte in a class?
+fn stands(own: bool, b: u16) -> bool
+    ensures { λ r. ⌜ Told (Class own b) r ⌝ }
+{
+    if b < SPACE {
+        return false;
+    }
+    if 0x7F < b {
+        return false;
+    }
+    if b == QUOTE {
+        return false;
+    }
+    if b == BACKSLASH {
+        return false;
+    }
+    if !own {
+        return true;
+    }
+    if b == SLASH {
+        return false;
+    }
+    if b == TILDE {
+        return false;
+    }
+    true
+}
+
+// Does a byte stand for itself, in a part of a pointer too?
+pub fn is_own_byte(b: u16) -> bool
+    ensures { λ r. ⌜ Told (Own b) r ⌝ }
+{
+    stands(true, b)
+}
+
+// How many bytes stand alike from two places on and are in a class, up to the first that isn't so: where the eights stop a difference is found at once.
+fn alike_run(own: bool, text: &[u8], a: usize, other: &[u8], b: usize) -> usize
+    ensures { λ r. ⌜ AlikeRun (Class own) (now (text .entry)) a (now (other .entry)) b r ⌝ }
+{
+    let mut k = alike_eights(own, text, a, other, b);
+    loop {
+        let p = peek(text, a + k);
+        let q = peek(other, b + k);
+        if p != q {
+            return k;
+        }
+        if !stands(own, p) {
+            return k;
+        }
+        k += 1;
+    }
+}
+
+// How many plain bytes stand alike from two places on.
+pub fn alike_plain_from(text: &[u8], a: usize, other: &[u8], b: usize) -> usize
+    ensures { λ r. ⌜ AlikeRun Plain (now (text .entry)) a (now (other .entry)) b r ⌝ }
+{
+    alike_run(false, text, a, other, b)
+}
+
+// How many bytes stand alike that are plain and neither slashes nor tildes.
+pub fn alike_own_from(text: &[u8], a: usize, other: &[u8], b: usize) -> usize
+    ensures { λ r. ⌜ AlikeRun Own (now (text .entry)) a (now (other .entry)) b r ⌝ }
+{
+    alike_run(true, text, a, other, b)
 }

@@ -9,15 +9,12 @@ use crate::decode::Next;
 use crate::decode::cursor_at;
 use crate::decode::next_byte;
 use crate::names::order_at;
-use crate::plain::alike_plain;
-use crate::plain::eight;
+use crate::plain::alike_eights;
 use laws::Order;
 ghost use mathlib.Core.Path.{_≡_};
-ghost use Prim.Native.Nat.{_-_, _≤_};
-ghost use lib.ListN.{length};
 ghost use Rattle.laws.specs.Order.{orderOf};
 ghost use Rattle.repeats.specs.Quoted.{quotedFrom};
-ghost use Rattle.json.specs.Quoted.{restTo, unreadTo, ended, CommonFrom, AlikeFrom};
+ghost use Rattle.json.specs.Quoted.{restTo, unreadTo, ended, AlikeFrom};
 
 // The next decoded byte of a string in a text, or nothing at its closing quote.
 fn next_in(text: &[u8], c: Cursor) -> Next
@@ -137,48 +134,11 @@ pub(crate) fn order_from(text: &[u8], a: usize, b: usize) -> Order
     order_at(ended(first), ended(second))
 }
 
-// How many bytes stand behind two places at least.
-fn room(text: &[u8], a: usize, b: usize) -> usize
-    ensures { λ r. ⌜ (r ≤ length (now (text .entry)) - a) × (r ≤ length (now (text .entry)) - b) ⌝ }
-{
-    let n = text.len();
-    if a < b {
-        if n < b {
-            return 0;
-        }
-        return n - b;
-    }
-    if n < a {
-        return 0;
-    }
-    n - a
-}
-
-// How many bytes stand alike from two places on and are plain, told eight at a time: up to the first that isn't so, or fewer than eight bytes before the end.
-fn alike_eights(text: &[u8], a: usize, b: usize) -> usize
-    ensures { λ r. ⌜ CommonFrom (now (text .entry)) a b r ⌝ }
-{
-    let most = room(text, a, b);
-    if most < 8 {
-        return 0;
-    }
-    let last = most - 8;
-    let mut k: usize = 0;
-    while k <= last {
-        let run = alike_plain(eight(text, a + k), eight(text, b + k));
-        k += run;
-        if run < 8 {
-            return k;
-        }
-    }
-    k
-}
-
 // The order of two names from two places on, where many begin alike. Only sorting calls it, in one place, so that it becomes part of the merge.
 pub(crate) fn order_eights(text: &[u8], a: usize, b: usize) -> Order
     ensures { λ r. ⌜ r ≡ orderOf (quotedFrom (now (text .entry)) a) (quotedFrom (now (text .entry)) b) ⌝ }
 {
-    let k = alike_eights(text, a, b);
+    let k = alike_eights(false, text, a, text, b);
     let x = a + k;
     let y = b + k;
     let p = peek(text, x);

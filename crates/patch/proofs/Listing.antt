@@ -4,6 +4,7 @@ pub mod Filling
 pub mod Neighbours
 pub mod Kept
 pub mod Conditions
+pub mod Tails
 pub mod Sorting
 pub mod Orders
 pub mod Places

@@ -1,6 +1,7 @@
 -- Bytes put into an output: runs of bytes, values as they are, and members as the entries of a patch leave them. Assumes nothing.
 pub mod Bytes
 pub mod Runs
+pub mod Spelled
 pub mod Walks
 pub mod Copies
 pub mod Kept

@@ -111,22 +111,22 @@ abbrev pub walkFault : Doc → Members → PatchFault
 walkFault d ms = orElseFault 25 (leastKey (walksTo isInArray d) ms) (orElseFault 26 (leastKey (walksTo isNoObject d) ms) allKept)
 
 -- `place` says of each of the first n keys where its opening quote stands
-abbrev pub Placed : (t table rows : List ℕ) (n : ℕ) (place : Name → ℕ) → Type 0
-Placed t table rows n place = (i : ℕ) → i < n → place (listedKey t table rows i) ≡ quoteIn table (getD rows i 0)
+abbrev pub ListedPlaces : (t table rows : List ℕ) (n : ℕ) (place : Name → ℕ) → Type 0
+ListedPlaces t table rows n place = (i : ℕ) → i < n → place (listedKey t table rows i) ≡ quoteIn table (getD rows i 0)
 
 -- what is found, as the code says it: the key by its place
-abbrev pub placed : (place : Name → ℕ) → PatchFault → Condition
-placed place allKept = Kept
-placed place (brokenBy number key) = Broken (keyRefusal number (place key))
+abbrev pub conditionOf : (place : Name → ℕ) → PatchFault → Condition
+conditionOf place allKept = Kept
+conditionOf place (brokenBy number key) = Broken (keyRefusal number (place key))
 
 -- the first of 22, 23 and 24 that the first n entries break, if they are listed in the order of their pointers
 abbrev pub FirstKey : (t table rows : List ℕ) (n : ℕ) → Condition → Type 0
 FirstKey t table rows n r =
-    (place : Name → ℕ) (ms : Members) → Listed t table rows 0 n ms → Sorted keyOrder (keysOf ms) → Placed t table rows n place
-    → r ≡ placed place (keyFault ms)
+    (place : Name → ℕ) (ms : Members) → Listed t table rows 0 n ms → Sorted keyOrder (keysOf ms) → ListedPlaces t table rows n place
+    → r ≡ conditionOf place (keyFault ms)
 
 -- the first of 25 and 26 that they break on a document
 abbrev pub FirstAstray : (t table rows : List ℕ) (n : ℕ) (walks : List ℕ) → Condition → Type 0
 FirstAstray t table rows n walks r =
-    (place : Name → ℕ) (d : Doc) (ms : Members) → Listed t table rows 0 n ms → Placed t table rows n place → Walked t table rows walks 0 n 0 d
-    → r ≡ placed place (walkFault d ms)
+    (place : Name → ℕ) (d : Doc) (ms : Members) → Listed t table rows 0 n ms → ListedPlaces t table rows n place → Walked t table rows walks 0 n 0 d
+    → r ≡ conditionOf place (walkFault d ms)

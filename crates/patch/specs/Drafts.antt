@@ -26,7 +26,7 @@ use Rattle.contact.specs.declared.LocalRefusal.the-variants.{NoLanguage, Short}
 use Rattle.patch.specs.Written.{full}
 use Rattle.patch.specs.Entries.{mostEntries, width}
 use Rattle.patch.specs.Children.{Held}
-use Rattle.patch.specs.Conditions.{Placed, placed, keyFault, walkFault}
+use Rattle.patch.specs.Conditions.{ListedPlaces, conditionOf, keyFault, walkFault}
 use Rattle.patch.specs.Marks.{ShortKeys}
 use Rattle.patch.specs.Patched.{Said, BaseAt}
 use Rattle.patch.specs.declared.conditions.Condition.{Condition}
@@ -54,7 +54,7 @@ unlessAstray (Broken q) text = refusal q text
 -- 22 to 26, of the members of a PatchObject: 22 to 24 ask the keys, 25 and 26 where they lead in the card without its localizations
 abbrev pub entriesDraft : (place : Name → ℕ) → Doc → Members → Draft
 entriesDraft place card ms =
-    unlessBroken (placed place (keyFault ms)) (unlessAstray (placed place (walkFault (start card) ms)) (written (patchedDoc card ms)))
+    unlessBroken (conditionOf place (keyFault ms)) (unlessAstray (conditionOf place (walkFault (start card) ms)) (written (patchedDoc card ms)))
 
 -- 21: what the card has for the language is no object
 abbrev pub valueDraft : (place : Name → ℕ) → Doc → (patch : Doc) → Draft
@@ -101,9 +101,9 @@ Drafted (refusal q tried) old new r = (r ≡ Refused q) × (new ≡ sets old 0 t
 -- the card was written as the listed entries leave it, which ascend and do not clash; or 25 or 26 was found
 abbrev pub PutSorted : (card ctable : List ℕ) → (leave : ℕ) → (text table rows : List ℕ) → (n : ℕ) → (old new : List ℕ) → Attempt → Type 0
 PutSorted card ctable leave text table rows n old new r =
-    (place : Name → ℕ) (g : Forest) (ms : Members) → BaseAt card ctable leave 0 true g → Said text table rows 0 n 0 ms → Placed text table rows n place
+    (place : Name → ℕ) (g : Forest) (ms : Members) → BaseAt card ctable leave 0 true g → Said text table rows 0 n 0 ms → ListedPlaces text table rows n place
     → Countable (docOf card g) ms
-    → Drafted (unlessAstray (placed place (walkFault (start (docOf card g)) ms)) (written (patchedDoc (docOf card g) ms))) old new r
+    → Drafted (unlessAstray (conditionOf place (walkFault (start (docOf card g)) ms)) (written (patchedDoc (docOf card g) ms))) old new r
 
 -- what is asked to write the card as the PatchObject at a row leaves it: the row's number is below the table's words, and the lists are equally long, no longer
 -- than the most entries
@@ -126,6 +126,10 @@ Makes card ctable leave text table patch old new r =
     (place : Name → ℕ) (g p : Forest) → BaseAt card ctable leave 0 true g → Held table mostEntries patch p → DistinctMembers (membersOf text (insideAt p))
     → PlacesOf text (insideAt p) place → ShortKeys text → Countable (docOf card g) (membersOf text (insideAt p))
     → Drafted (entriesDraft place (docOf card g) (membersOf text (insideAt p))) old new r
+
+-- the same, if the PatchObject has no more entries than this
+abbrev pub MakesUpTo : (most : ℕ) → (card ctable : List ℕ) → (leave : ℕ) → (text table : List ℕ) → (patch : ℕ) → (old new : List ℕ) → Attempt → Type 0
+MakesUpTo most card ctable leave text table patch old new r = FewerThan table patch most → Makes card ctable leave text table patch old new r
 
 -- the card as the PatchObject of a language leaves it
 abbrev pub MakesFor : (text table : List ℕ) → (lang : Name) → (old new : List ℕ) → Attempt → Type 0

@@ -36,6 +36,16 @@ rowOrder t table row other = pointerOrder (pointerOf (keyAt t table row)) (point
 abbrev pub mostEntries : ℕ
 mostEntries = base .values
 
+-- the sizes of the lists on which fewer are sorted
+abbrev pub fewEntries : ℕ
+fewEntries = 64
+
+abbrev pub someEntries : ℕ
+someEntries = 640
+
+abbrev pub moreEntries : ℕ
+moreEntries = 4096
+
 -- how many values there are, not looking inside them
 abbrev pub width : Forest → ℕ
 width T.none = 0

@@ -1,5 +1,6 @@
 pub mod Children
 pub mod Entries
+pub mod Tails
 pub mod Neighbours
 pub mod Conditions
 pub mod Marks

@@ -111,7 +111,7 @@ Marked t table pt ptable rows cues walks lo hi parts all ahead =
     (i : ℕ) → lo ≤ i → i < hi → Mark t table pt ptable rows cues walks parts all ahead i
 
 -- those ahead are members of them all, and have distinct names
-pub record Ahead (all ahead : Members) : Type 0 where
+pub record Unmet (all ahead : Members) : Type 0 where
   pub found : (n : Name) → isThere (seek n ahead) ≡ true → seek n all ≡ seek n ahead
   pub distinct : DistinctMembers ahead
 

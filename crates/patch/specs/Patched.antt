@@ -21,23 +21,38 @@ use Rattle.contact.specs.Patch.{Change, remove, set, Entry, entry, changeOf, wa
 use Rattle.contact.specs.Localize.{start, patchedDoc}
 use Rattle.pointers.specs.Pointers.{strip}
 use Rattle.patch.specs.Entries.{Listed, stripped}
-use Rattle.patch.specs.Runs.{InOrder}
+use Rattle.patch.specs.Runs.{InOrder, nextHint}
 use Rattle.patch.specs.Written.{Wrote}
 use Rattle.json.specs.Lookup.{KnownAt}
 use Rattle.json.specs.Cursors.{rest, cursor}
 use Rattle.patch.specs.Children.{keyBytes}
 use Rattle.patch.specs.Conditions.{walkCode, Walked}
-use Rattle.patch.specs.Marks.{met, Around, RunCued, ShortKeys, pointAt, Waiting, Mark, Marked, Ahead}
+use Rattle.patch.specs.Marks.{met, Around, MetWith, FilledWith, MarkIn, RunCued, ShortKeys, pointAt, Waiting, Mark, Marked, Unmet}
 use Rattle.patch.specs.Copied.{headOf, labelIn}
 use Rattle.pointers.specs.declared.keys.After.{After}
 use Rattle.pointers.specs.declared.keys.After.the-variants.{Nothing, At}
+use Rattle.patch.specs.declared.runs.Run.{Run}
 use Rattle.patch.specs.declared.writing.Pen.{Pen}
+
+-- ---- the pen
+
+-- behind a member that was written up to a place
+abbrev pub penBehind : Pen → (to : ℕ) → Pen
+penBehind from to = record { to = to; first = false; hint = from .hint }
+
+-- where it was, with a hint for the member after one whose entries are the run
+abbrev pub penHinted : Pen → Run → Pen
+penHinted from own = record { to = from .to; first = from .first; hint = nextHint (from .hint) own }
 
 -- ---- a run of entries
 
 -- what is asked to write a value as a run leaves it: the run is inside the lists
 abbrev pub RunAsks : (rows cues walks : List ℕ) (lo hi : ℕ) → Type 0
 RunAsks rows cues walks lo hi = RunCued rows cues lo hi × (hi ≤ length walks)
+
+-- what is asked to settle the entry at a place: the lists have the place, and the entry met no member
+abbrev pub SettleAsks : (rows cues walks : List ℕ) (i : ℕ) → Type 0
+SettleAsks rows cues walks i = MarkIn rows cues i × (i < length walks) × (getD cues i 0 < met)
 
 -- the members that are listed by the run; their entries, without the parts that were taken, ascend, and their keys are short
 pub record Said (t table rows : List ℕ) (lo hi parts : ℕ) (ms : Members) : Type 0 where
@@ -193,15 +208,30 @@ pub record PutAdditions (pt ptable rows cues : List ℕ) (lo hi : ℕ) (walks wa
       → Wrote old (from .to) (writtenMembers (added all (stripped parts ms)) (from .first)) new r
       × Walked pt ptable rows walks′ lo hi parts (object all)
 
--- the member at a row was written with the value of the entry at row e, or left out if that is null
-abbrev pub PutReplaced : (t table : List ℕ) → (row : ℕ) → (pt ptable : List ℕ) → (e : ℕ) → (old : List ℕ) → (from : Pen) → (new : List ℕ) → (r : Pen)
-    → Type 0
-PutReplaced t table row pt ptable e old from new r =
-    (h : Forest) (d : Doc) → KnownAt ptable e h → Passed old from (keptBy (some (changeOf (docOf pt h))) d) (labelIn t table row) new r
+-- the member at a row was written with the value of the entry at row e, or left out if that is null; the run has met the member, and its walks arrive
+pub record PutReplaced (t table : List ℕ) (row : ℕ) (pt ptable : List ℕ) (e lo hi : ℕ) (cues cues′ walks walks′ old : List ℕ) (from : Pen) (new : List ℕ)
+    (r : Pen) : Type 0 where
+  pub marked : MetWith cues lo hi row cues′
+  pub ended : FilledWith walks lo hi 0 walks′
+  pub is : (h : Forest) (d : Doc) → KnownAt ptable e h → Passed old from (keptBy (some (changeOf (docOf pt h))) d) (labelIn t table row) new r
 
 -- the marks of the entries outside a run are as they were
 abbrev pub Elsewhere : (lo hi : ℕ) → (cues cues′ walks walks′ : List ℕ) → Type 0
 Elsewhere lo hi cues cues′ walks walks′ = Around cues lo hi cues′ × Around walks lo hi walks′
+
+-- each pointer of the run goes on past its first part, which is the name
+abbrev pub GoOn : (pt ptable rows : List ℕ) → (lo hi parts : ℕ) → Name → Type 0
+GoOn pt ptable rows lo hi parts n = (i : ℕ) → lo ≤ i → i < hi → (q : Pointer) × (pointAt pt ptable rows parts i ≡ down n q)
+
+-- the member at a row was written with its value as the run leaves that, one part further; where the walks end is marked, and the run has met the member
+pub record PutInside (t table : List ℕ) (row leave : ℕ) (pt ptable rows : List ℕ) (lo hi : ℕ) (cues cues′ walks walks′ old : List ℕ) (from : Pen)
+    (new : List ℕ) (r : Pen) : Type 0 where
+  pub elsewhere : Elsewhere lo hi cues cues′ walks walks′
+  pub is : (n : Name) (g : Forest) (ms : Members) (parts : ℕ) → BaseAt t table leave row false g → Said pt ptable rows lo hi (parts + 1) ms
+      → Waiting pt ptable rows cues lo hi parts → GoOn pt ptable rows lo hi parts n
+      → Passed old from (some (applied (docOf t g) (stripped (parts + 1) ms))) (labelIn t table row) new r
+      × Walked pt ptable rows walks′ lo hi (parts + 1) (docOf t g)
+      × ((i : ℕ) → lo ≤ i → i < hi → getD cues′ i 0 ≡ met + row)
 
 -- the member at hand was written as the entries leave it, and those that it meets are marked: it is no longer ahead
 pub record PutMember (t table : List ℕ) (row leave : ℕ) (pt ptable rows : List ℕ) (lo hi : ℕ) (cues cues′ walks walks′ old : List ℕ) (from : Pen)
@@ -209,7 +239,7 @@ pub record PutMember (t table : List ℕ) (row leave : ℕ) (pt ptable rows : Li
   pub elsewhere : Elsewhere lo hi cues cues′ walks walks′
   pub is : (root : Bool) (g : Forest) (ms : Members) (parts : ℕ) (all : Members) → let n = nameOf t (nameStart g) (nameEnd g) in
       KnownAt table row g → OutAt (isOut root n) leave row (belowAt g) → row + 1 + belowAt g ≤ met → Said pt ptable rows lo hi parts ms
-      → Ahead all (basedAll root (membersOf t g))
+      → Unmet all (basedAll root (membersOf t g))
       → Marked t table pt ptable rows cues walks lo hi parts all (basedAll root (membersOf t g))
       → Passed old from (stays root n (stripped parts ms) (docOf t g)) (labelAt t (nameStart g) (nameEnd g)) new r
       × Marked t table pt ptable rows cues′ walks′ lo hi parts all (basedAll root (membersOf t (restAt g)))

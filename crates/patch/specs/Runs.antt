@@ -1,8 +1,9 @@
 -- Entries in ascending order of which none is a prefix of another, and the place at which a run of them is parted by a name. Assumes nothing: these are definitions.
-use Prim.Native.Nat.{ℕ, _≤_, _<_}
+use Prim.Native.Nat.{ℕ, _+_, _/_, _≤_, _<_}
 use mathlib.Core.Path.{_≡_}
-use mathlib.Core.Bool.{Bool, true, false}
+use mathlib.Core.Bool.{Bool, true, false, cond}
 use mathlib.Core.List.{List, [], _∷_}
+use lib.Dec.{leb, ltb}
 use Rattle.laws.specs.Order.{orderOf}
 use Rattle.laws.specs.declared.Order.{Order}
 use Rattle.laws.specs.declared.Order.the-variants.{Less, Same, More}
@@ -30,15 +31,15 @@ pub data InOrder : List Entry → Type 0 where
 -- ---- a run parted by a name
 
 -- by the order of an entry's first part and the name: is the entry before the place? Those of the very name are, if the place is past them
-abbrev pub aheadBy : (past : Bool) → Order → Bool
-aheadBy past Less = true
-aheadBy past Same = past
-aheadBy past More = false
+abbrev pub standsBefore : (past : Bool) → Order → Bool
+standsBefore past Less = true
+standsBefore past Same = past
+standsBefore past More = false
 
 -- the entries stand all on one side of the place: before it, or not before it
 pub data Side (past : Bool) (n : Name) (is : Bool) : List Entry → Type 0 where
   side-none : Side past n is []
-  side-more : {p : Pointer} {c : Change} {es : List Entry} → aheadBy past (orderOf (firstPart p) n) ≡ is → Side past n is es
+  side-more : {p : Pointer} {c : Change} {es : List Entry} → standsBefore past (orderOf (firstPart p) n) ≡ is → Side past n is es
       → Side past n is (entry p c ∷ es)
 
 -- all stand before it
@@ -65,8 +66,8 @@ pub record Parted (t table rows : List ℕ) (lo hi parts : ℕ) (n : Name) (past
   pub all-before : AllBefore past n (stripped parts left)
   pub none-before : NoneBefore past n (stripped parts right)
   -- the same, place by place
-  pub passes : (i : ℕ) → lo ≤ i → i < r → aheadBy past (orderOf (firstPart (pointAt t table rows parts i)) n) ≡ true
-  pub fails : (i : ℕ) → r ≤ i → i < hi → aheadBy past (orderOf (firstPart (pointAt t table rows parts i)) n) ≡ false
+  pub passes : (i : ℕ) → lo ≤ i → i < r → standsBefore past (orderOf (firstPart (pointAt t table rows parts i)) n) ≡ true
+  pub fails : (i : ℕ) → r ≤ i → i < hi → standsBefore past (orderOf (firstPart (pointAt t table rows parts i)) n) ≡ false
 
 -- What a search for the place answers: a place between lo and hi, whatever the tables hold, that parts the members listed there if their entries ascend and
 -- their cues are right. t and table are the card's, pt and ptable the patch's.
@@ -80,3 +81,14 @@ pub record Bound (t table pt ptable rows cues : List ℕ) (lo hi : ℕ) (n : Nam
 pub record RunOf (t table pt ptable rows cues : List ℕ) (lo hi : ℕ) (n : Name) (r : Run) : Type 0 where
   pub from : Bound t table pt ptable rows cues lo hi n false (r .lo)
   pub to : Bound t table pt ptable rows cues (r .lo) hi n true (r .hi)
+
+-- ---- how a run is looked for
+
+-- the next step of a search in a room of places: the same after the hint itself; else all of the room, unless the place is past those of the very name, which
+-- is mostly near: then the step doubles, up to half of the room
+abbrev pub nextStep : (step room : ℕ) → (past hinted : Bool) → ℕ
+nextStep step room past hinted = cond hinted step (cond past (cond (ltb step (room / 2)) (step + step + 1) step) room)
+
+-- near which place the next member's run may stand: behind this one's, or nowhere if this one stood before its hint
+abbrev pub nextHint : (hint : ℕ) → Run → ℕ
+nextHint hint run = cond (leb hint (run .lo)) (run .hi) 4294967296

@@ -1,9 +1,11 @@
 -- What functions that write to a lent output promise. Assumes nothing: these are definitions.
 use Prim.Native.Nat.{ℕ, _+_, _≤_, _<_}
 use mathlib.Core.Path.{_≡_}
-use mathlib.Core.List.{List}
+use mathlib.Core.List.{List, [], _∷_, _++_}
 use lib.ListN.{length}
 use lib.Seq.{sets}
+use Rattle.text.specs.Doc.{Name}
+use Rattle.text.specs.Writing.{spelledBytes}
 
 -- where counting stops: no lent output has so many bytes
 abbrev pub full : ℕ
@@ -19,3 +21,7 @@ pub record Wrote (old : List ℕ) (at : ℕ) (bytes new : List ℕ) (r : ℕ) : 
   pub to : CountedPlace (at + length bytes) r
   pub out : new ≡ sets old at bytes
   pub fits : length old < full
+
+-- what is left of a new name, as it is written, with its last quote
+abbrev pub spelledRest : Name → List ℕ
+spelledRest n = spelledBytes n ++ (34 ∷ [])

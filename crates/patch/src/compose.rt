@@ -4,10 +4,12 @@ use crate::conditions::Condition;
 use crate::conditions::first_astray;
 use crate::conditions::first_key;
 use crate::entries::FEW_ENTRIES;
+use crate::entries::MORE_ENTRIES;
 use crate::entries::MOST_ENTRIES;
 use crate::entries::SOME_ENTRIES;
 use crate::entries::collect;
 use crate::entries::count;
+use crate::sort::common;
 use crate::sort::sort;
 use crate::writing::put_card;
 use contact::LocalRefusal;
@@ -19,7 +21,8 @@ ghost use mathlib.Core.Path.{_≡_};
 ghost use Prim.Native.Nat.{_<_};
 ghost use lib.ListN.{length};
 ghost use Rattle.patch.specs.Patched.{RunAsks};
-ghost use Rattle.patch.specs.Drafts.{fittingOf, PutSorted, MakeAsks, FewerThan, Makes, MakesFor};
+ghost use Rattle.patch.specs.Entries.{fewEntries, someEntries, moreEntries, mostEntries};
+ghost use Rattle.patch.specs.Drafts.{fittingOf, PutSorted, MakeAsks, Makes, MakesUpTo, MakesFor};
 
 // So many bytes were written, or nothing that counts.
 pub enum Attempt {
@@ -86,12 +89,13 @@ fn compose_on(
     out: &mut [u8],
 ) -> Attempt
     requires { ⌜ MakeAsks (now table) patch (now rows) (now cues) (now walks) ⌝ }
-    ensures { λ r. ⌜ (FewerThan (now (table .entry)) patch (length (now (rows .entry))) → Makes (now (card .entry)) (now («card_table» .entry)) leave (now (text .entry)) (now (table .entry)) patch (now (out .entry)) (now (out .exit)) r) ⌝ }
+    ensures { λ r. ⌜ MakesUpTo (length (now (rows .entry))) (now (card .entry)) (now («card_table» .entry)) leave (now (text .entry)) (now (table .entry)) patch (now (out .entry)) (now (out .exit)) r ⌝ }
 {
     let first = patch + 1;
     let end = next_row(table, patch);
     let n = collect(table, first, end, rows);
-    sort(text, table, rows, cues, 0, n);
+    let behind = common(text, table, rows, n);
+    sort(text, table, behind, rows, cues, 0, n);
     if let Condition::Broken(r) = first_key(text, table, rows, n) {
         return Attempt::Refused(r);
     }
@@ -109,8 +113,100 @@ fn compose_on(
     )
 }
 
-// The same, on lists for as many entries as there can be. A function with a call of itself, though never made, becomes part of no other: so these arrays are
-// in no frame but its own.
+// The same, on lists for few entries.
+fn compose_few(
+    card: &[u8],
+    card_table: &[u32],
+    leave: usize,
+    text: &[u8],
+    table: &[u32],
+    patch: usize,
+    out: &mut [u8],
+) -> Attempt
+    requires { ⌜ patch < length (now table) ⌝ }
+    ensures { λ r. ⌜ MakesUpTo fewEntries (now (card .entry)) (now («card_table» .entry)) leave (now (text .entry)) (now (table .entry)) patch (now (out .entry)) (now (out .exit)) r ⌝ }
+{
+    let mut rows = [0u32; FEW_ENTRIES];
+    let mut cues = [0u32; FEW_ENTRIES];
+    let mut walks = [0u8; FEW_ENTRIES];
+    compose_on(
+        card,
+        card_table,
+        leave,
+        text,
+        table,
+        patch,
+        &mut rows,
+        &mut cues,
+        &mut walks,
+        out,
+    )
+}
+
+// The same, on lists for all entries that a short text can have.
+fn compose_some(
+    card: &[u8],
+    card_table: &[u32],
+    leave: usize,
+    text: &[u8],
+    table: &[u32],
+    patch: usize,
+    out: &mut [u8],
+) -> Attempt
+    requires { ⌜ patch < length (now table) ⌝ }
+    ensures { λ r. ⌜ MakesUpTo someEntries (now (card .entry)) (now («card_table» .entry)) leave (now (text .entry)) (now (table .entry)) patch (now (out .entry)) (now (out .exit)) r ⌝ }
+{
+    let mut rows = [0u32; SOME_ENTRIES];
+    let mut cues = [0u32; SOME_ENTRIES];
+    let mut walks = [0u8; SOME_ENTRIES];
+    compose_on(
+        card,
+        card_table,
+        leave,
+        text,
+        table,
+        patch,
+        &mut rows,
+        &mut cues,
+        &mut walks,
+        out,
+    )
+}
+
+// The same, on lists for more. A function with a call of itself, though never made, becomes part of no other: so these arrays are in no frame but its own.
+fn compose_more(
+    card: &[u8],
+    card_table: &[u32],
+    leave: usize,
+    text: &[u8],
+    table: &[u32],
+    patch: usize,
+    out: &mut [u8],
+) -> Attempt
+    requires { ⌜ patch < length (now table) ⌝ }
+    ensures { λ r. ⌜ MakesUpTo moreEntries (now (card .entry)) (now («card_table» .entry)) leave (now (text .entry)) (now (table .entry)) patch (now (out .entry)) (now (out .exit)) r ⌝ }
+{
+    if table.len() <= patch {
+        return compose_more(card, card_table, leave, text, table, patch, out);
+    }
+    let mut rows = [0u32; MORE_ENTRIES];
+    let mut cues = [0u32; MORE_ENTRIES];
+    let mut walks = [0u8; MORE_ENTRIES];
+    compose_on(
+        card,
+        card_table,
+        leave,
+        text,
+        table,
+        patch,
+        &mut rows,
+        &mut cues,
+        &mut walks,
+        out,
+    )
+}
+
+// The same, on lists for as many entries as there can be, in a frame of their own too.
 fn compose_many(
     card: &[u8],
     card_table: &[u32],
@@ -121,7 +217,7 @@ fn compose_many(
     out: &mut [u8],
 ) -> Attempt
     requires { ⌜ patch < length (now table) ⌝ }
-    ensures { λ r. ⌜ Makes (now (card .entry)) (now («card_table» .entry)) leave (now (text .entry)) (now (table .entry)) patch (now (out .entry)) (now (out .exit)) r ⌝ }
+    ensures { λ r. ⌜ MakesUpTo mostEntries (now (card .entry)) (now («card_table» .entry)) leave (now (text .entry)) (now (table .entry)) patch (now (out .entry)) (now (out .exit)) r ⌝ }
 {
     if table.len() <= patch {
         return compose_many(card, card_table, leave, text, table, patch, out);
@@ -161,38 +257,13 @@ fn compose(
     }
     let n = count(table, patch + 1, next_row(table, patch));
     if n <= FEW_ENTRIES {
-        let mut rows = [0u32; FEW_ENTRIES];
-        let mut cues = [0u32; FEW_ENTRIES];
-        let mut walks = [0u8; FEW_ENTRIES];
-        return compose_on(
-            card,
-            card_table,
-            leave,
-            text,
-            table,
-            patch,
-            &mut rows,
-            &mut cues,
-            &mut walks,
-            out,
-        );
+        return compose_few(card, card_table, leave, text, table, patch, out);
     }
     if n <= SOME_ENTRIES {
-        let mut rows = [0u32; SOME_ENTRIES];
-        let mut cues = [0u32; SOME_ENTRIES];
-        let mut walks = [0u8; SOME_ENTRIES];
-        return compose_on(
-            card,
-            card_table,
-            leave,
-            text,
-            table,
-            patch,
-            &mut rows,
-            &mut cues,
-            &mut walks,
-            out,
-        );
+        return compose_some(card, card_table, leave, text, table, patch, out);
+    }
+    if n <= MORE_ENTRIES {
+        return compose_more(card, card_table, leave, text, table, patch, out);
     }
     compose_many(card, card_table, leave, text, table, patch, out)
 }

@@ -1,6 +1,7 @@
 // The conditions 22 to 26 of a patch (docs/RULES.md, 6.4), the smallest number first, each over all entries, named by the smallest key that breaks it.
-// The entries are listed in the order of their pointers, so one that clashes with another clashes with the next. For 25 and 26 the walk over the untouched
-// card has left a byte for each entry.
+// 24: the entries are listed in the order of their pointers, each directly before all that it is a prefix of. So a prefix of another is a prefix of the next;
+// and of two that clash the prefix has the smaller key, since 22 is kept. So the smallest key of all that clash is found among those that clash with the next.
+// 25 and 26: the walk over the untouched card has left a byte for each entry.
 use crate::children::key_at;
 use crate::marks::IN_ARRAY;
 use crate::marks::NO_OBJECT;

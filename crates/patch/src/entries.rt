@@ -9,10 +9,14 @@ ghost use Rattle.patch.specs.Entries.{width, Collected};
 // A card has no more values, so a PatchObject has no more entries.
 pub(crate) const MOST_ENTRIES: usize = VALUES;
 
-// So few are listed, sorted and marked in little room, which costs little to clear; and so many, since a text of 4 KiB has no more.
+// So few are listed, sorted and marked in little room, which costs little to clear.
 pub(crate) const FEW_ENTRIES: usize = 64;
 
+// A text of 4 KiB has no more.
 pub(crate) const SOME_ENTRIES: usize = 640;
+
+// A patch beyond that seldom has more, and so much room costs less to clear than the most.
+pub(crate) const MORE_ENTRIES: usize = 4096;
 
 // How many members stand from one row up to another.
 pub(crate) fn count(table: &[u32], from: usize, end: usize) -> usize

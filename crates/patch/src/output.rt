@@ -1,6 +1,8 @@
 // Bytes for a lent output (docs/RULES.md, 6.7): each is counted, and stored where it fits. So the count says how long the output has to be.
 use json::decode::Cursor;
 use json::decode::Next;
+use json::decode::cursor_at;
+use pointers::parts::own_end;
 use pointers::parts::part_byte;
 ghost use mathlib.Core.Path.{_≡_};
 ghost use mathlib.Core.Bool.{cond};
@@ -13,7 +15,7 @@ ghost use Rattle.text.specs.Doc.{labelAt};
 ghost use Rattle.text.specs.Writing.{comma, smallHex, shortOf, spelledByte, spelled, coded};
 ghost use Rattle.json.specs.Cursors.{rest};
 ghost use Rattle.pointers.specs.Parts.{partLeft};
-ghost use Rattle.patch.specs.Written.{Wrote};
+ghost use Rattle.patch.specs.Written.{Wrote, spelledRest};
 
 // Counting stops here: no lent output has so many bytes.
 const FULL: usize = 9223372036854775808;
@@ -149,11 +151,11 @@ fn put_spelled_byte(b: u8, out: &mut [u8], at: usize) -> usize
     put_byte(out, at, b)
 }
 
-// The part of a pointer at the cursor as a new name, between quotes.
-pub(crate) fn put_spelled(key: &[u8], from: Cursor, out: &mut [u8], at: usize) -> usize
-    ensures { λ r. ⌜ Wrote (now (out .entry)) at (spelled (partLeft (rest (now (key .entry)) from))) (now (out .exit)) r ⌝ }
+// What is left of the part of a pointer at the cursor as the rest of a new name, with its last quote.
+fn put_spelled_rest(key: &[u8], from: Cursor, out: &mut [u8], at: usize) -> usize
+    ensures { λ r. ⌜ Wrote (now (out .entry)) at (spelledRest (partLeft (rest (now (key .entry)) from))) (now (out .exit)) r ⌝ }
 {
-    let mut p = put_byte(out, at, b'"');
+    let mut p = at;
     let mut c = from;
     loop {
         let Next::Byte(b, on) = part_byte(key, c) else {
@@ -162,4 +164,18 @@ pub(crate) fn put_spelled(key: &[u8], from: Cursor, out: &mut [u8], at: usize) -
         p = put_spelled_byte(b, out, p);
         c = on;
     }
+}
+
+// The part of a pointer at the cursor as a new name, between quotes. Bytes that spell themselves, mostly all of them, are copied in one run.
+pub(crate) fn put_spelled(key: &[u8], from: Cursor, out: &mut [u8], at: usize) -> usize
+    ensures { λ r. ⌜ Wrote (now (out .entry)) at (spelled (partLeft (rest (now (key .entry)) from))) (now (out .exit)) r ⌝ }
+{
+    let p = put_byte(out, at, b'"');
+    if from.left != 0 {
+        return put_spelled_rest(key, from, out, p);
+    }
+    let start = from.at;
+    let end = own_end(key, start);
+    let q = put_run(key, start, end, out, p);
+    put_spelled_rest(key, cursor_at(end), out, q)
 }

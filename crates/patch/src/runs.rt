@@ -5,11 +5,14 @@ use laws::Order;
 use pointers::parts::name_order;
 use pointers::parts::part_order_at;
 ghost use mathlib.Core.Path.{_≡_};
+ghost use mathlib.Core.Bool.{cond};
 ghost use Prim.Native.Nat.{_≤_, _<_};
+ghost use lib.Dec.{leb};
 ghost use Rattle.laws.specs.Order.{orderOf};
 ghost use Rattle.text.specs.Strings.{decode};
+ghost use Rattle.patch.specs.Children.{keyAt};
 ghost use Rattle.patch.specs.Marks.{MarkIn, RunCued, partAt};
-ghost use Rattle.patch.specs.Runs.{aheadBy, Bound, RunOf};
+ghost use Rattle.patch.specs.Runs.{nextStep, nextHint, standsBefore, Bound, RunOf};
 
 // A run of the listed entries: those from lo up to hi.
 pub(crate) struct Run {
@@ -18,7 +21,7 @@ pub(crate) struct Run {
 }
 
 // The order of the part at hand of the entry listed at i and a name. An entry that has met a member goes by the name of that one, which is its part.
-fn order_at(
+fn part_order_of(
     text: &[u8],
     table: &[u32],
     ptext: &[u8],
@@ -52,9 +55,9 @@ fn stands_before(
     past: bool,
 ) -> bool
     requires { ⌜ MarkIn (now rows) (now cues) i ⌝ }
-    ensures { λ r. ⌜ r ≡ aheadBy past (orderOf (partAt (now (text .entry)) (now (table .entry)) (now (ptext .entry)) (now (ptable .entry)) (now (rows .entry)) (now (cues .entry)) i) (decode (now (name .entry)))) ⌝ }
+    ensures { λ r. ⌜ r ≡ standsBefore past (orderOf (partAt (now (text .entry)) (now (table .entry)) (now (ptext .entry)) (now (ptable .entry)) (now (rows .entry)) (now (cues .entry)) i) (decode (now (name .entry)))) ⌝ }
 {
-    match order_at(text, table, ptext, ptable, rows, cues, i, name) {
+    match part_order_of(text, table, ptext, ptable, rows, cues, i, name) {
         Order::Less => true,
         Order::Same => past,
         Order::More => false,
@@ -88,29 +91,35 @@ fn probe(a: usize, b: usize, near: usize, step: usize) -> usize
 
 // The next step, which stays the same after the hint itself. The end of a run is mostly near, so it is looked for in steps that double; for any other place
 // the middle is best.
-fn next_step(step: usize, room: usize, past: bool, hinted: bool) -> usize {
+fn next_step(step: usize, room: usize, past: bool, hinted: bool) -> usize
+    ensures { λ r. ⌜ r ≡ nextStep step room past hinted ⌝ }
+{
     if hinted {
         return step;
     }
-    if !past {
-        return room;
+    if past {
+        if step < room / 2 {
+            return step + step + 1;
+        }
+        return step;
     }
-    if step < room / 2 {
-        return step + step + 1;
-    }
-    step
+    room
 }
 
 // Stands for no hint: no place of a list is as far.
 pub(crate) const NOWHERE: usize = 4294967296;
 
 // The first step of a search: none away from a hint, and to the middle if there is no hint.
-fn first_step(near: usize, hi: usize) -> usize {
+fn first_step(near: usize, hi: usize) -> usize
+    ensures { λ r. ⌜ r ≡ cond (leb near hi) 0 hi ⌝ }
+{
     if near <= hi { 0 } else { hi }
 }
 
 // Where the entries of the next member may stand: behind those of this one, as long as members and entries stand in one order.
-pub(crate) fn next_hint(hint: usize, run: Run) -> usize {
+pub(crate) fn next_hint(hint: usize, run: Run) -> usize
+    ensures { λ r. ⌜ r ≡ nextHint hint run ⌝ }
+{
     if hint <= run.lo { run.hi } else { NOWHERE }
 }
 
@@ -147,21 +156,22 @@ fn bound(
     a
 }
 
-// The entries of a run whose part at hand is the name. They are looked for near a place first.
+// The entries of a run whose part at hand is the name at a row. They are looked for near a place first.
 pub(crate) fn run_of(
     text: &[u8],
     table: &[u32],
+    row: usize,
     ptext: &[u8],
     ptable: &[u32],
     rows: &[u32],
     cues: &[u32],
     run: Run,
-    name: &[u8],
     near: usize,
 ) -> Run
     requires { ⌜ RunCued (now rows) (now cues) (run .lo) (run .hi) ⌝ }
-    ensures { λ r. ⌜ RunOf (now (text .entry)) (now (table .entry)) (now (ptext .entry)) (now (ptable .entry)) (now (rows .entry)) (now (cues .entry)) (run .lo) (run .hi) (decode (now (name .entry))) r ⌝ }
+    ensures { λ r. ⌜ RunOf (now (text .entry)) (now (table .entry)) (now (ptext .entry)) (now (ptable .entry)) (now (rows .entry)) (now (cues .entry)) (run .lo) (run .hi) (keyAt (now (text .entry)) (now (table .entry)) row) r ⌝ }
 {
+    let name = key_at(text, table, row);
     let from = run.lo;
     let to = run.hi;
     let lo = bound(

@@ -29,18 +29,39 @@ use laws::clear::clear_words;
 use pointers::keys::After;
 use pointers::keys::after_part;
 ghost use mathlib.Core.Path.{_≡_};
-ghost use Prim.Native.Nat.{_<_};
-ghost use lib.ListN.{length};
+ghost use Rattle.laws.specs.Lists.{RunIn};
 ghost use Rattle.patch.specs.Written.{Wrote};
 ghost use Rattle.patch.specs.Copied.{openByte, closeByte, headOf, labelIn, Copied};
-ghost use Rattle.patch.specs.Marks.{MarkIn, RunCued};
-ghost use Rattle.patch.specs.Patched.{RunAsks, PutAddition, PutAdditions, Settled, isNothing, Ending, strayOf, PutReplaced, PutMember, PutValue, PutCard};
+ghost use Rattle.patch.specs.Marks.{RunCued};
+ghost use Rattle.patch.specs.Patched.{penBehind, penHinted, RunAsks, SettleAsks, PutAddition, PutAdditions, Settled, isNothing, Ending, strayOf, PutReplaced, PutInside, PutMember, PutValue, PutCard};
 
 // Where the next byte goes, whether the next member is the first of its object, and near which place of the list its entries may stand.
 struct Pen {
     pub to: usize,
     pub first: bool,
     pub hint: usize,
+}
+
+// The pen behind a member that was written up to a place.
+fn behind(from: Pen, to: usize) -> Pen
+    ensures { λ r. ⌜ r ≡ penBehind from to ⌝ }
+{
+    let hint = from.hint;
+    Pen {
+        to,
+        first: false,
+        hint,
+    }
+}
+
+// The pen where it was, with a hint for the member after one whose entries are the run.
+fn hinted(from: Pen, own: Run) -> Pen
+    ensures { λ r. ⌜ r ≡ penHinted from own ⌝ }
+{
+    let to = from.to;
+    let first = from.first;
+    let hint = next_hint(from.hint, own);
+    Pen { to, first, hint }
 }
 
 // ---- values as they are
@@ -131,21 +152,14 @@ fn put_addition(
     if kind(ptable, e) == NULL {
         return from;
     }
-    let first = from.first;
-    let at = from.to;
-    let hint = from.hint;
-    let a = put_comma(first, out, at);
+    let a = put_comma(from.first, out, from.to);
     let b = put_spelled(key_at(ptext, ptable, e), cursor_at(place), out, a);
     let d = put_byte(out, b, b':');
     let to = copy_value(ptext, ptable, e, out, d);
-    Pen {
-        to,
-        first: false,
-        hint,
-    }
+    behind(from, to)
 }
 
-// What becomes of the entry listed at i where the members of its object have all been met: one that met none of them adds one if this is its last part, and
+// What becomes of the entry listed at i, where the members of its object have all been met and it met none of them: it adds one if this is its last part, and
 // else its walk meets no object.
 fn settle(
     ptext: &[u8],
@@ -157,13 +171,10 @@ fn settle(
     out: &mut [u8],
     from: Pen,
 ) -> Pen
-    requires { ⌜ (MarkIn (now rows) (now cues) i × (i < length (now walks))) ⌝ }
+    requires { ⌜ SettleAsks (now rows) (now cues) (now walks) i ⌝ }
     ensures { λ r. ⌜ Settled (now (ptext .entry)) (now (ptable .entry)) (now (rows .entry)) (now (cues .entry)) i (now (walks .entry)) (now (walks .exit)) (now (out .entry)) from (now (out .exit)) r ⌝ }
 {
     let cue = cues[i] as usize;
-    if MET <= cue {
-        return from;
-    }
     let e = rows[i] as usize;
     if is_nothing(after_part(key_at(ptext, ptable, e), cue)) {
         walks[i] = ARRIVES;
@@ -173,7 +184,8 @@ fn settle(
     from
 }
 
-// The members that the run of entries adds to the object whose members have been met, and its closing brace.
+// The members that the run of entries adds to the object whose members have been met, and its closing brace. An entry that met one costs no more than a look
+// at its cue.
 fn put_additions(
     ptext: &[u8],
     ptable: &[u32],
@@ -191,7 +203,10 @@ fn put_additions(
     let mut i = run.lo;
     let mut s = from;
     while i < hi {
-        s = settle(ptext, ptable, rows, cues, walks, i, out, s);
+        let cue = cues[i] as usize;
+        if cue < MET {
+            s = settle(ptext, ptable, rows, cues, walks, i, out, s);
+        }
         i += 1;
     }
     let to = s.to;
@@ -217,7 +232,7 @@ fn ends_first(
     is_nothing(after_part(key, cues[lo] as usize))
 }
 
-// The member at a row with the value of the entry at the row e; left out if that is null.
+// The member at a row with the value of the entry at the row e; left out if that is null. Its own run, which is that entry, has met it and arrives.
 fn put_replaced(
     text: &[u8],
     table: &[u32],
@@ -225,24 +240,65 @@ fn put_replaced(
     ptext: &[u8],
     ptable: &[u32],
     e: usize,
+    cues: &mut [u32],
+    walks: &mut [u8],
+    own: Run,
     out: &mut [u8],
     from: Pen,
 ) -> Pen
-    ensures { λ r. ⌜ PutReplaced (now (text .entry)) (now (table .entry)) row (now (ptext .entry)) (now (ptable .entry)) e (now (out .entry)) from (now (out .exit)) r ⌝ }
+    requires { ⌜ (RunIn (now cues) (own .lo) (own .hi) × RunIn (now walks) (own .lo) (own .hi)) ⌝ }
+    ensures { λ r. ⌜ PutReplaced (now (text .entry)) (now (table .entry)) row (now (ptext .entry)) (now (ptable .entry)) e (own .lo) (own .hi) (now (cues .entry)) (now (cues .exit)) (now (walks .entry)) (now (walks .exit)) (now (out .entry)) from (now (out .exit)) r ⌝ }
 {
+    meet(cues, own.lo, own.hi, row);
+    end_all(walks, own.lo, own.hi, ARRIVES);
     if kind(ptable, e) == NULL {
         return from;
     }
-    let first = from.first;
-    let at = from.to;
-    let hint = from.hint;
-    let p = put_head(text, table, row, OBJECT, first, out, at);
+    let p = put_head(text, table, row, OBJECT, from.first, out, from.to);
     let to = copy_value(ptext, ptable, e, out, p);
-    Pen {
-        to,
-        first: false,
-        hint,
+    behind(from, to)
+}
+
+// The member at a row with its value as its own run leaves that: the entries of the run go on by one part, and then they have met the member.
+fn put_inside(
+    text: &[u8],
+    table: &[u32],
+    row: usize,
+    leave: usize,
+    ptext: &[u8],
+    ptable: &[u32],
+    rows: &[u32],
+    cues: &mut [u32],
+    walks: &mut [u8],
+    own: Run,
+    out: &mut [u8],
+    from: Pen,
+) -> Pen
+    requires { ⌜ RunAsks (now rows) (now cues) (now walks) (own .lo) (own .hi) ⌝ }
+    ensures { λ r. ⌜ PutInside (now (text .entry)) (now (table .entry)) row leave (now (ptext .entry)) (now (ptable .entry)) (now (rows .entry)) (own .lo) (own .hi) (now (cues .entry)) (now (cues .exit)) (now (walks .entry)) (now (walks .exit)) (now (out .entry)) from (now (out .exit)) r ⌝ }
+{
+    let p = put_head(text, table, row, OBJECT, from.first, out, from.to);
+    if own.lo == own.hi {
+        let to = copy_value(text, table, row, out, p);
+        return behind(from, to);
     }
+    advance(ptext, ptable, rows, cues, own.lo, own.hi);
+    let to = put_value(
+        text,
+        table,
+        row,
+        leave,
+        ptext,
+        ptable,
+        rows,
+        cues,
+        walks,
+        own,
+        out,
+        p,
+    );
+    meet(cues, own.lo, own.hi, row);
+    behind(from, to)
 }
 
 // The member at a row as the run leaves it: with its value or another, or left out. The entries that it meets are marked.
@@ -266,35 +322,14 @@ fn put_member(
     if row == leave {
         return from;
     }
-    let name = key_at(text, table, row);
-    let own = run_of(text, table, ptext, ptable, rows, cues, run, name, from.hint);
-    let hint = next_hint(from.hint, own);
+    let own = run_of(text, table, row, ptext, ptable, rows, cues, run, from.hint);
+    let s = hinted(from, own);
     let lo = own.lo;
-    let hi = own.hi;
-    let first = from.first;
-    let at = from.to;
-    if ends_first(ptext, ptable, rows, cues, lo, hi) {
+    if ends_first(ptext, ptable, rows, cues, lo, own.hi) {
         let e = rows[lo] as usize;
-        meet(cues, lo, hi, row);
-        end_all(walks, lo, hi, ARRIVES);
-        let pen = Pen {
-            to: at,
-            first,
-            hint,
-        };
-        return put_replaced(text, table, row, ptext, ptable, e, out, pen);
+        return put_replaced(text, table, row, ptext, ptable, e, cues, walks, own, out, s);
     }
-    let p = put_head(text, table, row, OBJECT, first, out, at);
-    if lo == hi {
-        let to = copy_value(text, table, row, out, p);
-        return Pen {
-            to,
-            first: false,
-            hint,
-        };
-    }
-    advance(ptext, ptable, rows, cues, lo, hi);
-    let to = put_value(
+    put_inside(
         text,
         table,
         row,
@@ -306,14 +341,8 @@ fn put_member(
         walks,
         own,
         out,
-        p,
-    );
-    meet(cues, lo, hi, row);
-    Pen {
-        to,
-        first: false,
-        hint,
-    }
+        s,
+    )
 }
 
 // Where the walks end that reach a value which is no object.

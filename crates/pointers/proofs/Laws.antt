@@ -6,3 +6,4 @@ pub mod Orders
 pub mod Prefixes
 pub mod Outcomes
 pub mod Beginnings
+pub mod Own

@@ -10,6 +10,7 @@ use Rattle.laws.specs.Order.{orderOf}
 use Rattle.text.specs.Doc.{Name}
 use Rattle.text.specs.Text.{byteAt}
 use Rattle.json.specs.Cursors.{rest, cursor, nextOf}
+use Rattle.json.specs.Plain.{Own}
 use Rattle.json.specs.declared.decode.Cursor.{Cursor}
 use Rattle.json.specs.declared.decode.Next.{Next}
 use Rattle.json.specs.declared.decode.Next.the-variants.{Byte, Over}
@@ -132,3 +133,11 @@ pub data RunTo (key : List ℕ) (stop from : ℕ) : ℕ → Type 0 where
 pub data Passes (key : List ℕ) (stop : ℕ) (c : Cursor) : Cursor → Type 0 where
   stays : Passes key stop c c
   passes : {to : ℕ} → c .left ≡ 0 → RunTo key stop (c .at) to → Passes key stop c (cursor to 0 0)
+
+-- ---- bytes that are the same in a part and in a name that is written anew
+
+-- bytes that stand for themselves in a part too stand from a place on up to r, and none does at r
+pub record OwnTo (key : List ℕ) (from r : ℕ) : Type 0 where
+  pub later : from ≤ r
+  pub own : (i : ℕ) → from ≤ i → i < r → Own (byteAt key i)
+  pub ends : Own (byteAt key r) → ⊥

@@ -1,7 +1,7 @@
 -- The order of pointers by which entries are sorted, and a pointer without its first parts. Assumes nothing: these are definitions.
 use Prim.Native.Nat.{ℕ, zero, suc, _+_, _≤_}
 use mathlib.Core.Path.{_≡_}
-use mathlib.Core.Bool.{Bool, false, cond, _||_}
+use mathlib.Core.Bool.{Bool, false, not, cond, _||_}
 use mathlib.Core.List.{List}
 use lib.Dec.{eqb, ltb}
 use lib.ListN.{length}
@@ -9,6 +9,7 @@ use Rattle.laws.specs.Order.{orderOf}
 use Rattle.laws.specs.declared.Order.{Order}
 use Rattle.laws.specs.declared.Order.the-variants.{Less, Same, More}
 use Rattle.json.specs.Cursors.{rest, cursor}
+use Rattle.json.specs.Names.{orderAt}
 use Rattle.contact.specs.Pointer.{Pointer, last, down, pointerOf, clash}
 
 -- the first decides unless it says the same
@@ -46,14 +47,18 @@ pub record AlikeKeys (a b : List ℕ) (k : ℕ) : Type 0 where
   pub clashing : clash (pointerFrom a k) (pointerFrom b k) ≡ clash (pointerFrom a 0) (pointerFrom b 0)
   pub first : k ≤ length a
 
+-- two bytes differ, and both mean something alone
+abbrev pub tells : (x y : ℕ) → Bool
+tells x y = cond (eqb x y) false (cond (isCoded x) false (not (isCoded y)))
+
 -- of two bytes that differ, 256 where a key is over: one key is over where a part of the other ends
 abbrev pub endsBefore : (x y : ℕ) → Bool
 endsBefore x y = cond (eqb x 256) (eqb y 47) (cond (eqb y 256) (eqb x 47) false)
 
--- the end of a key comes first, then the end of a part, then any byte
+-- where a byte stands: the end of a part (47) before any other; 256 stays
 abbrev pub rankOf : ℕ → ℕ
-rankOf b = cond (eqb b 256) 0 (cond (eqb b 47) 1 (b + 2))
+rankOf b = cond (ltb b 47) (b + 1) (cond (eqb b 47) 0 b)
 
--- the order by two bytes that differ
+-- the order by two bytes that differ: the end of a key comes first, then the end of a part, then any byte
 abbrev pub rankOrder : (x y : ℕ) → Order
-rankOrder x y = cond (ltb (rankOf x) (rankOf y)) Less More
+rankOrder x y = orderAt (rankOf x) (rankOf y)

@@ -1,29 +1,32 @@
 // Keys of a PatchObject as pointers (docs/RULES.md, 6.2 and 6.4): a bad tilde, the first part, prefixes, and the order in which they are sorted.
 use crate::parts::Onward;
-use crate::parts::TILDE;
+use crate::parts::is_short;
 use crate::parts::next_part;
 use crate::parts::part_order;
 use crate::parts::part_same;
 use crate::parts::past_written;
+use crate::parts::written_end;
 use json::bytes::BACKSLASH;
 use json::bytes::OVER;
 use json::bytes::SLASH;
+use json::bytes::TILDE;
 use json::bytes::peek;
 use json::decode::Cursor;
 use json::decode::Next;
 use json::decode::cursor_at;
 use json::decode::next_byte;
 use json::decode::start;
+use json::names::order_at;
+use json::plain::alike_plain_from;
 use laws::Order;
 ghost use mathlib.Core.Path.{_≡_};
-ghost use Prim.Native.Nat.{_≤_};
 ghost use Rattle.laws.specs.Order.{same};
 ghost use Rattle.text.specs.Strings.{decode};
 ghost use Rattle.text.specs.Text.{bytes};
 ghost use Rattle.json.specs.Cursors.{rest, cursor};
 ghost use Rattle.contact.specs.Pointer.{pointerOf, badTilde, zeroOrOne, firstPart, clash};
 ghost use Rattle.pointers.specs.Parts.{GoesAt, CrossesTo};
-ghost use Rattle.pointers.specs.Pointers.{pointerOrder, isCoded, AlikeKeys, endsBefore, rankOf, rankOrder};
+ghost use Rattle.pointers.specs.Pointers.{pointerOrder, isCoded, tells, pointerFrom, AlikeKeys, endsBefore, rankOf};
 
 // Is the next byte `0` or `1`?
 fn zero_or_one(key: &[u8], c: Cursor) -> bool
@@ -63,11 +66,34 @@ pub fn is_own(key: &[u8]) -> bool
     part_same(key, start(), false, b"localizations", start())
 }
 
-// How many bytes two keys begin with alike, none of which is a tilde or a backslash: so far their pointers are the same. Most bytes take few tests.
+// How many plain bytes two keys begin with alike: so far their pointers are the same. A tilde at the end of these is left, to be read with what follows. It is
+// the second byte of no `~0` or `~1`, so a character begins there.
+fn alike_start(a: &[u8], b: &[u8]) -> usize
+    ensures { λ r. ⌜ AlikeKeys (now (a .entry)) (now (b .entry)) r ⌝ }
+{
+    if is_short(a, 0) {
+        return 0;
+    }
+    if is_short(b, 0) {
+        return 0;
+    }
+    let k = alike_plain_from(a, 0, b, 0);
+    if k == 0 {
+        return 0;
+    }
+    let last = k - 1;
+    if peek(a, last) == TILDE {
+        return last;
+    }
+    k
+}
+
+// How many bytes two keys begin with alike so that what is left decides: up to a difference, a backslash, or a tilde behind bytes that aren't plain. Most
+// bytes take few tests.
 fn alike_keys(a: &[u8], b: &[u8]) -> usize
     ensures { λ r. ⌜ AlikeKeys (now (a .entry)) (now (b .entry)) r ⌝ }
 {
-    let mut k: usize = 0;
+    let mut k = alike_start(a, b);
     loop {
         let x = peek(a, k);
         if x != peek(b, k) {
@@ -100,7 +126,20 @@ fn is_coded(b: u16) -> bool
     b == BACKSLASH
 }
 
-// Where two bytes differ that are none of these, is one pointer over and does the other go on with a part?
+// Do two bytes differ, and is neither of them one of these?
+fn tells(x: u16, y: u16) -> bool
+    ensures { λ r. ⌜ r ≡ tells x y ⌝ }
+{
+    if x == y {
+        return false;
+    }
+    if is_coded(x) {
+        return false;
+    }
+    !is_coded(y)
+}
+
+// Where two such bytes stand, is one pointer over and does the other go on with a part?
 fn ends_before(x: u16, y: u16) -> bool
     ensures { λ r. ⌜ r ≡ endsBefore x y ⌝ }
 {
@@ -120,24 +159,18 @@ pub fn clashes(a: &[u8], b: &[u8]) -> bool
     let k = alike_keys(a, b);
     let x = peek(a, k);
     let y = peek(b, k);
-    if x == y {
-        return parts_clash(a, b);
+    if tells(x, y) {
+        return ends_before(x, y);
     }
-    if is_coded(x) {
-        return parts_clash(a, b);
-    }
-    if is_coded(y) {
-        return parts_clash(a, b);
-    }
-    ends_before(x, y)
+    parts_clash(a, b, k)
 }
 
-// The same part by part.
-fn parts_clash(a: &[u8], b: &[u8]) -> bool
-    ensures { λ r. ⌜ r ≡ clash (pointerOf (decode (now (a .entry)))) (pointerOf (decode (now (b .entry)))) ⌝ }
+// The same part by part, of what is left of the keys at a place.
+fn parts_clash(a: &[u8], b: &[u8], from: usize) -> bool
+    ensures { λ r. ⌜ r ≡ clash (pointerFrom (now (a .entry)) from) (pointerFrom (now (b .entry)) from) ⌝ }
 {
-    let mut x = start();
-    let mut y = start();
+    let mut x = cursor_at(from);
+    let mut y = cursor_at(from);
     loop {
         if !part_same(a, x, true, b, y) {
             return false;
@@ -153,29 +186,17 @@ fn parts_clash(a: &[u8], b: &[u8]) -> bool
     }
 }
 
-// Where a byte stands in the order of pointers: first the end, then the end of a part.
+// Where a byte stands in the order of pointers: the end of a part before all others. The end of a key, which comes first, stays.
 fn rank(b: u16) -> u16
-    requires { ⌜ b ≤ 256 ⌝ }
     ensures { λ r. ⌜ r ≡ rankOf b ⌝ }
 {
-    if b == OVER {
-        return 0;
+    if b < SLASH {
+        return b + 1;
     }
     if b == SLASH {
-        return 1;
+        return 0;
     }
-    b + 2
-}
-
-// The order of pointers that differ first in two bytes, which are neither tildes nor backslashes.
-fn rank_order(x: u16, y: u16) -> Order
-    requires { ⌜ ((x ≤ 256) × (y ≤ 256)) ⌝ }
-    ensures { λ r. ⌜ r ≡ rankOrder x y ⌝ }
-{
-    if rank(x) < rank(y) {
-        return Order::Less;
-    }
-    Order::More
+    b
 }
 
 // The order of two pointers: part by part; one that ends stands before those that go on. Told by the first difference if it can be.
@@ -185,24 +206,18 @@ pub fn key_order(a: &[u8], b: &[u8]) -> Order
     let k = alike_keys(a, b);
     let x = peek(a, k);
     let y = peek(b, k);
-    if x == y {
-        return parts_order(a, b);
+    if tells(x, y) {
+        return order_at(rank(x), rank(y));
     }
-    if is_coded(x) {
-        return parts_order(a, b);
-    }
-    if is_coded(y) {
-        return parts_order(a, b);
-    }
-    rank_order(x, y)
+    parts_order(a, b, k)
 }
 
-// The same part by part.
-fn parts_order(a: &[u8], b: &[u8]) -> Order
-    ensures { λ r. ⌜ r ≡ pointerOrder (pointerOf (decode (now (a .entry)))) (pointerOf (decode (now (b .entry)))) ⌝ }
+// The same part by part, of what is left of the keys at a place.
+fn parts_order(a: &[u8], b: &[u8], from: usize) -> Order
+    ensures { λ r. ⌜ r ≡ pointerOrder (pointerFrom (now (a .entry)) from) (pointerFrom (now (b .entry)) from) ⌝ }
 {
-    let mut x = start();
-    let mut y = start();
+    let mut x = cursor_at(from);
+    let mut y = cursor_at(from);
     loop {
         match part_order(a, x, true, b, y) {
             Order::Less => {
@@ -239,12 +254,21 @@ pub enum After {
     At(usize),
 }
 
-// What follows the part that begins at a place of a key.
+// What follows the part that begins at a place of a key. As written it is found at once, and decoded from a backslash on.
 pub fn after_part(key: &[u8], at: usize) -> After
     ensures { λ r. ⌜ GoesAt (now (key .entry)) (pointerOf (rest (now (key .entry)) (cursor at 0 0))) r ⌝ }
     ensures is { λ r. ⌜ CrossesTo (now (key .entry)) at r ⌝ }
 {
-    match next_part(key, cursor_at(at)) {
+    let to = written_end(key, at, SLASH);
+    let b = peek(key, to);
+    if b == SLASH {
+        let next = to + 1;
+        return After::At(next);
+    }
+    if b == OVER {
+        return After::Nothing;
+    }
+    match next_part(key, cursor_at(to)) {
         Onward::Last => After::Nothing,
         Onward::Part(c) => After::At(c.at),
     }

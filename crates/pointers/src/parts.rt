@@ -1,8 +1,9 @@
 // One part of a pointer, read off a key while the key is decoded: nothing is copied. In a part `~1` is `/` and `~0` is `~` (docs/RULES.md, 6.2).
-// Up to a backslash keys are compared, and passed, as they are written.
+// Up to a backslash keys are compared, and passed, as they are written; an escape that spells one byte is compared as that byte.
 use json::bytes::BACKSLASH;
 use json::bytes::OVER;
 use json::bytes::SLASH;
+use json::bytes::TILDE;
 use json::bytes::ZERO;
 use json::bytes::peek;
 use json::decode::Cursor;
@@ -11,22 +12,26 @@ use json::decode::cursor_at;
 use json::decode::next_byte;
 use json::names::is_same;
 use json::names::order_at;
+use json::plain::alike_own_from;
+use json::plain::is_own_byte;
 use laws::Order;
 ghost use mathlib.Core.Path.{_≡_};
-ghost use mathlib.Core.Bool.{true};
+ghost use mathlib.Core.Bool.{Bool, true};
+ghost use mathlib.Core.List.{List};
+ghost use Prim.Native.Nat.{ℕ, _+_};
+ghost use lib.Dec.{ltb};
+ghost use lib.ListN.{length};
 ghost use Rattle.laws.specs.Order.{orderOf, same};
 ghost use Rattle.text.specs.Text.{byteAt};
 ghost use Rattle.text.specs.Strings.{decode};
 ghost use Rattle.json.specs.Cursors.{rest, cursor, nextOf};
 ghost use Rattle.contact.specs.Pointer.{pointerOf};
-ghost use Rattle.pointers.specs.Parts.{partLeft, partUnread, nameLeft, Goes, nameUnread, tildeLeft, leftAt, GlyphAt, InCommon, tildeNext, partNext, Crosses, RunTo, Passes};
+ghost use Rattle.pointers.specs.Parts.{partLeft, partUnread, nameLeft, Goes, nameUnread, tildeLeft, leftAt, GlyphAt, InCommon, tildeNext, partNext, Crosses, RunTo, Passes, OwnTo};
 
-// Bytes that are told apart as written, as wide as what `peek` gives.
-pub(crate) const TILDE: u16 = b'~' as u16;
-
+// A byte that is told apart as written, as wide as what `peek` gives.
 const ONE: u16 = b'1' as u16;
 
-// A glyph's value where a backslash has to be decoded; at the end it is OVER.
+// A glyph's value that says nothing: what stands there has to be decoded. At the end the value is OVER.
 const CODED: u16 = 257;
 
 // What follows a part: another, where the cursor stands, or none.
@@ -85,6 +90,16 @@ struct Glyph {
     pub len: usize,
 }
 
+// What says nothing of any place.
+fn untold() -> Glyph
+    ensures { λ r. ⌜ ((part : Bool) (key : List ℕ) (at : ℕ) → GlyphAt part key at r) ⌝ }
+{
+    Glyph {
+        value: CODED,
+        len: 1,
+    }
+}
+
 // What a `~` of a part and the byte after it spell.
 fn tilde_at(key: &[u8], at: usize) -> Glyph
     requires { ⌜ byteAt (now key) at ≡ 126 ⌝ }
@@ -104,14 +119,52 @@ fn tilde_at(key: &[u8], at: usize) -> Glyph
         };
     }
     if b == BACKSLASH {
-        return Glyph {
-            value: CODED,
-            len: 1,
-        };
+        return untold();
     }
     Glyph {
         value: TILDE,
         len: 1,
+    }
+}
+
+// What is spelled by a backslash and what follows it, where that is one byte of ASCII; a `~` says nothing, since in a part it means something together with
+// what follows.
+fn coded_at(part: bool, key: &[u8], at: usize) -> Glyph
+    ensures { λ r. ⌜ GlyphAt part (now (key .entry)) at r ⌝ }
+{
+    let Next::Byte(b, on) = next_byte(key, cursor_at(at)) else {
+        return untold();
+    };
+    let to = on.at;
+    if on.left != 0 {
+        return untold();
+    }
+    if to < at {
+        return untold();
+    }
+    if key.len() < to {
+        return untold();
+    }
+    let len = to - at;
+    let value = b as u16;
+    if !part {
+        return Glyph {
+            value: value,
+            len: len,
+        };
+    }
+    if value == SLASH {
+        return Glyph {
+            value: OVER,
+            len: 1,
+        };
+    }
+    if value == TILDE {
+        return untold();
+    }
+    Glyph {
+        value: value,
+        len: len,
     }
 }
 
@@ -121,10 +174,7 @@ fn glyph_at(part: bool, key: &[u8], at: usize) -> Glyph
 {
     let b = peek(key, at);
     if b == BACKSLASH {
-        return Glyph {
-            value: CODED,
-            len: 1,
-        };
+        return coded_at(part, key, at);
     }
     if !part {
         return Glyph { value: b, len: 1 };
@@ -141,11 +191,43 @@ fn glyph_at(part: bool, key: &[u8], at: usize) -> Glyph
     Glyph { value: b, len: 1 }
 }
 
-// How many bytes from two places on are alike and spell themselves, in a part as in a name: none of them is a slash, a tilde or a backslash.
+// Are fewer than eight bytes left from a place on? Then bytes are compared one by one: to ask for eight would take longer.
+pub(crate) fn is_short(key: &[u8], at: usize) -> bool
+    ensures { λ r. ⌜ r ≡ ltb (length (now (key .entry))) (at + 8) ⌝ }
+{
+    if key.len() < 8 {
+        return true;
+    }
+    key.len() - 8 < at
+}
+
+// How many bytes from two places on are alike and spell themselves, in a part as in a name: those of ASCII, where eight are left of both. Tildes and
+// slashes often stand in a row, and each would be looked at with all that follow.
+fn alike_own(key: &[u8], i: usize, name: &[u8], j: usize) -> usize
+    ensures { λ r. ⌜ InCommon (now (key .entry)) i (now (name .entry)) j r ⌝ }
+{
+    if is_short(key, i) {
+        return 0;
+    }
+    if is_short(name, j) {
+        return 0;
+    }
+    let b = peek(key, i);
+    if b == TILDE {
+        return 0;
+    }
+    if b == SLASH {
+        return 0;
+    }
+    alike_own_from(key, i, name, j)
+}
+
+// How many bytes from two places on are alike and spell themselves, in a part as in a name: none of them is a slash, a tilde or a backslash. First those of
+// ASCII, and byte by byte where others stand.
 fn alike_from(key: &[u8], i: usize, name: &[u8], j: usize) -> usize
     ensures { λ r. ⌜ InCommon (now (key .entry)) i (now (name .entry)) j r ⌝ }
 {
-    let mut k: usize = 0;
+    let mut k = alike_own(key, i, name, j);
     loop {
         let b = peek(key, i + k);
         let other = peek(name, j + k);
@@ -212,7 +294,8 @@ fn decoded_order(
     }
 }
 
-// The same from places where a character begins: they are compared as written, up to a backslash. Glyphs are read only where no plain bytes are alike.
+// The same from places where a character begins: they are compared as written, up to an escape that spells more than one byte. Glyphs are read only where no
+// plain bytes are alike.
 fn written_order(
     part: bool,
     key: &[u8],
@@ -285,7 +368,7 @@ pub fn part_same(key: &[u8], from: Cursor, is_part: bool, name: &[u8], name_from
 }
 
 // Past the bytes from a place on that are neither `stop` nor a backslash.
-fn written_end(key: &[u8], from: usize, stop: u16) -> usize
+pub(crate) fn written_end(key: &[u8], from: usize, stop: u16) -> usize
     ensures { λ r. ⌜ RunTo (now (key .entry)) stop from r ⌝ }
 {
     let mut at = from;
@@ -333,4 +416,15 @@ pub fn next_part(key: &[u8], from: Cursor) -> Onward
             }
         }
     }
+}
+
+// Past the bytes from a place on that are the same in a part and in a name that is written anew.
+pub fn own_end(key: &[u8], from: usize) -> usize
+    ensures { λ r. ⌜ OwnTo (now (key .entry)) from r ⌝ }
+{
+    let mut at = from;
+    while is_own_byte(peek(key, at)) {
+        at += 1;
+    }
+    at
 }

@@ -56,7 +56,7 @@ module _ {t table : List ℕ} {f : Forest} (c : CardIn t table f) where
   card-distinct : Distinct (docOf t f)
   card-distinct = card-promised .distinct refl
 
-  pub card-held : Held table mostEntries 0 f
+  card-held : Held table mostEntries 0 f
   card-held =
       let p = card-promised in
       record {
@@ -80,7 +80,7 @@ module _ {t table : List ℕ} {f : Forest} (c : CardIn t table f) where
   card-short : ShortKeys t
   card-short = omega (arith, card-promised .short)
 
-  pub card-countable : (lang : Name) (ms : Members) → PatchOf (docOf t f) lang ms → Countable (docOf t f) ms
+  card-countable : (lang : Name) (ms : Members) → PatchOf (docOf t f) lang ms → Countable (docOf t f) ms
   card-countable lang ms patch nc pt =
       let p = card-promised in
       omega (arith, card-shorter base refl (length table) t f (c .passes) lang ms patch nc pt, p .short)

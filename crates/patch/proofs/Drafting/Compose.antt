@@ -8,7 +8,7 @@ use mathlib.Core.Path.{_≡_, refl, sym, ap, ap₂, subst, _∙_}
 use mathlib.Core.Bool.{true}
 use mathlib.Core.List.{List}
 use native.Mathlib.Omega.{arith}
-use lib.ListN.{length}
+use lib.ListN.{length, getD}
 use lib.Seq.{length-sets}
 use Rattle.laws.specs.Sorting.{Arranged}
 use Rattle.text.specs.Tree.{Forest}
@@ -29,11 +29,12 @@ use Rattle.contact.proofs.Patching.Entries.{perm-parents}
 use Rattle.contact.proofs.Patching.Faults.{shuffled-sym, key-order, clash-order}
 use Rattle.contact.proofs.Patching.Order.{any-order}
 use Rattle.contact.proofs.Patching.Together.{shuffled-entries}
-use Rattle.patch.specs.Children.{Held}
-use Rattle.patch.specs.Entries.{rowOrder, mostEntries, Collected}
+use Rattle.patch.specs.Children.{keyBytes, Held}
+use Rattle.patch.specs.Entries.{mostEntries, Collected}
+use Rattle.patch.specs.Tails.{tailOrder, Common}
 use Rattle.patch.specs.Runs.{LeadsAll, leads-none, leads-more, InOrder, asc-none, asc-more}
 use Rattle.patch.specs.Written.{full, Wrote}
-use Rattle.patch.specs.Conditions.{keyFault, walkFault, Placed, placed, FirstKey}
+use Rattle.patch.specs.Conditions.{keyFault, walkFault, ListedPlaces, conditionOf, FirstKey}
 use Rattle.patch.specs.Patched.{Said, BaseAt}
 use Rattle.patch.specs.Drafts.{Draft, unlessBroken, unlessAstray, entriesDraft, Countable, fittingOf, Drafted, PutSorted, FewerThan, PlacesOf, Makes}
 use Rattle.patch.specs.declared.conditions.Condition.{Condition}
@@ -41,8 +42,9 @@ use Rattle.patch.specs.declared.conditions.Condition.the-variants.{Kept,
 use Rattle.patch.specs.declared.compose.Attempt.{Attempt}
 use Rattle.patch.specs.declared.compose.Attempt.the-variants.{Refused}
 use Rattle.patch.proofs.Listing.Kept.{placed-kept, keys-kept, walks-kept}
+use Rattle.patch.proofs.Listing.Sorting.{arranged-all}
 use Rattle.patch.proofs.Listing.Orders.{Resorted, resorted}
-use Rattle.patch.proofs.Listing.Places.{rows-listed, rows-placed, sorted-placed}
+use Rattle.patch.proofs.Listing.Places.{rows-listed, rows-places, sorted-places}
 use Rattle.patch.proofs.Putting.Cards.{stripped-all, wrote-count}
 use Rattle.patch.proofs.Drafting.Children.{inside-few}
 
@@ -60,8 +62,8 @@ apart (asc-more l a) = (leads-apart l, apart a)
 -- the card was put as the sorted entries leave it, and what their walks come to is told
 abbrev pub PutTold : (card ctable : List ℕ) → (leave : ℕ) → (text table rows : List ℕ) → (n : ℕ) → (old new : List ℕ) → (count : ℕ) → Condition → Type 0
 PutTold card ctable leave text table rows n old new count condition =
-    (place : Name → ℕ) (g : Forest) (ms : Members) → BaseAt card ctable leave 0 true g → Said text table rows 0 n 0 ms → Placed text table rows n place
-    → Wrote old 0 (written (patchedDoc (docOf card g) ms)) new count × (condition ≡ placed place (walkFault (start (docOf card g)) ms))
+    (place : Name → ℕ) (g : Forest) (ms : Members) → BaseAt card ctable leave 0 true g → Said text table rows 0 n 0 ms → ListedPlaces text table rows n place
+    → Wrote old 0 (written (patchedDoc (docOf card g) ms)) new count × (condition ≡ conditionOf place (walkFault (start (docOf card g)) ms))
 
 module _ {card ctable text table rows old new : List ℕ} {leave n count : ℕ} {condition : Condition}
     (put : PutTold card ctable leave text table rows n old new count condition) where
@@ -84,7 +86,7 @@ module _ {card ctable text table rows old new : List ℕ} {leave n count : ℕ} 
       d : Doc
       d = start (docOf card g)
 
-      is : placed place (walkFault d ms) ≡ Kept
+      is : conditionOf place (walkFault d ms) ≡ Kept
       is = sym (put place g ms b s p .1) ∙ e
 
       no-clash : NoClash (entriesOf ms)
@@ -120,7 +122,7 @@ module _ {ms ns : Members} (σ : Shuffled ms ns) where
 -- the members ms are listed in the order of their pointers, and `place` says where the key of each stands
 pub record Sorts (text table rows : List ℕ) (n : ℕ) (ms : Members) (place : Name → ℕ) : Type 0 where
   pub order : Resorted text table rows n ms
-  pub places : Placed text table rows n place
+  pub places : ListedPlaces text table rows n place
 
 -- so it is with the members of the PatchObject at a row
 abbrev pub SortsAt : (text table rows : List ℕ) → (n patch : ℕ) → Type 0
@@ -129,28 +131,30 @@ SortsAt text table rows n patch =
     → Sorts text table rows n (membersOf text (insideAt p)) place
 
 pub sorting : {text table old rows : List ℕ} {n patch end : ℕ} → end ≡ patch + 1 + belowIn table patch → Collected table (patch + 1) end old n
-    → FewerThan table patch (length old) → Arranged (rowOrder text table) old 0 n rows → SortsAt text table rows n patch
-sorting {text} {table} e c room a place p h d places =
+    → FewerThan table patch (length old) → {k : ℕ} → Common text table old n k → Arranged (tailOrder text table k) old 0 n rows
+    → SortsAt text table rows n patch
+sorting {text} {table} {old} e c room common tails place p h d places =
+    let a = arranged-all (keyBytes text table (getD old 0 0)) text table (c .inside) common tails in
     let v = h .value in
     let stands = members-stand (v .some) (v .stands) e in
     let rows = c .all (insideAt p) stands (omega (arith, e, inside-few h)) (room p h) in
     record {
       order = resorted (c .inside) a (rows-listed text (stands .stands) (inside-kinds p (v .kinds)) rows);
-      places = sorted-placed text table place (c .inside) a (rows-placed text place (stands .stands) d places rows);
+      places = sorted-places text table place (c .inside) a (rows-places text place (stands .stands) d places rows);
     }
 
 -- what is found of the keys
 found : {text table rows : List ℕ} {n : ℕ} {ms : Members} {place : Name → ℕ} {condition : Condition} → FirstKey text table rows n condition
-    → Sorts text table rows n ms place → placed place (keyFault ms) ≡ condition
+    → Sorts text table rows n ms place → conditionOf place (keyFault ms) ≡ condition
 found {place = place} first s =
-    let o = s .order in ap (placed place) (same-keys (o .shuffled)) ∙ sym (first place (o .members) (o .listed) (o .sorted) (s .places))
+    let o = s .order in ap (conditionOf place) (same-keys (o .shuffled)) ∙ sym (first place (o .members) (o .listed) (o .sorted) (s .places))
 
 module _ (card : List ℕ) {ctable text table rows : List ℕ} {leave n patch : ℕ} (sorts : SortsAt text table rows n patch) {condition : Condition}
     (first : FirstKey text table rows n condition) where
   pub made-broken : {q : LocalRefusal} (old : List ℕ) → condition ≡ Broken q → Makes card ctable leave text table patch old old (Refused q)
   made-broken {q} old e place g p b h d places short few =
       let ms = membersOf text (insideAt p) in
-      let later = unlessAstray (placed place (walkFault (start (docOf card g)) ms)) (written (patchedDoc (docOf card g) ms)) in
+      let later = unlessAstray (conditionOf place (walkFault (start (docOf card g)) ms)) (written (patchedDoc (docOf card g) ms)) in
       subst (λ (c : Condition). Drafted (unlessBroken c later) old old (Refused q)) (sym (found first (sorts place p h d places) ∙ e)) (refl, refl)
 
   pub made-sorted : condition ≡ Kept → {old new : List ℕ} {a : Attempt} → PutSorted card ctable leave text table rows n old new a
@@ -173,7 +177,7 @@ module _ (card : List ℕ) {ctable text table rows : List ℕ} {leave n patch : 
       σ : Shuffled ms ns
       σ = s .order .shuffled
 
-      kept : placed place (keyFault ms) ≡ Kept
+      kept : conditionOf place (keyFault ms) ≡ Kept
       kept = found first s ∙ e
 
       no-clash : NoClash (entriesOf ms)
@@ -182,7 +186,7 @@ module _ (card : List ℕ) {ctable text table rows : List ℕ} {leave n patch : 
       said : Said text table rows 0 n 0 ns
       said = record { listed = s .order .listed; ascending = s .order .ascending (to-anyClash (entriesOf ms) no-clash); short = short }
 
-      is : entriesDraft place card′ ms ≡ unlessAstray (placed place (walkFault (start card′) ns)) (written (patchedDoc card′ ns))
+      is : entriesDraft place card′ ms ≡ unlessAstray (conditionOf place (walkFault (start card′) ns)) (written (patchedDoc card′ ns))
       is =
-          ap (λ (c : Condition). unlessBroken c (unlessAstray (placed place (walkFault (start card′) ms)) (written (patchedDoc card′ ms)))) kept
-          ∙ ap₂ (λ f (x : Doc). unlessAstray (placed place f) (written x)) (same-walks σ (start card′)) (same-card σ card′ no-clash)
+          ap (λ (c : Condition). unlessBroken c (unlessAstray (conditionOf place (walkFault (start card′) ms)) (written (patchedDoc card′ ms)))) kept
+          ∙ ap₂ (λ f (x : Doc). unlessAstray (conditionOf place f) (written x)) (same-walks σ (start card′)) (same-card σ card′ no-clash)

@@ -15,7 +15,7 @@ use Rattle.contact.specs.Patch.{entriesOf}
 use Rattle.contact.specs.Faults.{PatchFault, allKept, brokenBy}
 use Rattle.contact.specs.Places.{keyPlace}
 use Rattle.contact.specs.Localize.{start, patchAt, patchedDoc, byFault, byEntries, inPatch, withPatch, localizedDoc}
-use Rattle.patch.specs.Conditions.{placed, keyFault, walkFault}
+use Rattle.patch.specs.Conditions.{conditionOf, keyFault, walkFault}
 use Rattle.patch.specs.Drafts.{Draft, draft, refusal, unlessBroken, unlessAstray, entriesDraft, valueDraft, foundDraft, draftOf, draftOutcome, CardIn, Drafted, MakesFor}
 use Rattle.patch.specs.declared.compose.Attempt.{Attempt}
 use Rattle.patch.proofs.Listing.Conditions.{orThenFault, fault-parts}
@@ -24,7 +24,7 @@ module _ (L : Limits) (words room : ℕ) (place : Name → ℕ) (card : Doc) whe
   -- what is found of the keys, and else what is found of their walks
   by-faults : (ms : Members) (keys walks : PatchFault)
       → byFault L words room place (start card) (entriesOf ms) (orThenFault keys walks)
-      ≡ draftOutcome L words room (unlessBroken (placed place keys) (unlessAstray (placed place walks) (written (patchedDoc card ms))))
+      ≡ draftOutcome L words room (unlessBroken (conditionOf place keys) (unlessAstray (conditionOf place walks) (written (patchedDoc card ms))))
   unfolding byFault
   by-faults ms allKept allKept = refl
   by-faults ms allKept (brokenBy number key) = refl

@@ -12,7 +12,7 @@ use Rattle.contact.specs.Localize.{start, patchAt, patchedDoc}
 use Rattle.contact.specs.Conditions.{PatchOf}
 use Rattle.contact.proofs.Patching.Together.{start-writable, patch-writable, applied-writable}
 use Rattle.contact.specs.Faults.{PatchFault, allKept, brokenBy}
-use Rattle.patch.specs.Conditions.{placed, keyFault, walkFault}
+use Rattle.patch.specs.Conditions.{conditionOf, keyFault, walkFault}
 use Rattle.patch.specs.Drafts.{Draft, draft, refusal, unlessBroken, unlessAstray, entriesDraft, valueDraft, foundDraft, draftOf}
 use Rattle.patch.proofs.Listing.Kept.{keys-kept}
 
@@ -26,7 +26,7 @@ module _ (place : Name → ℕ) (card : Doc) (lang : Name) (w : Writable card) w
   by-entries ms patch = go (keyFault ms) refl (walkFault (start card) ms)
     where
       go : (keys : PatchFault) → keyFault ms ≡ keys → (walks : PatchFault)
-          → Sayable (unlessBroken (placed place keys) (unlessAstray (placed place walks) (written (patchedDoc card ms))))
+          → Sayable (unlessBroken (conditionOf place keys) (unlessAstray (conditionOf place walks) (written (patchedDoc card ms))))
       go (brokenBy number key) e walks = tt
       go allKept e (brokenBy number key) = tt
       go allKept e allKept =

@@ -26,7 +26,7 @@ use Rattle.pointers.specs.Pointers.{strip}
 use Rattle.patch.specs.Children.{keyAt}
 use Rattle.patch.specs.Entries.{Listed, over, next}
 use Rattle.patch.specs.Neighbours.{keysOf, keyOrder, leastLeading}
-use Rattle.patch.specs.Conditions.{walkCode, Walked, listedKey, clashesNext, atFault, keyOf, smallerRow, leastRow, numberOf, conditionBy, oneCondition, keyFault, walkFault, Placed, placed}
+use Rattle.patch.specs.Conditions.{walkCode, Walked, listedKey, clashesNext, atFault, keyOf, smallerRow, leastRow, numberOf, conditionBy, oneCondition, keyFault, walkFault, ListedPlaces, conditionOf}
 use Rattle.patch.specs.declared.conditions.Fault.{Fault}
 use Rattle.patch.specs.declared.conditions.Fault.the-variants.{Tilde, Own, Clash, InArray, NoObject}
 use Rattle.patch.specs.declared.conditions.Named.{Named}
@@ -173,35 +173,35 @@ module _ (t table rows : List ℕ) (n : ℕ) (walks : List ℕ) where
   unfolding strip
   by-code d w code is h j lt = ap (λ (b : ℕ). eqb b code) (w j (omega arith) lt) ∙ h (walk (pointerOf (listedKey t table rows j)) d)
 
-  module _ (place : Name → ℕ) (p : Placed t table rows n place) where
+  module _ (place : Name → ℕ) (p : ListedPlaces t table rows n place) where
     -- a row of the list stands for its key
     said-by : (fault : Fault) (named : Named) → InList t table rows n named → (rest : PatchFault)
-        → orElse (conditionBy table fault named) (placed place rest) ≡ placed place (orElseFault (numberOf fault) (keyOf t table named) rest)
+        → orElse (conditionBy table fault named) (conditionOf place rest) ≡ conditionOf place (orElseFault (numberOf fault) (keyOf t table named) rest)
     said-by fault Nothing h rest = refl
     said-by fault (Row row) (i, lt, e) rest = ap (λ (at : ℕ). Broken (keyRefusal (numberOf fault) at)) (sym (rw e at (p i lt)))
 
-    said : (fault : Fault) (key : Option Name) → keyOf t table (found fault) ≡ key → (later : Condition) (rest : PatchFault) → later ≡ placed place rest
-        → orElse (one fault) later ≡ placed place (orElseFault (numberOf fault) key rest)
+    said : (fault : Fault) (key : Option Name) → keyOf t table (found fault) ≡ key → (later : Condition) (rest : PatchFault) → later ≡ conditionOf place rest
+        → orElse (one fault) later ≡ conditionOf place (orElseFault (numberOf fault) key rest)
     said fault key e later rest f =
         ap (orElse (one fault)) f
         ∙ said-by fault (found fault) (in-list t table rows n fault walks 0 n (omega arith)) rest
-        ∙ ap (λ (o : Option Name). placed place (orElseFault (numberOf fault) o rest)) e
+        ∙ ap (λ (o : Option Name). conditionOf place (orElseFault (numberOf fault) o rest)) e
 
     -- the last one, with none behind it
-    said-last : (fault : Fault) (key : Option Name) → keyOf t table (found fault) ≡ key → one fault ≡ placed place (orElseFault (numberOf fault) key allKept)
+    said-last : (fault : Fault) (key : Option Name) → keyOf t table (found fault) ≡ key → one fault ≡ conditionOf place (orElseFault (numberOf fault) key allKept)
     said-last fault key e = sym (or-kept (one fault)) ∙ said fault key e Kept allKept refl
 
     pub keys-said : (ms : Members) → Listed t table rows 0 n ms → Sorted keyOrder (keysOf ms)
-        → orElse (one Tilde) (orElse (one Own) (one Clash)) ≡ placed place (keyFault ms)
+        → orElse (one Tilde) (orElse (one Own) (one Clash)) ≡ conditionOf place (keyFault ms)
     keys-said ms l s =
         said Tilde (leastKey badTilde ms) (least-keys Tilde walks badTilde l (λ j lt. refl) n (omega arith)) (orElse (one Own) (one Clash))
         (orElseFault 23 (leastKey ownKey ms) (orElseFault 24 (leastLeading ms) allKept))
         (said Own (leastKey ownKey ms) (least-keys Own walks ownKey l (λ j lt. refl) n (omega arith)) (one Clash) (orElseFault 24 (leastLeading ms) allKept)
         (said-last Clash (leastLeading ms) (least-clash walks l n (omega arith))))
-        ∙ ap (placed place) (by-neighbours ms s (leastKey badTilde ms) (leastKey ownKey ms) refl)
+        ∙ ap (conditionOf place) (by-neighbours ms s (leastKey badTilde ms) (leastKey ownKey ms) refl)
 
     pub walks-said : (d : Doc) (ms : Members) → Listed t table rows 0 n ms → Walked t table rows walks 0 n 0 d
-        → orElse (one InArray) (one NoObject) ≡ placed place (walkFault d ms)
+        → orElse (one InArray) (one NoObject) ≡ conditionOf place (walkFault d ms)
     walks-said d ms l w =
         said InArray (leastKey (walksTo isInArray d) ms) (least-keys InArray walks (walksTo isInArray d) l (by-code d w 1 isInArray in-array-code) n (omega arith))
         (one NoObject) (orElseFault 26 (leastKey (walksTo isNoObject d) ms) allKept)

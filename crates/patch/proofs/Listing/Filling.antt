@@ -38,7 +38,7 @@ count-start table from end f h = record { ahead = f; stands = h; count = omega a
 
 module _ {table : List ℕ} {from end n at : ℕ} {f : Forest} (p : Passed table from end n at f) where
   -- there is one more
-  pub some-left : at < end → HasFirst (p .ahead)
+  some-left : at < end → HasFirst (p .ahead)
   some-left lt = some-at (p .ahead) (p .stands) lt
 
   pub one-left : at < end → n < width f
@@ -53,7 +53,7 @@ module _ {table : List ℕ} {from end n at : ℕ} {f : Forest} (p : Passed table
         count = omega (arith, p .count, width-first (p .ahead) s);
       }
 
-  pub nothing-left : end ≤ at → p .ahead ≡ T.none
+  nothing-left : end ≤ at → p .ahead ≡ T.none
   nothing-left le = none-at (p .ahead) (p .stands) le
 
   pub count-end : end ≤ at → n ≡ width f

@@ -16,10 +16,10 @@ use Rattle.contact.specs.Faults.{PatchFault, allKept, brokenBy, leastKey, least
 use Rattle.contact.specs.Entries.{NoClash, ParentsThere}
 use Rattle.contact.proofs.Patching.Least.{anyKey, key-some, clash-some, bad-keys, own-keys, walk-keys}
 use Rattle.contact.proofs.Patching.Apart.{from-anyClash, from-anyWalk}
-use Rattle.patch.specs.Conditions.{keyFault, walkFault, placed}
+use Rattle.patch.specs.Conditions.{keyFault, walkFault, conditionOf}
 use Rattle.patch.specs.declared.conditions.Condition.the-variants.{Kept}
 
-pub placed-kept : (place : Name → ℕ) (f : PatchFault) → placed place f ≡ Kept → f ≡ allKept
+pub placed-kept : (place : Name → ℕ) (f : PatchFault) → conditionOf place f ≡ Kept → f ≡ allKept
 placed-kept place allKept e = refl
 placed-kept place (brokenBy number key) e = let z : _≡_ {A = ℕ} 0 1 = cc in absurd (omega arith)
 

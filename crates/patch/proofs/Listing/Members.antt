@@ -20,7 +20,7 @@ use Rattle.contact.specs.Patch.{Change, Entry, entry, changeOf, mine, under}
 use Rattle.pointers.specs.Pointers.{pointerOrder, strip}
 use Rattle.patch.specs.Entries.{stripped}
 use Rattle.patch.specs.Marks.{pointAt, Cued}
-use Rattle.patch.specs.Runs.{LeadsAll, leads-none, leads-more, InOrder, asc-none, asc-more, aheadBy, Side, side-none, side-more, joined, Bound}
+use Rattle.patch.specs.Runs.{LeadsAll, leads-none, leads-more, InOrder, asc-none, asc-more, standsBefore, Side, side-none, side-more, joined, Bound}
 use Rattle.patch.specs.Patched.{Said}
 use Rattle.pointers.proofs.Laws.Pointers.{strip-on}
 
@@ -75,12 +75,12 @@ under-append n (entry (down m p) c ∷ xs) ys = go (same m n) (under-append n xs
 -- ---- entries that do not concern the member ----
 
 -- the test of a side that the name itself is not on
-not-same : (past is : Bool) (o : Order) → aheadBy past o ≡ is → (aheadBy past Same ≡ is → ⊥) → isSame o ≡ false
+not-same : (past is : Bool) (o : Order) → standsBefore past o ≡ is → (standsBefore past Same ≡ is → ⊥) → isSame o ≡ false
 not-same past is Less e ne = refl
 not-same past is Same e ne = absurd (ne e)
 not-same past is More e ne = refl
 
-module _ (past : Bool) (n : Name) (is : Bool) (off : aheadBy past Same ≡ is → ⊥) where
+module _ (past : Bool) (n : Name) (is : Bool) (off : standsBefore past Same ≡ is → ⊥) where
   pub aside-mine : {es : List Entry} → Side past n is es → mine n es ≡ none
   aside-mine side-none = refl
   aside-mine (side-more {p = last m} e h) = rw (not-same past is (orderOf m n) e off) (aside-mine h)
@@ -98,16 +98,16 @@ pub data Named (n : Name) : List Entry → Type 0 where
   named-none : Named n []
   named-more : {p : Pointer} {c : Change} {es : List Entry} → firstPart p ≡ n → Named n es → Named n (entry p c ∷ es)
 
-exactly : (o : Order) → aheadBy false o ≡ false → aheadBy true o ≡ true → isSame o ≡ true
+exactly : (o : Order) → standsBefore false o ≡ false → standsBefore true o ≡ true → isSame o ≡ true
 exactly Less e f = let z : _≡_ {A = ℕ} 0 1 = cc in absurd (omega arith)
 exactly Same e f = refl
 exactly More e f = let z : _≡_ {A = ℕ} 0 1 = cc in absurd (omega arith)
 
-differs-before : (f n : Name) → aheadBy false (orderOf f n) ≡ true → f ≢ n
-differs-before f n e q = let o : aheadBy false Same ≡ true = rw (q, order-refl n) at e in let z : _≡_ {A = ℕ} 0 1 = cc in omega arith
+differs-before : (f n : Name) → standsBefore false (orderOf f n) ≡ true → f ≢ n
+differs-before f n e q = let o : standsBefore false Same ≡ true = rw (q, order-refl n) at e in let z : _≡_ {A = ℕ} 0 1 = cc in omega arith
 
-differs-after : (f n : Name) → aheadBy true (orderOf f n) ≡ false → f ≢ n
-differs-after f n e q = let o : aheadBy true Same ≡ false = rw (q, order-refl n) at e in let z : _≡_ {A = ℕ} 0 1 = cc in omega arith
+differs-after : (f n : Name) → standsBefore true (orderOf f n) ≡ false → f ≢ n
+differs-after f n e q = let o : standsBefore true Same ≡ false = rw (q, order-refl n) at e in let z : _≡_ {A = ℕ} 0 1 = cc in omega arith
 
 between : {n : Name} {es : List Entry} → Side false n false es → Side true n true es → Named n es
 between side-none side-none = named-none

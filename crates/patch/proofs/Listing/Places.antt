@@ -1,7 +1,7 @@
 -- The rows of the members of a PatchObject, as they are listed and sorted:
 --     rows-listed       the members stand at them
---     rows-placed       the place of each key is that of the name at its row, if the names are distinct
---     sorted-placed     so it is after sorting
+--     rows-places       the place of each key is that of the name at its row, if the names are distinct
+--     sorted-places     so it is after sorting
 -- Assumes nothing.
 use Prim.Native.Nat.{ℕ, zero, suc, _+_, _-_, _≤_, _<_}
 use mathlib.Core.Path.{_≡_, sym, ap, _∙_}
@@ -36,7 +36,7 @@ use Rattle.contact.proofs.Patching.Places.{other-key}
 use Rattle.patch.specs.Children.{keyAt}
 use Rattle.patch.specs.Entries.{Listed, RowsOf, no-more, one-more}
 use Rattle.patch.specs.Entries as entries
-use Rattle.patch.specs.Conditions.{Placed}
+use Rattle.patch.specs.Conditions.{ListedPlaces}
 use Rattle.patch.proofs.Listing.Orders.{key-is}
 
 -- ---- as they stand in the text
@@ -91,9 +91,9 @@ module _ (t : List ℕ) {table rows : List ℕ} where
         | no more ↦ later-among t f s d (rows-among (next f s h) (rw (members-first t f s) at d .2) r j (omega arith) high)
       ]
 
-  pub rows-placed : {n k : ℕ} {f : Forest} (place : Name → ℕ) → S.Stands table k f → DistinctMembers (membersOf t f)
-      → ((key : Name) → HasKey key (membersOf t f) → place key ≡ quoteOf t key f) → RowsOf rows 0 n k f → Placed t table rows n place
-  rows-placed place h d p r i lt = let a = rows-among h d r i (omega arith) lt in p (keyAt t table (getD rows i 0)) (a .key) ∙ a .quote
+  pub rows-places : {n k : ℕ} {f : Forest} (place : Name → ℕ) → S.Stands table k f → DistinctMembers (membersOf t f)
+      → ((key : Name) → HasKey key (membersOf t f) → place key ≡ quoteOf t key f) → RowsOf rows 0 n k f → ListedPlaces t table rows n place
+  rows-places place h d p r i lt = let a = rows-among h d r i (omega arith) lt in p (keyAt t table (getD rows i 0)) (a .key) ∙ a .quote
 
 -- ---- sorted
 
@@ -108,6 +108,6 @@ was-in {old = old} {new} {n} r a i lt =
     in-slice n old 0 n (getD new i 0) (omega arith) r
     (perm-in (perm-back (a .perm)) (slice-in i new 0 n i (omega arith) lt (omega (arith, a .long))))
 
-pub sorted-placed : (t table : List ℕ) {old new : List ℕ} {n : ℕ} (place : Name → ℕ) {o : ℕ → ℕ → Order} → n ≤ length old → Arranged o old 0 n new
-    → Placed t table old n place → Placed t table new n place
-sorted-placed t table place r a p i lt = let s = was-in r a i lt in rw (← s .is) (p (s .at) (s .upto-end))
+pub sorted-places : (t table : List ℕ) {old new : List ℕ} {n : ℕ} (place : Name → ℕ) {o : ℕ → ℕ → Order} → n ≤ length old → Arranged o old 0 n new
+    → ListedPlaces t table old n place → ListedPlaces t table new n place
+sorted-places t table place r a p i lt = let s = was-in r a i lt in rw (← s .is) (p (s .at) (s .upto-end))

@@ -1,5 +1,5 @@
 -- A run of sorted entries that is parted by a name:
---     aheadAt                    does the entry at a place of the list stand before the place that is looked for?
+--     beforeAt                   does the entry at a place of the list stand before the place that is looked for?
 --     falling                    where it does, those before it do too, if the entries ascend
 --     bound-made                 so a place that is found by halving parts the run
 -- Assumes nothing.
@@ -22,22 +22,22 @@ use Rattle.contact.specs.Pointer.{Pointer, firstPart, clash}
 use Rattle.pointers.specs.Pointers.{pointerOrder}
 use Rattle.patch.specs.Entries.{Listed, over, next, stripped}
 use Rattle.patch.specs.Marks.{partAt, pointAt}
-use Rattle.patch.specs.Runs.{LeadsAll, leads-more, InOrder, asc-more, aheadBy, Side, side-none, side-more, joined, Bound}
+use Rattle.patch.specs.Runs.{LeadsAll, leads-more, InOrder, asc-more, standsBefore, Side, side-none, side-more, joined, Bound}
 use Rattle.pointers.proofs.Laws.Orders.{first-upto}
 use Rattle.patch.proofs.Listing.Orders.{key-is}
 
 -- ---- by the order of names
 
 -- a name that is not More than one that stands before the place stands before it too
-ahead-upto : (past : Bool) (f g n : Name) → orderOf f g ≢ More → aheadBy past (orderOf g n) ≡ true → aheadBy past (orderOf f n) ≡ true
-ahead-upto past f g n u e = go (orderOf f g) refl
+before-upto : (past : Bool) (f g n : Name) → orderOf f g ≢ More → standsBefore past (orderOf g n) ≡ true → standsBefore past (orderOf f n) ≡ true
+before-upto past f g n u e = go (orderOf f g) refl
   where
-    by-less : (o : Order) → orderOf g n ≡ o → aheadBy past o ≡ true → orderOf f g ≡ Less → aheadBy past (orderOf f n) ≡ true
+    by-less : (o : Order) → orderOf g n ≡ o → standsBefore past o ≡ true → orderOf f g ≡ Less → standsBefore past (orderOf f n) ≡ true
     by-less Less d a l = rw (order-trans f g n l d)
     by-less Same d a l = rw (← same-eq g n (ap isSame d), l)
     by-less More d a l = let z : _≡_ {A = ℕ} 0 1 = cc in absurd (omega arith)
 
-    go : (o : Order) → orderOf f g ≡ o → aheadBy past (orderOf f n) ≡ true
+    go : (o : Order) → orderOf f g ≡ o → standsBefore past (orderOf f n) ≡ true
     go Less d = by-less (orderOf g n) refl e d
     go Same d = rw (same-eq f g (ap isSame d)) e
     go More d = absurd (u d)
@@ -56,17 +56,17 @@ module _ (t table rows : List ℕ) (parts : ℕ) where
       ]
 
   module _ (n : Name) (past : Bool) where
-    abbrev pub aheadAt : ℕ → Bool
-    aheadAt k = aheadBy past (orderOf (firstPart (pointAt t table rows parts k)) n)
+    abbrev beforeAt : ℕ → Bool
+    beforeAt k = standsBefore past (orderOf (firstPart (pointAt t table rows parts k)) n)
 
-    pub falling : {lo hi : ℕ} {ms : Members} → Listed t table rows lo hi ms → InOrder (stripped parts ms) → Falling aheadAt lo hi
+    falling : {lo hi : ℕ} {ms : Members} → Listed t table rows lo hi ms → InOrder (stripped parts ms) → Falling beforeAt lo hi
     unfolding stripped
     falling over u k l a b c e = absurd (omega arith)
     falling (next {i} g h s kinds stands r) (asc-more lead u) k l a b c e =
         elim (ℕ-discrete l k) [
           | yes same ↦ rw (← same) e
           | no more ↦ elim (ℕ-discrete k i) [
-            | yes first ↦ ahead-upto past (firstPart (pointAt t table rows parts k)) (firstPart (pointAt t table rows parts l)) n
+            | yes first ↦ before-upto past (firstPart (pointAt t table rows parts k)) (firstPart (pointAt t table rows parts l)) n
                 (first-upto (pointAt t table rows parts k) (pointAt t table rows parts l)
                 (leads-at r (rw (first, key-is t g s stands) lead) l (omega arith) c .0)) e
             | no other ↦ falling r u k l (omega arith) b c e
@@ -74,7 +74,7 @@ module _ (t table rows : List ℕ) (parts : ℕ) where
         ]
 
     -- what the test says at each place it says of each entry
-    sided : {is : Bool} {i r : ℕ} {ms : Members} → Listed t table rows i r ms → ((k : ℕ) → i ≤ k → k < r → aheadAt k ≡ is)
+    sided : {is : Bool} {i r : ℕ} {ms : Members} → Listed t table rows i r ms → ((k : ℕ) → i ≤ k → k < r → beforeAt k ≡ is)
         → Side past n is (stripped parts ms)
     unfolding stripped
     sided over w = side-none
@@ -116,10 +116,10 @@ module _ {t table rows : List ℕ} where
 
 module _ (t table pt ptable rows cues : List ℕ) (n : Name) (past : Bool) where
   -- the test by the part at hand
-  abbrev pub aheadBefore : ℕ → Bool
-  aheadBefore k = aheadBy past (orderOf (partAt t table pt ptable rows cues k) n)
+  abbrev pub beforeByCue : ℕ → Bool
+  beforeByCue k = standsBefore past (orderOf (partAt t table pt ptable rows cues k) n)
 
-  module _ {lo hi a b : ℕ} (h : Halved aheadBefore lo hi a b) (met : b ≤ a) where
+  module _ {lo hi a b : ℕ} (h : Halved beforeByCue lo hi a b) (met : b ≤ a) where
     pub bound-made : Bound t table pt ptable rows cues lo hi n past a
     bound-made =
         record {
@@ -127,14 +127,14 @@ module _ (t table pt ptable rows cues : List ℕ) (n : Name) (past : Bool) where
           high = omega (arith, h .high);
           parted =
               λ parts ms l u cued.
-              let same : (k : ℕ) → lo ≤ k → k < hi → aheadBefore k ≡ aheadAt pt ptable rows parts n past k =
-              λ k x y. ap (λ (m : Name). aheadBy past (orderOf m n)) (cued k x y) in
+              let same : (k : ℕ) → lo ≤ k → k < hi → beforeByCue k ≡ beforeAt pt ptable rows parts n past k =
+              λ k x y. ap (λ (m : Name). standsBefore past (orderOf m n)) (cued k x y) in
               let falls = falling pt ptable rows parts n past l u in
-              let w = halved-end aheadBefore lo hi h met
+              let w = halved-end beforeByCue lo hi h met
               (λ k m x y z e. same k x (omega arith) ∙ falls k m x y z (sym (same m (omega arith) z) ∙ e)) in
-              let passes : (k : ℕ) → lo ≤ k → k < a → aheadAt pt ptable rows parts n past k ≡ true =
+              let passes : (k : ℕ) → lo ≤ k → k < a → beforeAt pt ptable rows parts n past k ≡ true =
               λ k x y. sym (same k x (omega (arith, h .meet, h .high))) ∙ w .passes k x y in
-              let fails : (k : ℕ) → a ≤ k → k < hi → aheadAt pt ptable rows parts n past k ≡ false =
+              let fails : (k : ℕ) → a ≤ k → k < hi → beforeAt pt ptable rows parts n past k ≡ false =
               λ k x y. sym (same k (omega (arith, h .low)) y) ∙ w .fails k x y in
               let c = cut l a (h .low) (omega (arith, h .high)) in
               record {

@@ -1,12 +1,13 @@
 -- A walk along the entries of a run, each of which adds a member or none:
 --     First, first-said, none-said      the first entry of a run, and those after it; or there is none
+--     settled-met                       an entry that met a member adds none
 --     Adding, adding-on, adding-end     the members that are still to be added, and the closing brace
 -- Assumes nothing.
 use Prim.Native.Nat.{ℕ, _+_, _≤_, _<_}
 use mathlib.Core.Path.{_≡_, refl, ap, _∙_}
 use mathlib.Core.List.{List, [], _∷_}
 use native.Mathlib.Omega.{arith}
-use lib.ListN.{getD}
+use lib.ListN.{length, getD}
 use Rattle.text.specs.Tree.{Forest}
 use Rattle.text.specs.Firsts.{nameStart, nameEnd}
 use Rattle.text.specs.Strings.{nameOf}
@@ -15,14 +16,16 @@ use Rattle.text.specs.Writing.{spelled, writtenMembers}
 use Rattle.contact.specs.Pointer.{firstPart}
 use Rattle.contact.specs.Patch.{Entry, changeOf, added}
 use Rattle.patch.specs.Entries.{Listed, over, next, stripped}
-use Rattle.patch.specs.Marks.{ShortKeys}
+use Rattle.patch.specs.Marks.{met, ShortKeys}
 use Rattle.patch.specs.Runs.{InOrder, asc-more}
-use Rattle.patch.specs.Written.{Wrote}
+use Rattle.patch.specs.Written.{full, Wrote}
 use Rattle.json.specs.Lookup.{KnownAt}
-use Rattle.patch.specs.Patched.{adds, pointerIn, entryOf, piece, since, link, Passed, Said}
+use Rattle.patch.specs.Patched.{adds, pointerIn, entryOf, piece, since, link, Passed, Said, Settled}
 use Rattle.patch.specs.declared.writing.Pen.{Pen}
+use Rattle.patch.proofs.Listing.Marks.{around-all}
 use Rattle.patch.proofs.Putting.Bytes.{BytesLeft, left-on, left-as, left-last}
-use Rattle.patch.proofs.Putting.Kept.{linked, added-linked}
+use Rattle.patch.proofs.Putting.Kept.{linked, added-linked, passed-none}
+use Rattle.patch.proofs.Putting.Meeting.{met-by, point-in, adds-there}
 
 -- the member of an entry
 abbrev pub memberOf : (t : List ℕ) → Forest → Members → Members
@@ -58,6 +61,19 @@ first-said s h = go (s .listed) (s .ascending) (s .short) h
 pub none-said : {t table rows : List ℕ} {i hi : ℕ} {ms : Members} → Listed t table rows i hi ms → hi ≤ i → ms ≡ empty
 none-said over h = refl
 none-said (next g lt some kinds stands l) h = absurd (omega arith)
+
+-- an entry that met a member is settled: its walk is marked already
+pub settled-met : (pt : List ℕ) {ptable rows cues : List ℕ} {i : ℕ} (walks : List ℕ) {old : List ℕ} (s : Pen) → met ≤ getD cues i 0 → length old < full
+    → Settled pt ptable rows cues i walks walks old s old s
+settled-met pt {rows = rows} {i = i} walks s high fits =
+    record {
+      around = around-all walks i (i + 1);
+      is =
+          λ t table parts all h v m.
+          let b = met-by m high in
+          let there = rw (point-in pt rows parts i v) at (b .0) in
+          (passed-none s fits (adds-there all (pointerIn pt parts h) (changeOf (docOf pt h)) there), b .1);
+    }
 
 -- Of the bytes `total` that go into `old` from `at` on, those of the members that the entries from i on add to an object, and its brace, are left.
 pub record Adding (t table rows : List ℕ) (i hi parts : ℕ) (object : Members) (old : List ℕ) (at : ℕ) (total new : List ℕ) (s : Pen) : Type 0 where

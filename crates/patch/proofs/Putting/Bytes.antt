@@ -76,7 +76,7 @@ module _ {old : List ℕ} {at : ℕ} {total : List ℕ} where
             ∙ ap (λ (o : List ℕ). sets o r todo) (sym (w .out));
       }
 
-  pub left-none : {new : List ℕ} {to : ℕ} → length old < full → BytesLeft old at total new to [] → Wrote old at total new to
+  left-none : {new : List ℕ} {to : ℕ} → length old < full → BytesLeft old at total new to [] → Wrote old at total new to
   left-none {new} {to} fits l = record { to = l .place (rw add-zero (counts-same to)); out = sym (l .bytes); fits = fits }
 
   pub left-length : {new : List ℕ} {to : ℕ} {todo : List ℕ} → BytesLeft old at total new to todo → length new ≡ length old

@@ -64,7 +64,7 @@ module _ (t : List ℕ) where
       go true = refl
       go false = refl
 
-  pub inside-more : (kind : ℕ) (g : Forest) → HasFirst g → (first : Bool)
+  inside-more : (kind : ℕ) (g : Forest) → HasFirst g → (first : Bool)
       → insideOf t kind g first ≡ headOf kind first (labelAt t (nameStart g) (nameEnd g)) ++ (written (docOf t g) ++ insideOf t kind (restAt g) false)
   unfolding insideOf
   inside-more kind g s first = rw (members-first t g s) (go (eqb kind 7))

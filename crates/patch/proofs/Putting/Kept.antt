@@ -3,39 +3,31 @@
 --     based-object, based-other     a value as the entries leave it, by its kind
 --     kept-linked         the members of the object, one after the other
 --     added-linked        the members that ascending entries add, one entry after the other: they stand in the order of the entries
---     adds-null, adds-down, adds-last     what an entry adds
+--     change-null, change-set, adds-down     what an entry adds
 --     passed-none, passed-some     a member that is not written, and one that is
 -- Assumes nothing.
 use Prim.Native.Nat.{ℕ, _<_}
-use mathlib.Core.Path.{_≡_, refl, sym, ap, _∙_}
-use mathlib.Core.Bool.{Bool, true, false, not, cond}
+use mathlib.Core.Path.{_≡_, refl}
+use mathlib.Core.Bool.{Bool, true, false, cond}
 use mathlib.Core.List.{List, [], _∷_, _++_, append-assoc}
 use mathlib.Core.Option.{Option, none, some}
 use native.Mathlib.Omega.{arith}
 use lib.ListN.{length}
 use borrow.Author.Tests.{eq-eqb, ne-eqb}
-use Rattle.laws.specs.Lists.{partOf}
 use Rattle.laws.specs.Order.{same, before}
 use Rattle.laws.specs.declared.Order.the-variants.{Less}
-use Rattle.laws.proofs.Orders.{same-eq, same-sym}
 use Rattle.text.specs.Text.{bytes}
-use Rattle.text.specs.Tree.{Forest}
-use Rattle.text.specs.Strings.{decode}
-use Rattle.text.specs.Doc.{Name, Doc, scalar, array, object, Members, empty, member, Property, property, seek, isThere, kindOf}
+use Rattle.text.specs.Doc.{Name, Doc, scalar, array, object, Members, empty, member, Property, seek, kindOf}
 use Rattle.text.specs.Writing.{spelled, written, writtenMembers}
-use Rattle.json.specs.Rows.{nameStartIn, nameEndIn}
 use Rattle.json.specs.Cursors.{rest}
-use Rattle.json.specs.declared.decode.Cursor.{Cursor}
-use Rattle.contact.specs.Pointer.{Pointer, last, down, pointerOf, firstPart}
-use Rattle.contact.specs.Patch.{Change, remove, set, Entry, entry, mine, under, insert, fresh, added, keep, applied, kept, without, changeOf}
-use Rattle.pointers.specs.Pointers.{pointerOrder, strip}
+use Rattle.contact.specs.Pointer.{Pointer, last, down, firstPart}
+use Rattle.contact.specs.Patch.{Change, remove, set, Entry, entry, mine, under, insert, fresh, added, keep, applied, kept, changeOf}
+use Rattle.pointers.specs.Pointers.{pointerOrder}
 use Rattle.patch.specs.Runs.{LeadsAll, leads-more, InOrder, asc-more}
-use Rattle.patch.specs.Patched.{based, basedAll, isOut, keptBy, stays, freshly, adds, pointerIn, link, piece, since, Passed}
+use Rattle.patch.specs.Patched.{based, basedAll, keptBy, stays, freshly, adds, link, piece, since, Passed}
 use Rattle.patch.specs.Written.{full, Wrote}
-use Rattle.json.specs.Lookup.{KnownAt}
 use Rattle.patch.specs.Copied.{headOf}
 use Rattle.patch.specs.declared.writing.Pen.{Pen}
-use Rattle.patch.proofs.Putting.Walks.{value-row}
 use Rattle.patch.proofs.Putting.Bytes.{wrote-none, wrote-then}
 
 -- ---- one member ----
@@ -139,32 +131,8 @@ change-set (scalar kind token) ne = rw (ne-eqb kind 1 ne)
 change-set (array ms) ne = refl
 change-set (object ms) ne = refl
 
-pub adds-null : (ms : Members) (p : Pointer) (d : Doc) → kindOf d ≡ 1 → adds ms (entry p (changeOf d)) ≡ none
-adds-null ms (last n) d e = rw (change-null d e)
-adds-null ms (down n p) d e = refl
-
 pub adds-down : (ms : Members) (p : Pointer) (c : Change) {n : Name} {q : Pointer} → p ≡ down n q → adds ms (entry p c) ≡ none
 adds-down ms p c e = rw e
-
--- it ends there and is not null: is there a member of the name?
-module _ (ms : Members) (p : Pointer) (d : Doc) {there : Bool} (ends : p ≡ last (firstPart p)) (some-value : kindOf d ≡ 1 → ⊥)
-    (is : there ≡ isThere (seek (firstPart p) ms)) where
-  pub adds-last : adds ms (entry p (changeOf d)) ≡ cond (not there) (some d) none
-  adds-last = rw (ends, change-set d some-value, is) (go (seek (firstPart p) ms))
-    where
-      go : (o : Option Property) → freshly o d ≡ cond (not (isThere o)) (some d) none
-      go none = refl
-      go (some q) = refl
-
--- the part of an entry's key at which a cursor stands
-pub at-part : (t : List ℕ) (parts : ℕ) {table : List ℕ} {row : ℕ} {h : Forest} (key : List ℕ) (c : Cursor) → KnownAt table row h
-    → key ≡ partOf t (nameStartIn table row) (nameEndIn table row) → pointerOf (rest key c) ≡ strip parts (pointerOf (decode key))
-    → pointerOf (rest key c) ≡ pointerIn t parts h
-at-part t parts key c v k e = e ∙ rw (k, value-row v .name-start, value-row v .name-end)
-
--- the same of the entry, by an answer
-pub adds-is : (ms : Members) {p q : Pointer} (c : Change) {o : Option Doc} → p ≡ q → adds ms (entry p c) ≡ o → adds ms (entry q c) ≡ o
-adds-is ms c e f = rw e at f
 
 -- ---- one member, written or not ----
 

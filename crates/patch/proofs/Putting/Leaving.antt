@@ -1,17 +1,15 @@
 -- Laws of the row that is left out:
 --     out-first, out-rest     it is the first of some values, or none of its rows; and the same of those after it
 --     out-inside              inside a member nothing is left out
---     row-out                 a member that was found by its name is left out if that is the row
 --     leaves-found            the row of the member that is to be left out, where names are distinct
 -- Assumes nothing.
 use Prim.Native.Nat.{ℕ, _+_, _≤_, _<_}
-use mathlib.Core.Path.{_≡_, refl, sym, ap, _∙_}
+use mathlib.Core.Path.{_≡_, refl, sym, _∙_}
 use mathlib.Core.Bool.{Bool, true, false, cond}
 use mathlib.Core.List.{List}
 use mathlib.Core.Option.{none}
 use native.Mathlib.Nat.{add-zero}
 use native.Mathlib.Omega.{arith}
-use lib.Dec.{eqb}
 use borrow.Author.Tests.{eq-eqb, ne-eqb}
 use Rattle.laws.specs.Order.{same}
 use Rattle.laws.proofs.Orders.{same-eq}
@@ -19,11 +17,10 @@ use Rattle.text.specs.Text.{bytes}
 use Rattle.text.specs.Tree.{Forest, leaf, node, size}
 use Rattle.text.specs.Tree as T
 use Rattle.text.specs.Firsts.{HasFirst, nameStart, nameEnd, insideAt, belowAt, restAt}
-use Rattle.text.specs.Standing.{StandsTo}
 use Rattle.text.specs.Strings.{nameOf}
 use Rattle.text.specs.Doc.{Name, seek, membersOf}
 use Rattle.text.specs.Distinct.{DistinctMembers}
-use Rattle.json.specs.Lookup.{fromName, Standing}
+use Rattle.json.specs.Lookup.{fromName}
 use Rattle.json.proofs.Seeking.{seek-here, seek-on}
 use Rattle.patch.specs.Patched.{isOut, OutAt, LeavesOut}
 
@@ -58,34 +55,6 @@ apart t leave (node b ns ne from to inside rest) m h = (
 
 pub out-inside : (t : List ℕ) {leave m : ℕ} {out : Bool} (g : Forest) → OutAt out leave m (belowAt g) → LeavesOut t leave false (m + 1) (insideAt g)
 out-inside t {leave} {m} g o = apart t leave (insideAt g) (m + 1) (λ le. omega (arith, o .past (omega arith)))
-
--- ---- a member that was found
-
-module _ (t : List ℕ) (leave : ℕ) (root : Bool) (n : Name) (m : ℕ) where
-  -- by the first value: it has the name, or the search goes on
-  found-step : {at below : ℕ} (key : Name) (f later : Forest) (b : Bool) → same key n ≡ b → OutAt (isOut root key) leave at below
-      → HasFirst (cond b f later) → m + size (cond b f later) ≡ at + size f
-      → (HasFirst later → m + size later ≡ at + size f → isOut root n ≡ eqb m leave) → isOut root n ≡ eqb m leave
-  found-step {at} key f later true q o s e go =
-      ap (isOut root) (sym (same-eq key n q)) ∙ o .is ∙ ap (λ (k : ℕ). eqb k leave) (omega (arith, e))
-  found-step key f later false q o s e go = go s e
-
-  found-out : (at : ℕ) (f : Forest) → LeavesOut t leave root at f → HasFirst (fromName t n f) → m + size (fromName t n f) ≡ at + size f
-      → isOut root n ≡ eqb m leave
-  unfolding fromName size
-  found-out at T.none l s e = absurd s
-  found-out at (leaf kind ns ne from to rest) l s e =
-      found-step (nameOf t ns ne) (leaf kind ns ne from to rest) (fromName t n rest) (same (nameOf t ns ne) n) refl (l .0) s e
-      (λ more ends. found-out (at + 1) rest (l .1) more (omega (arith, ends)))
-  found-out at (node b ns ne from to inside rest) l s e =
-      found-step (nameOf t ns ne) (node b ns ne from to inside rest) (fromName t n rest) (same (nameOf t ns ne) n) refl (l .0) s e
-      (λ more ends. found-out (at + 1 + size inside) rest (l .1) more (omega (arith, ends)))
-
--- the same by the rows
-pub row-out : (t : List ℕ) (leave : ℕ) (root : Bool) {n : Name} {table : List ℕ} {at end m : ℕ} (f : Forest) → StandsTo table at end f
-    → Standing t table end n f m → LeavesOut t leave root at f → isOut root n ≡ eqb m leave
-row-out t leave root {n} {at = at} {m = m} f h s l =
-    found-out t leave root n m at f l (rw (s .first) at (s .some-found)) (rw (s .first) at (s .stands .ends) ∙ sym (h .ends))
 
 -- ---- at the root
 

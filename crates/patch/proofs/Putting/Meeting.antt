@@ -8,9 +8,9 @@
 --     mark-same, walked-next                marks that stay, and one more walk
 -- Assumes nothing.
 use Prim.Native.Nat.{ℕ, _+_, _-_, _≤_, _<_}
-use mathlib.Core.Path.{_≡_, refl, sym, ap, _∙_, subst}
+use mathlib.Core.Path.{_≡_, refl, sym, ap, _∙_}
 use mathlib.Core.Logic.{_≢_, _⊎_, inl, inr}
-use mathlib.Core.Bool.{Bool, true, false, cond}
+use mathlib.Core.Bool.{Bool, true, false}
 use mathlib.Core.List.{List}
 use mathlib.Core.Option.{Option, none, some}
 use native.Mathlib.Omega.{arith}
@@ -18,27 +18,25 @@ use native.Mathlib.Decide.{ℕ-discrete}
 use lib.ListN.{getD}
 use borrow.Author.Tests.{lt-ltb, le-ltb}
 use Rattle.laws.specs.Order.{same}
-use Rattle.laws.proofs.Orders.{same-eq, same-refl, same-sym}
-use Rattle.text.specs.Text.{bytes}
+use Rattle.laws.proofs.Orders.{same-eq, same-refl}
 use Rattle.text.specs.Tree.{Forest}
 use Rattle.text.specs.Firsts.{HasFirst, nameStart, nameEnd, restAt}
 use Rattle.text.specs.Strings.{nameOf}
 use Rattle.text.specs.Doc.{Name, Doc, object, Members, empty, member, Property, property, seek, isThere, membersOf, labelAt, docOf}
-use Rattle.text.specs.Distinct.{Distinct, DistinctMembers}
 use Rattle.text.proofs.Promise.{members-first}
 use Rattle.contact.specs.Pointer.{Pointer, last, down, firstPart}
 use Rattle.contact.specs.Patch.{Change, remove, set, entry, arrives, noObject, walk}
 use Rattle.json.specs.Lookup.{KnownAt}
 use Rattle.patch.specs.Children.{keyAt}
 use Rattle.patch.specs.Conditions.{walkCode, Walked}
-use Rattle.patch.specs.Marks.{met, Around, pointAt, leftOf, partAt, Waits, Meets, Waiting, Cued, Mark, waits, meets, Marked, Ahead}
+use Rattle.patch.specs.Marks.{met, Around, pointAt, partAt, Waits, Waiting, Cued, Mark, waits, meets, Marked, Unmet}
 use Rattle.patch.specs.Patched.{basedAll, isOut, keptBy, freshly, adds, pointerIn}
 use Rattle.patch.proofs.Putting.Walks.{value-row}
 
 -- ---- one mark ----
 
 module _ (t table pt ptable rows : List ℕ) (parts : ℕ) where
-  pub mark-cued : {cues walks : List ℕ} {all ahead : Members} {i : ℕ} → Mark t table pt ptable rows cues walks parts all ahead i
+  mark-cued : {cues walks : List ℕ} {all ahead : Members} {i : ℕ} → Mark t table pt ptable rows cues walks parts all ahead i
       → partAt t table pt ptable rows cues i ≡ firstPart (pointAt pt ptable rows parts i)
   unfolding partAt
   mark-cued {cues} {i = i} (waits w o) = rw (lt-ltb (getD cues i 0) met (w .low)) (ap firstPart (w .left))
@@ -86,11 +84,11 @@ module _ (n : Name) (label : List ℕ) (d : Doc) (rest : Members) where
   seek-own : seek n (member n label d rest) ≡ some (property label d)
   seek-own = rw (same-refl n)
 
-  module _ {all : Members} (a : Ahead all (member n label d rest)) where
+  module _ {all : Members} (a : Unmet all (member n label d rest)) where
     pub ahead-found : seek n all ≡ some (property label d)
     ahead-found = a .found n (ap isThere seek-own) ∙ seek-own
 
-    pub ahead-on : Ahead all rest
+    pub ahead-on : Unmet all rest
     ahead-on = record { found = found; distinct = a .distinct .2 }
       where
         found : (m : Name) → isThere (seek m rest) ≡ true → seek m all ≡ seek m rest
@@ -123,7 +121,7 @@ module _ (n : Name) (label : List ℕ) (d : Doc) (rest : Members) where
         absurd (omega arith)
 
     -- and then it has met it
-    pub mark-met : Ahead all (member n label d rest) → firstPart (pointAt pt ptable rows parts i) ≡ n → (row : ℕ) → getD cues i 0 ≡ met + row
+    pub mark-met : Unmet all (member n label d rest) → firstPart (pointAt pt ptable rows parts i) ≡ n → (row : ℕ) → getD cues i 0 ≡ met + row
         → keyAt t table row ≡ n → getD walks i 0 ≡ walkCode (walk (pointAt pt ptable rows parts i) (object all))
         → Mark t table pt ptable rows cues walks parts all rest i
     mark-met a e row c k w =

@@ -3,19 +3,17 @@
 --     MeetWalk, meet-start, meet-here, meet-turn, meet-end     a walk along the members
 -- Assumes nothing.
 use Prim.Native.Nat.{ℕ, _+_, _≤_, _<_}
-use mathlib.Core.Path.{_≡_, refl, sym, ap, _∙_}
+use mathlib.Core.Path.{_≡_, refl, ap, _∙_}
 use mathlib.Core.Bool.{Bool, true, false}
 use mathlib.Core.List.{List}
 use native.Mathlib.Omega.{arith}
-use lib.ListN.{getD}
 use borrow.Author.Tests.{ne-eqb}
 use Rattle.text.specs.Tree.{square, curly, Forest, leaf, node, size}
 use Rattle.text.specs.Tree as T
 use Rattle.text.specs.Firsts.{HasFirst, Kinds, kindAt, nameStart, nameEnd, insideAt, belowAt, restAt}
-use Rattle.text.specs.Standing.{StandsTo}
 use Rattle.text.specs.Strings.{nameOf}
 use Rattle.laws.specs.Lists.{partOf}
-use Rattle.text.specs.Doc.{Name, Doc, scalar, array, object, Members, empty, member, membersOf, labelAt, docOf}
+use Rattle.text.specs.Doc.{scalar, array, object, Members, empty, membersOf, labelAt, docOf}
 use Rattle.text.specs.Distinct.{Distinct, DistinctMembers}
 use Rattle.text.proofs.Promise.{none-at, members-none}
 use Rattle.json.specs.Rows.{belowIn}
@@ -24,7 +22,7 @@ use Rattle.contact.specs.Pointer.{Pointer, last, down}
 use Rattle.contact.specs.Patch.{Entry, added, walk}
 use Rattle.contact.proofs.Patching.Distinct.{distinct-start}
 use Rattle.patch.specs.Conditions.{walkCode, Walked}
-use Rattle.patch.specs.Marks.{met, FilledWith, pointAt, Waiting, Marked, Ahead}
+use Rattle.patch.specs.Marks.{met, FilledWith, pointAt, Waiting, Marked, Unmet}
 use Rattle.patch.specs.Patched.{based, basedAll, membersIn, isOut, BaseAt, stays, strayOf, Passed}
 use Rattle.patch.specs.declared.writing.Pen.{Pen}
 use Rattle.patch.proofs.Putting.Bytes.{BytesLeft}
@@ -81,7 +79,7 @@ module _ (t table pt ptable rows : List ℕ) (lo hi parts : ℕ) (root : Bool) (
   -- a walk along the members, which writes what becomes of them and marks the entries that they meet
   pub record MeetWalk (cues walks new : List ℕ) (s : Pen) (m : ℕ) : Type 0 where
     pub walk : PatchWalk t root es (added all es) leave table end old at total new s m
-    pub ahead : Ahead all (basedAll root (membersOf t (walk .walk .values)))
+    pub ahead : Unmet all (basedAll root (membersOf t (walk .walk .values)))
     pub marked : Marked t table pt ptable rows cues walks lo hi parts all (basedAll root (membersOf t (walk .walk .values)))
     pub few : end ≤ met
 
@@ -102,7 +100,7 @@ module _ (t table pt ptable rows : List ℕ) (lo hi parts : ℕ) (root : Bool) (
     meet-turn p k next e =
         record { walk = patch-turn t root es (added all es) (w .walk) h p next e; ahead = go (isOut root (nameOf t (nameStart here) (nameEnd here))) refl; marked = k; few = w .few }
       where
-        go : (out : Bool) → isOut root (nameOf t (nameStart here) (nameEnd here)) ≡ out → Ahead all (basedAll root (membersOf t (restAt here)))
+        go : (out : Bool) → isOut root (nameOf t (nameStart here) (nameEnd here)) ≡ out → Unmet all (basedAll root (membersOf t (restAt here)))
         go true q = rw (ahead-out root t here (walk-here (w .walk .walk) h .some) q) at (w .ahead)
         go false q =
             let n = nameOf t (nameStart here) (nameEnd here) in

@@ -1,18 +1,17 @@
 -- Values that stand at rows, and a walk along the values inside a container, each written in its turn:
---     value-row, rows-room, value-inside     a value at a row: its words, that the table has those below, and where they stand
+--     value-row, value-inside                            a value at a row: its words, and where those inside it stand
 --     Passing                                            what a loop along rows keeps, whatever stands there
 --     Walk, walk-start, walk-here, walk-on, walk-end     `rest vs first` are the bytes from the values vs on
 -- Assumes nothing.
-use Prim.Native.Nat.{ℕ, _+_, _*_, _≤_, _<_}
+use Prim.Native.Nat.{ℕ, _+_, _≤_, _<_}
 use mathlib.Core.Path.{_≡_}
 use mathlib.Core.Bool.{Bool}
 use mathlib.Core.List.{List}
 use lib.ListN.{length}
-use Rattle.text.specs.Limits.{rowWords}
 use Rattle.text.specs.Tree.{Forest, none}
-use Rattle.text.specs.Firsts.{insideAt, belowAt, headAt, restAt, Kinds}
+use Rattle.text.specs.Firsts.{insideAt, headAt, restAt, Kinds}
 use Rattle.text.specs.Standing.{StandsTo, RowAt}
-use Rattle.text.proofs.Promise.{first-row, first-room, inside, after, some-at, none-at}
+use Rattle.text.proofs.Promise.{first-row, inside, after, some-at, none-at}
 use Rattle.json.specs.Rows.{belowIn}
 use Rattle.json.specs.Lookup.{lastRow, KnownAt}
 use Rattle.json.proofs.Seeking.{inside-kinds, rest-kinds}
@@ -21,10 +20,6 @@ use Rattle.patch.proofs.Putting.Bytes.{BytesLeft}
 -- the words of its row
 pub value-row : {table : List ℕ} {row : ℕ} {g : Forest} → KnownAt table row g → RowAt table row (headAt g)
 value-row {g = g} v = first-row g (v .some) (v .stands)
-
--- it and those inside it are rows of the table
-pub rows-room : {table : List ℕ} {row : ℕ} {g : Forest} → KnownAt table row g → (row + 1 + belowAt g) * rowWords ≤ length table
-rows-room {g = g} v = first-room g (v .some) (v .stands)
 
 -- what is inside it, by the number of rows
 pub value-inside : {table : List ℕ} {row k : ℕ} {g : Forest} → KnownAt table row g → k ≡ belowIn table row

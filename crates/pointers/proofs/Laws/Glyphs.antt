@@ -1,18 +1,21 @@
 -- Laws of keys that are read as written, up to a backslash:
 --     order-fresh                                         a cursor where a character begins is a place
---     coded-glyph, name-glyph, part-glyph, slash-glyph    what a byte shows
+--     untold-glyph, name-glyph, part-glyph, slash-glyph   what a byte shows
+--     slash-read, name-read, part-read                    what is read at a backslash
 --     tilde-one, tilde-zero, tilde-alone                  what a `~` and the byte after it show
 --     shown-order, shown-ends, shown-on                   two glyphs that are compared
---     common-none, common-next                            bytes that two places have in common
---     later-past, untilded-past                           a run of bytes without a `/` stays in its part, one without a `~` has no bad one
+--     common-none, common-next, common-own                bytes that two places have in common
+--     later-run, later-past, untilded-past                a run of bytes without a `/` stays in its part, one without a `~` has no bad one
+--     goes-later, slash-next, over-next                   what follows a part, from a later cursor on, at a `/` and at the end
 -- Assumes nothing.
-use Prim.Native.Nat.{ℕ, _+_, _≤_, _<_}
+use Prim.Native.Nat.{ℕ, zero, suc, _+_, _-_, _≤_, _<_}
 use mathlib.Core.Path.{_≡_, refl, ap, sym, _∙_}
 use mathlib.Core.Bool.{Bool, true, false}
 use mathlib.Core.List.{List, [], _∷_, _++_}
 use mathlib.Core.Option.{Option}
 use native.Mathlib.Decide.{ℕ-discrete}
 use native.Mathlib.Nat.{add-zero}
+use native.Mathlib.Numerals.{add-one}
 use native.Mathlib.Omega.{arith}
 use lib.ListN.{length}
 use borrow.Author.Tests.{ne-eqb}
@@ -27,13 +30,15 @@ use Rattle.text.specs.Utf8.{conts}
 use Rattle.contact.specs.Pointer.{Pointer, pointerOf, badTilde}
 use Rattle.json.specs.Cursors.{rest, cursor, freshOf, nextOf}
 use Rattle.json.specs.Names.{orderAt}
+use Rattle.json.specs.Plain.{Own}
 use Rattle.json.specs.declared.decode.Cursor.{Cursor}
-use Rattle.json.specs.declared.decode.Next.the-variants.{Byte}
+use Rattle.json.specs.declared.decode.Next.the-variants.{Byte, Over}
 use Rattle.json.proofs.Alike.{decode-over, decode-byte, order-heads}
-use Rattle.pointers.specs.Parts.{partLeft, nameLeft, leftAt, tildeLeft, GlyphAt, InCommon, beyond, Crosses, at-end, at-slash, past, Later, Untilded, RunTo, no-byte, one-more, Passes, stays, passes}
+use Rattle.pointers.specs.Parts.{partLeft, nameLeft, leftAt, tildeLeft, GlyphAt, InCommon, beyond, Goes, Crosses, at-end, at-slash, past, Later, Untilded, RunTo, no-byte, one-more, Passes, stays, passes}
 use Rattle.pointers.specs.declared.parts.Onward.{Onward}
+use Rattle.pointers.specs.declared.parts.Onward.the-variants.{Last, Part}
 use Rattle.pointers.specs.declared.parts.Glyph.{Glyph}
-use Rattle.pointers.proofs.Laws.Parts.{part-plain, part-tilde, tail-on}
+use Rattle.pointers.proofs.Laws.Parts.{part-plain, part-tilde, tail-on, ends, goes}
 
 -- ---- places ----
 
@@ -68,8 +73,8 @@ module _ (t : List ℕ) (at : ℕ) where
 abbrev pub glyph : (value len : ℕ) → Glyph
 glyph value len = record { value = value; len = len }
 
-pub coded-glyph : (part : Bool) (t : List ℕ) (at : ℕ) → GlyphAt part t at (glyph 257 1)
-coded-glyph part t at = record { most = omega arith; over = λ e. absurd (omega arith); byte = λ h. absurd (omega arith); within = λ h. absurd (omega arith) }
+pub untold-glyph : (part : Bool) (t : List ℕ) (at : ℕ) → GlyphAt part t at (glyph 257 1)
+untold-glyph part t at = record { most = omega arith; over = λ e. absurd (omega arith); byte = λ h. absurd (omega arith); within = λ h. absurd (omega arith) }
 
 -- a glyph that is a byte
 shows : (part : Bool) (t : List ℕ) (at value len : ℕ) → value < 256 → at + len ≤ length t → leftAt part t at ≡ value ∷ leftAt part t (at + len)
@@ -96,14 +101,29 @@ module _ (t : List ℕ) (at : ℕ) (most : byteAt t at ≤ 256) (s : byteAt t at
         within = within-by;
       }
 
+-- where a part is over
+part-over : (t : List ℕ) (at : ℕ) → leftAt true t at ≡ [] → GlyphAt true t at (glyph 256 1)
+part-over t at e = record { most = omega arith; over = λ z. e; byte = λ h. absurd (omega arith); within = λ h. absurd (omega arith) }
+
 pub slash-glyph : (t : List ℕ) (at : ℕ) → byteAt t at ≡ 47 → GlyphAt true t at (glyph 256 1)
-slash-glyph t at e =
-    record {
-      most = omega arith;
-      over = λ z. ap partLeft (rest-byte t at (λ z. omega arith) (λ z. omega arith)) ∙ rw e;
-      byte = λ h. absurd (omega arith);
-      within = λ h. absurd (omega arith);
-    }
+slash-glyph t at e = part-over t at (ap partLeft (rest-byte t at (λ z. omega arith) (λ z. omega arith)) ∙ rw e)
+
+-- ---- what is read at a backslash ----
+
+module _ (t : List ℕ) (at b : ℕ) (d : Cursor) (read : rest t (cursor at 0 0) ≡ b ∷ rest t d) where
+  pub slash-read : b ≡ 47 → GlyphAt true t at (glyph 256 1)
+  slash-read e = part-over t at (ap partLeft read ∙ rw e)
+
+  module _ (small : b < 256) (alone : d .left ≡ 0) (later : at ≤ d .at) (long : d .at ≤ length t) where
+    whole : rest t (cursor at 0 0) ≡ b ∷ rest t (cursor (at + (d .at - at)) 0 0)
+    whole = let e : at + (d .at - at) ≡ d .at = omega arith in rw (e, ← fresh t d alone) read
+
+    pub name-read : GlyphAt false t at (glyph b (d .at - at))
+    name-read = shows false t at b (d .at - at) small (omega arith) whole
+
+    pub part-read : (b ≡ 47 → ⊥) → (b ≡ 126 → ⊥) → GlyphAt true t at (glyph b (d .at - at))
+    part-read slash tilde =
+        shows true t at b (d .at - at) small (omega arith) (ap partLeft whole ∙ part-plain b (rest t (cursor (at + (d .at - at)) 0 0)) slash tilde)
 
 -- ---- what a `~` shows ----
 
@@ -135,11 +155,11 @@ module _ (t : List ℕ) (at : ℕ) (tilde : byteAt t at ≡ 126) where
   pub tilde-alone : byteAt t (at + 1) ≤ 256 → (byteAt t (at + 1) ≡ 49 → ⊥) → (byteAt t (at + 1) ≡ 48 → ⊥) → (byteAt t (at + 1) ≡ 92 → ⊥)
       → GlyphAt true t at (glyph 126 1)
   unfolding tildeLeft
-  tilde-alone most one zero s =
+  tilde-alone most one nought s =
       let k = tilde-inside in
       shows true t at 126 1 (omega arith) (omega arith) (after ∙ elim (ℕ-discrete (byteAt t (at + 1)) 256) [
         | yes e ↦ rw (rest-over t (at + 1) e)
-        | no e ↦ rw (rest-byte t (at + 1) s e, ne-eqb (byteAt t (at + 1)) 49 one, ne-eqb (byteAt t (at + 1)) 48 zero)
+        | no e ↦ rw (rest-byte t (at + 1) s e, ne-eqb (byteAt t (at + 1)) 49 one, ne-eqb (byteAt t (at + 1)) 48 nought)
       ])
 
 -- ---- two glyphs ----
@@ -191,6 +211,15 @@ module _ (key : List ℕ) (i : ℕ) (name : List ℕ) (j : ℕ) where
         second = omega arith;
       }
 
+  pub common-own : (k : ℕ) → ((m : ℕ) → m < k → (byteAt key (i + m) ≡ byteAt name (j + m)) × Own (byteAt key (i + m))) → InCommon key i name j k
+  common-own zero alike = common-none
+  common-own (suc k) alike =
+      let here = alike k (omega arith) in
+      let own = here .1 in
+      rw (← add-one k)
+      (common-next k (common-own k (λ m h. alike m (omega arith))) (omega (arith, own .plain .ascii)) (own .no-part) (own .no-tilde) (own .plain .no-slash)
+      (here .0))
+
 -- ---- a run ----
 
 -- where a character begins, what is read is told by the place alone
@@ -198,7 +227,7 @@ next-fresh : (t : List ℕ) (c : Cursor) → c .left ≡ 0 → nextOf t c ≡ ne
 unfolding nextOf
 next-fresh t c e = rw e
 
-next-byte : (t : List ℕ) (at : ℕ) → (byteAt t at ≡ 92 → ⊥) → (byteAt t at ≡ 256 → ⊥) → nextOf t (cursor at 0 0) ≡ Byte (byteAt t at) (cursor (at + 1) 0 0)
+pub next-byte : (t : List ℕ) (at : ℕ) → (byteAt t at ≡ 92 → ⊥) → (byteAt t at ≡ 256 → ⊥) → nextOf t (cursor at 0 0) ≡ Byte (byteAt t at) (cursor (at + 1) 0 0)
 unfolding nextOf freshOf
 next-byte t at s e = rw (ne-eqb (byteAt t at) 256 e, ne-eqb (byteAt t at) 92 s)
 
@@ -221,7 +250,7 @@ later-on t c at h s slash l =
       leads = λ r x. l .leads r (past (next-byte t at s (λ z. omega arith)) slash x);
     }
 
-later-run : (t : List ℕ) (c : Cursor) {to : ℕ} → c .left ≡ 0 → RunTo t 47 (c .at) to → Later t c (cursor to 0 0)
+pub later-run : (t : List ℕ) (c : Cursor) {to : ℕ} → c .left ≡ 0 → RunTo t 47 (c .at) to → Later t c (cursor to 0 0)
 later-run t c e no-byte =
     record {
       follows = sym (ap beyondIn (fresh t c e));
@@ -233,6 +262,26 @@ later-run t c e (one-more {at} r h s n) = later-on t c at h s n (later-run t c e
 pub later-past : (t : List ℕ) (c : Cursor) {d : Cursor} → Passes t 47 c d → Later t c d
 later-past t c stays = record { follows = refl; fewer = omega arith; leads = λ r x. x }
 later-past t c (passes e r) = later-run t c e r
+
+-- what follows a part is the same from a later cursor in it on
+pub goes-later : (t : List ℕ) {c d : Cursor} {r : Onward} → Later t c d → Goes t (pointerOf (rest t d)) r → Crosses t d r
+    → Goes t (pointerOf (rest t c)) r × Crosses t c r
+goes-later t {c = c} {r = Last} l g x = (ends (pointerOf (rest t c)) (sym (l .follows) ∙ ap beyond g), l .leads Last x)
+goes-later t {c = c} {r = Part e} l g x = (goes (pointerOf (rest t c)) (pointerOf (rest t e)) (sym (l .follows) ∙ ap beyond g), l .leads (Part e) x)
+
+-- at a `/`, and at the end
+pub slash-next : (t : List ℕ) (at : ℕ) → byteAt t at ≡ 47
+    → Goes t (pointerOf (rest t (cursor at 0 0))) (Part (cursor (at + 1) 0 0)) × Crosses t (cursor at 0 0) (Part (cursor (at + 1) 0 0))
+slash-next t at e =
+    let next : nextOf t (cursor at 0 0) ≡ Byte 47 (cursor (at + 1) 0 0) = next-byte t at (λ z. omega arith) (λ z. omega arith) ∙ rw e in
+    let r = rest-byte t at (λ z. omega arith) (λ z. omega arith) in
+    (goes (pointerOf (rest t (cursor at 0 0))) (pointerOf (rest t (cursor (at + 1) 0 0))) (rw (r, e)), at-slash next)
+
+pub over-next : (t : List ℕ) (at : ℕ) → byteAt t at ≡ 256 → Goes t (pointerOf (rest t (cursor at 0 0))) Last × Crosses t (cursor at 0 0) Last
+unfolding nextOf freshOf
+over-next t at e =
+    let next : nextOf t (cursor at 0 0) ≡ Over = rw e in
+    (ends (pointerOf (rest t (cursor at 0 0))) (rw (rest-over t at e)), at-end next)
 
 untilded-run : (t : List ℕ) (c : Cursor) {to : ℕ} → c .left ≡ 0 → RunTo t 126 (c .at) to → Untilded t c (cursor to 0 0)
 untilded-run t c e no-byte = record { follows = sym (ap badTilde (fresh t c e)); fewer = omega (arith, ap length (fresh t c e)) }

@@ -22,7 +22,7 @@ use Rattle.json.specs.declared.decode.Cursor.{Cursor}
 use Rattle.json.specs.declared.decode.Next.the-variants.{Byte, Over}
 use Rattle.pointers.specs.Parts.{Crosses, at-end, at-slash, past, CrossesTo, longestEscape}
 use Rattle.pointers.specs.declared.parts.Onward.{Onward}
-use Rattle.pointers.specs.declared.parts.Onward.the-variants.{Last, Part}
+use Rattle.pointers.specs.declared.parts.Onward.the-variants.{Part}
 use Rattle.pointers.specs.declared.keys.After.{After}
 use Rattle.pointers.specs.declared.keys.After.the-variants.{Nothing, At}
 

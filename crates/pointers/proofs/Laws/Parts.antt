@@ -1,5 +1,6 @@
 -- Laws of pointers as they are read byte by byte:
 --     part-plain, part-tilde          the first part of a key, by its first byte
+--     plain-tilde                     a `~` that neither `0` nor `1` follows
 --     tail-on                         what follows the first part
 --     ends, goes                      a pointer by what follows its first part
 --     by-part, by-name                a name that is read as a part, or as it is
@@ -46,7 +47,7 @@ pub part-plain : (b : ℕ) (bs : List ℕ) → (b ≡ 47 → ⊥) → (b ≡ 126
 part-plain b bs slash tilde =
     raw-on b bs slash ∙ plain-byte b (firstPart (split bs)) tilde ∙ ap (λ n. b ∷ n) (sym (first-plain (split bs)))
 
-plain-tilde : (c : ℕ) (n : Name) → (c ≡ 49 → ⊥) → (c ≡ 48 → ⊥) → plain (126 ∷ c ∷ n) ≡ 126 ∷ plain (c ∷ n)
+pub plain-tilde : (c : ℕ) (n : Name) → (c ≡ 49 → ⊥) → (c ≡ 48 → ⊥) → plain (126 ∷ c ∷ n) ≡ 126 ∷ plain (c ∷ n)
 plain-tilde c n one zero = rw (ne-eqb c 49 one, ne-eqb c 48 zero)
 
 -- after a `~`: the escape's byte, or the `~` itself and what follows it

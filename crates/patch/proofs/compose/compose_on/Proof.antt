@@ -22,10 +22,12 @@ returns : tie.Need-returns
 returns c room =
     let first = c .before .before .before in
     let sort = first .before .before .before .before .before .before in
-    let collect = sort .before .before .before .before .before in
+    let common = sort .before .before .before in
+    let collect = common .before .before .before .before in
     let a = collect .before .before .before .before .before .before .before .before .before .before .before .args in
     made-broken (now (a .card))
-    (sorting (ends (collect .before .before)) (collect .collect .ensures) (λ p h. omega (arith, room p h, collect .collect .kept .1 .1 .1 .0)) (sort .sort .ensures .0))
+    (sorting (ends (collect .before .before)) (collect .collect .ensures) (λ p h. omega (arith, room p h, collect .collect .kept .1 .1 .1 .0)) (common .common .ensures)
+    (sort .sort .ensures .0))
     (first .first-key .ensures) _
     (c .before .r .given .1)
 
@@ -35,12 +37,18 @@ returns-2 c room =
     let told = put .before .before .before .before .before in
     let first = told .before .before in
     let sort = first .before .before .before .before .before .before in
-    let collect = sort .before .before .before .before .before in
+    let common = sort .before .before .before in
+    let collect = common .before .before .before .before in
     let a = collect .before .before .before .before .before .before .before .before .before .before .before .args in
     made-sorted (now (a .card))
-    (sorting (ends (collect .before .before)) (collect .collect .ensures) (λ p h. omega (arith, room p h, collect .collect .kept .1 .1 .1 .0)) (sort .sort .ensures .0))
+    (sorting (ends (collect .before .before)) (collect .collect .ensures) (λ p h. omega (arith, room p h, collect .collect .kept .1 .1 .1 .0)) (common .common .ensures)
+    (sort .sort .ensures .0))
     (first .first-key .ensures)
     (told .enum-told .given .1) (put .put-sorted .ensures)
+
+-- the lists are as long as they were lent
+put-sorted-requires : tie.Need-put-sorted-requires
+put-sorted-requires c κs = let lent = c .before .before .before .before .before .before .before .before .before .before .before .before .before .before .before .before .before .before .before .before .before .before .before .before .before .before .before .before .before .before .pre in search needs
 
 pub compose-on-spec : {M : Type 1} → statement M
 compose-on-spec =
@@ -51,12 +59,13 @@ compose-on-spec =
     (λ c κs. search needs)
     (λ c κs. search needs)
     (λ c κs. search needs)
+    (λ c κs. search needs)
     (λ c. search needs)
     (λ c. search needs)
     (λ c. search needs)
     returns
     (λ c. search needs)
-    (λ c κs. search needs)
+    put-sorted-requires
     (λ c. search needs)
     (λ c. search needs)
     (λ c. search needs)

@@ -1,15 +1,15 @@
 -- `patch::runs::bound` meets its contract: the place is halved in, and where the entries ascend it parts them. Assumes nothing.
-use Prim.Native.Nat.{_+_, _-_, _/_}
+use Prim.Native.Nat.{_-_}
 use native.Mathlib.Omega.{arith}
 use Rattle.laws.proofs.Halving.{Halved, halved-start, halved-up, halved-down}
 use Rattle.text.specs.Strings.{decode}
-use Rattle.patch.proofs.Listing.Runs.{aheadBefore, bound-made}
+use Rattle.patch.proofs.Listing.Runs.{beforeByCue, bound-made}
 use Rattle.patch.proofs.runs.bound.Statement.{statement}
 use Rattle.patch.proofs.runs.bound.Tie as tie
 
 abbrev Inv-loop : tie.InvT-loop
 Inv-loop text table ptext ptable rows cues lo hi name past near a₀ b₀ step₀ a b step =
-    Halved (aheadBefore text table ptext ptable rows cues (decode name) past) lo hi a b
+    Halved (beforeByCue text table ptext ptable rows cues (decode name) past) lo hi a b
 
 abbrev μ-loop : tie.MeasureT-loop
 μ-loop text table ptext ptable rows cues lo hi name past near a₀ b₀ step₀ a b step = b - a
@@ -19,7 +19,7 @@ loop-holds c =
     let s = c .before .before .before .before .before .before .before .before in
     let a = s .args in
     halved-start
-    (aheadBefore (a .text .now) (a .table .now) (a .ptext .now) (a .ptable .now) (a .rows .now) (a .cues .now) (decode (a .name .now)) (a .past))
+    (beforeByCue (a .text .now) (a .table .now) (a .ptext .now) (a .ptable .now) (a .rows .now) (a .cues .now) (decode (a .name .now)) (a .past))
     (a .lo) (a .hi) (s .pre .0 .0)
 
 at-probe : tie.Need-stands-before-requires Inv-loop μ-loop
@@ -35,7 +35,7 @@ loop-again c =
     let l = c .before .before .before .before .before .loop in
     let m = c .before .before .before .probe in
     halved-up
-    (aheadBefore (a .text .now) (a .table .now) (a .ptext .now) (a .ptable .now) (a .rows .now) (a .cues .now) (decode (a .name .now)) (a .past))
+    (beforeByCue (a .text .now) (a .table .now) (a .ptext .now) (a .ptable .now) (a .rows .now) (a .cues .now) (decode (a .name .now)) (a .past))
     (a .lo) (a .hi) (l .inv) (m .result) (m .ensures .0) (m .ensures .1) (rw (c .before .stands-before .ensures) at (c .if1 .taken))
 
 loop-again-2 : tie.Need-loop-again-2 Inv-loop μ-loop
@@ -44,7 +44,7 @@ loop-again-2 c =
     let l = c .before .before .before .before .before .loop in
     let m = c .before .before .before .probe in
     halved-down
-    (aheadBefore (a .text .now) (a .table .now) (a .ptext .now) (a .ptable .now) (a .rows .now) (a .cues .now) (decode (a .name .now)) (a .past))
+    (beforeByCue (a .text .now) (a .table .now) (a .ptext .now) (a .ptable .now) (a .rows .now) (a .cues .now) (decode (a .name .now)) (a .past))
     (a .lo) (a .hi) (l .inv) (m .result) (m .ensures .0) (m .ensures .1) (rw (c .before .stands-before .ensures) at (c .if1 .left))
 
 returns : tie.Need-returns Inv-loop μ-loop

@@ -1,5 +1,5 @@
 -- `patch::writing::put_addition` meets its contract. Assumes nothing.
-use mathlib.Core.Path.{_≡_, sym, _∙_}
+use mathlib.Core.Path.{sym, _∙_}
 use mathlib.Core.List.{[], _∷_, _++_}
 use native.Mathlib.Omega.{arith}
 use denote.Ref.{now}
@@ -28,7 +28,7 @@ returns c =
 returns-2 : tie.Need-returns-2
 returns-2 c =
     λ h d w.
-    let named = c .before .before .before .before .before .before .before .before .before .before in
+    let named = c .before .before .before .before .before .before .before .before .before .before .before in
     let early = named .before .before .before .before .before .before .before .before in
     let a = early .before .before .before .before .before .args in
     let ptext = now (a .ptext) in
@@ -37,10 +37,11 @@ returns-2 c =
     let label = spelled (firstPart (pointerOf (rest (keyBytes ptext (now (a .ptable)) (a .e)) (cursor (a .place) 0 0)))) in
     let put-spelled = rw (named .before .before .cursor-at .ensures, named .before .before .before .key-at .ensures) at (named .put-spelled .ensures) in
     let is = change-set v (λ e. early .if1 .left (kind .ensures ∙ value-row w .kind ∙ sym (doc-kind ptext h (w .some)) ∙ e)) in
-    passed-some v (rw is)
+    rw (c .behind .ensures)
+    (passed-some v (rw is)
     (wrote-then (comma (a .from .first)) (label ++ (58 ∷ [])) (named .before .before .before .before .before .before .put-comma .ensures)
-    (wrote-then label (58 ∷ []) put-spelled (c .before .before .before .before .before .before .put-byte .ensures)))
-    (c .before .before .copy-value .ensures h w)
+    (wrote-then label (58 ∷ []) put-spelled (c .before .before .before .before .before .before .before .put-byte .ensures)))
+    (c .before .before .before .copy-value .ensures h w))
 
 pub put-addition-spec : {M : Type 1} → statement M
 put-addition-spec =
@@ -48,6 +49,7 @@ put-addition-spec =
     (tie.spec
     (λ c κs. search needs)
     returns
+    (λ c κs. search needs)
     (λ c κs. search needs)
     (λ c κs. search needs)
     (λ c κs. search needs)

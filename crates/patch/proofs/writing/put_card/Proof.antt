@@ -1,15 +1,12 @@
 -- `patch::writing::put_card` meets its contract: no entry has met a member, and each begins with its key. Assumes nothing.
-use Prim.Native.Nat.{ℕ, _≤_, _<_}
-use mathlib.Core.Path.{_≡_, refl, sym, ap, _∙_}
+use mathlib.Core.Path.{_≡_, sym, ap, _∙_}
 use mathlib.Core.Bool.{true}
 use mathlib.Core.List.{_++_}
-use native.Mathlib.Omega.{arith}
-use lib.ListN.{length, getD, take, drop, replicate}
+use lib.ListN.{drop, replicate}
 use lib.Seq.{length-take-le}
 use denote.Ref.{now}
 use Rattle.patch.proofs.Listing.Marks.{cleared-word, cleared-long, cleared-same, waiting-start}
 use Rattle.patch.proofs.Putting.Cards.{stripped-all}
-use borrow.Author.Needs.{needs}
 use Rattle.patch.proofs.writing.put_card.Statement.{statement}
 use Rattle.patch.proofs.writing.put_card.Tie as tie
 

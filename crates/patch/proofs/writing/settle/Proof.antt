@@ -1,5 +1,5 @@
--- `patch::writing::settle` meets its contract: by the cue, and by what follows the part at hand. Assumes nothing.
-use Prim.Native.Nat.{ℕ, _+_}
+-- `patch::writing::settle` meets its contract: by what follows the part at hand. Assumes nothing.
+use Prim.Native.Nat.{ℕ}
 use mathlib.Core.Path.{_≡_, sym, ap, _∙_}
 use mathlib.Core.List.{List}
 use mathlib.Core.Option.{none}
@@ -17,31 +17,17 @@ use Rattle.patch.specs.Conditions.{walkCode}
 use Rattle.pointers.specs.Parts.{GoesAt}
 use Rattle.patch.specs.Marks.{leftOf, Mark}
 use Rattle.patch.specs.Patched.{pointerIn}
-use Rattle.patch.proofs.Listing.Marks.{around-all, around-start, set-around}
+use Rattle.patch.proofs.Listing.Marks.{around-start, set-around}
 use Rattle.patch.proofs.Putting.Kept.{passed-none, adds-down}
 use Rattle.patch.proofs.Putting.Patches.{ended-by, gone-by}
-use Rattle.patch.proofs.Putting.Meeting.{met-by, waits-by, point-in, adds-there, adds-lacking, walk-ends, walk-lost}
+use Rattle.patch.proofs.Putting.Meeting.{waits-by, point-in, adds-lacking, walk-ends, walk-lost}
 use borrow.Author.Needs.{needs}
 use Rattle.patch.proofs.writing.settle.Statement.{statement}
 use Rattle.patch.proofs.writing.settle.Tie as tie
 
-returns : tie.Need-returns
-returns c =
-    let start = c .before .before .before .before .before .before .before .before in
-    let a = start .args in
-    record {
-      around = around-all (now (a .walks)) (a .i) (a .i + 1);
-      is =
-          λ t table parts all h v m.
-          let b = met-by m (c .if1 .taken) in
-          let pt = now (a .ptext) in
-          let p = point-in pt (now (a .rows)) parts (a .i) v in
-          (passed-none (a .from) (omega (arith, start .good .1 .1 .1 .1 .1 .1 .0 .1)) (adds-there all (pointerIn pt parts h) (changeOf (docOf pt h)) (rw p at (b .0))), b .1);
-    }
-
--- an entry that met no member: what follows its part at hand, what is left of its key, and that there is no member of its name
+-- what follows the part at hand, what is left of the key, and that there is no member of its name
 follows : (c : tie.After-after-part) {t table : List ℕ} {parts : ℕ} {all : Members} {h : Forest}
-    → let a = c .before .before .before .before .before .before .before .before .before .before .before .args in
+    → let a = c .before .before .before .before .before .before .before .before .before .before .args in
     let pt = now (a .ptext) in
     let key = keyBytes pt (now (a .ptable)) (getD (now (a .rows)) (a .i) 0) in
     KnownAt (now (a .ptable)) (getD (now (a .rows)) (a .i) 0) h
@@ -50,16 +36,16 @@ follows : (c : tie.After-after-part) {t table : List ℕ} {parts : ℕ} {all : M
     × (leftOf pt (now (a .ptable)) (now (a .rows)) (a .i) (getD (now (a .cues)) (a .i) 0) ≡ pointerIn pt parts h)
     × (seek (firstPart (pointerIn pt parts h)) all ≡ none)
 follows c {parts = parts} {h = h} v m =
-    let a = c .before .before .before .before .before .before .before .before .before .before .before .args in
+    let a = c .before .before .before .before .before .before .before .before .before .before .args in
     let pt = now (a .ptext) in
-    let w = waits-by m (omega (arith, c .before .before .before .if1 .left)) in
+    let w = waits-by m (c .before .before .before .before .before .before .before .before .before .before .pre .2) in
     let here = point-in pt (now (a .rows)) parts (a .i) v in
     let left = w .0 .left ∙ here in
     (rw left at (rw (c .before .key-at .ensures) at (c .after-part .ensures .0)), left, rw here at (w .1))
 
-returns-2 : tie.Need-returns-2
-returns-2 c =
-    let start = c .before .before .before .before .before .before .before .before .before .before .before .before .before .before .before .before .before in
+returns : tie.Need-returns
+returns c =
+    let start = c .before .before .before .before .before .before .before .before .before .before .before .before .before .before .before .before in
     let a = start .args in
     let pt = now (a .ptext) in
     let key = keyBytes pt (now (a .ptable)) (getD (now (a .rows)) (a .i) 0) in
@@ -71,16 +57,16 @@ returns-2 c =
           let f = follows after v m in
           let p = pointerIn pt parts h in
           let d = docOf pt h in
-          let ends = ended-by key (after .after-part .result) (f .0) (sym (c .before .before .before .before .before .is-nothing .ensures) ∙ c .before .before .before .before .if2 .taken) in
+          let ends = ended-by key (after .after-part .result) (f .0) (sym (c .before .before .before .before .before .is-nothing .ensures) ∙ c .before .before .before .before .if1 .taken) in
           let put = rw (f .1) at (c .before .before .put-addition .ensures h d v) in (
             rw (adds-lacking all p (changeOf d) d (f .2) ends) put,
             getD-set-same (now (a .walks)) (a .i) 0 0 (start .pre .1) ∙ sym (ap walkCode (walk-ends all (point-in pt (now (a .rows)) parts (a .i) v ∙ ends))),
           );
     }
 
-returns-3 : tie.Need-returns-3
-returns-3 c =
-    let start = c .before .before .before .before .before .before .before .before .before .before .before .before .before in
+returns-2 : tie.Need-returns-2
+returns-2 c =
+    let start = c .before .before .before .before .before .before .before .before .before .before .before .before in
     let a = start .args in
     let pt = now (a .ptext) in
     let key = keyBytes pt (now (a .ptable)) (getD (now (a .rows)) (a .i) 0) in
@@ -91,7 +77,7 @@ returns-3 c =
           λ t table parts all h v m.
           let f = follows after v m in
           let p = pointerIn pt parts h in
-          let goes = gone-by key (after .after-part .result) (f .0) (sym (c .before .is-nothing .ensures) ∙ c .if2 .left) in
+          let goes = gone-by key (after .after-part .result) (f .0) (sym (c .before .is-nothing .ensures) ∙ c .if1 .left) in
           let here = point-in pt (now (a .rows)) parts (a .i) v in (
             passed-none (a .from) (omega (arith, start .good .1 .1 .1 .1 .1 .1 .0 .1)) (adds-down all p (changeOf (docOf pt h)) (goes .1)),
             getD-set-same (now (a .walks)) (a .i) 2 0 (start .pre .1) ∙ sym (ap walkCode (ap (λ (q : Pointer). walk q (object all)) here ∙ walk-lost all (f .2) (goes .1))),
@@ -104,19 +90,18 @@ settle-spec =
     (tie.spec
     (λ c. search needs)
     (λ c. search needs)
-    (λ c. omega (arith, c .shared-slice-known5 .given (c .before .before .before .before .before .before .before .args .i)))
+    (λ c. search needs)
+    (λ c. search needs)
+    (λ c. search needs)
+    (λ c. omega (arith, c .shared-slice-known6 .given (c .before .before .before .before .before .before .before .before .args .i)))
+    (λ c κs. search needs)
+    (λ c κs. search needs)
+    (λ c κs. search needs)
+    (λ c. search needs)
+    (λ c κs. search needs)
+    (λ c. search needs)
+    (λ c. search needs)
     returns
     (λ c. search needs)
     (λ c. search needs)
-    (λ c. omega (arith, c .shared-slice-known6 .given (c .before .before .before .before .before .before .before .before .before .args .i)))
-    (λ c κs. search needs)
-    (λ c κs. search needs)
-    (λ c κs. search needs)
-    (λ c. search needs)
-    (λ c κs. search needs)
-    (λ c. search needs)
-    (λ c. search needs)
-    returns-2
-    (λ c. search needs)
-    (λ c. search needs)
-    returns-3)
+    returns-2)

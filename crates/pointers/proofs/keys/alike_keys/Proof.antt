@@ -1,4 +1,4 @@
--- `pointers::keys::alike_keys` meets its contract: each turn adds a byte that both have. Assumes nothing.
+-- `pointers::keys::alike_keys` meets its contract: each turn adds a byte that both have to those that they begin with. Assumes nothing.
 use Prim.Native.Nat.{_-_, _<_}
 use mathlib.Core.Path.{sym, _∙_}
 use native.Mathlib.Omega.{arith}
@@ -7,7 +7,7 @@ use denote.Ref.{now}
 use Rattle.laws.proofs.Places.{inside}
 use Rattle.text.specs.Text.{byteAt}
 use Rattle.pointers.specs.Pointers.{AlikeKeys}
-use Rattle.pointers.proofs.Laws.Beginnings.{alike-none, alike-next}
+use Rattle.pointers.proofs.Laws.Beginnings.{alike-next}
 use Rattle.pointers.proofs.keys.alike_keys.Statement.{statement}
 use Rattle.pointers.proofs.keys.alike_keys.Tie as tie
 
@@ -18,28 +18,28 @@ abbrev μ-loop : tie.MeasureT-loop
 μ-loop a b k₀ k = length a - k
 
 -- a byte below the backslash, and one above it that is neither a tilde nor the end, is one of the key
-low : (c : tie.Then2 Inv-loop μ-loop) → byteAt (now (c .before .before .before .before .before .before .before .args .a)) (c .before .before .before .before .loop .k) < 92
+low : (c : tie.Then2 Inv-loop μ-loop) → byteAt (now (c .before .before .before .before .before .before .before .before .args .a)) (c .before .before .before .before .loop .k) < 92
 low c = omega (arith, c .before .before .before .peek .ensures .0, c .if2 .taken)
 
-in-low : (c : tie.Then2 Inv-loop μ-loop) → c .before .before .before .before .loop .k < length (now (c .before .before .before .before .before .before .before .args .a))
-in-low c = inside (now (c .before .before .before .before .before .before .before .args .a)) (c .before .before .before .before .loop .k) (omega (arith, low c))
+in-low : (c : tie.Then2 Inv-loop μ-loop) → c .before .before .before .before .loop .k < length (now (c .before .before .before .before .before .before .before .before .args .a))
+in-low c = inside (now (c .before .before .before .before .before .before .before .before .args .a)) (c .before .before .before .before .loop .k) (omega (arith, low c))
 
-high : (c : tie.Else5 Inv-loop μ-loop) → byteAt (now (c .before .before .before .before .before .before .before .before .before .before .args .a)) (c .before .before .before .before .before .before .before .loop .k) < 256
+high : (c : tie.Else5 Inv-loop μ-loop) → byteAt (now (c .before .before .before .before .before .before .before .before .before .before .before .args .a)) (c .before .before .before .before .before .before .before .loop .k) < 256
 high c = let p = c .before .before .before .before .before .before .peek .ensures in omega (arith, p .0, p .1, c .if5 .left)
 
-in-high : (c : tie.Else5 Inv-loop μ-loop) → c .before .before .before .before .before .before .before .loop .k < length (now (c .before .before .before .before .before .before .before .before .before .before .args .a))
-in-high c = inside (now (c .before .before .before .before .before .before .before .before .before .before .args .a)) (c .before .before .before .before .before .before .before .loop .k) (high c)
+in-high : (c : tie.Else5 Inv-loop μ-loop) → c .before .before .before .before .before .before .before .loop .k < length (now (c .before .before .before .before .before .before .before .before .before .before .before .args .a))
+in-high c = inside (now (c .before .before .before .before .before .before .before .before .before .before .before .args .a)) (c .before .before .before .before .before .before .before .loop .k) (high c)
 
 loop-again : tie.Need-loop-again Inv-loop μ-loop
 loop-again c =
-    let a = c .before .before .before .before .before .before .before .args in
+    let a = c .before .before .before .before .before .before .before .before .args in
     let x = c .before .before .before .peek .ensures .0 in
     alike-next (now (a .a)) (now (a .b)) (c .before .before .before .before .loop .k) (c .before .before .before .before .loop .inv) (sym x ∙ c .before .if1 .left ∙ c .before .before .peek2 .ensures .0)
     (omega (arith, low c)) (λ e. omega (arith, low c)) (λ e. omega (arith, low c))
 
 loop-again-2 : tie.Need-loop-again-2 Inv-loop μ-loop
 loop-again-2 c =
-    let a = c .before .before .before .before .before .before .before .before .before .before .args in
+    let a = c .before .before .before .before .before .before .before .before .before .before .before .args in
     let x = c .before .before .before .before .before .before .peek .ensures .0 in
     alike-next (now (a .a)) (now (a .b)) (c .before .before .before .before .before .before .before .loop .k) (c .before .before .before .before .before .before .before .loop .inv) (sym x ∙ c .before .before .before .before .if1 .left ∙ c .before .before .before .before .before .peek2 .ensures .0)
     (high c) (λ e. c .before .if4 .left (x ∙ e)) (λ e. c .before .before .if3 .left (x ∙ e))
@@ -50,7 +50,8 @@ alike-keys-spec =
     (tie.spec
     Inv-loop
     μ-loop
-    (λ c. alike-none _ _)
+    (λ c κs. tt)
+    (λ c. c .alike-start .ensures)
     (λ c κs. tt)
     (λ c κs. tt)
     (λ c. c .before .before .before .loop .inv)

@@ -1,48 +1,30 @@
--- `pointers::keys::key_order` meets its contract: the first byte that differs decides, if it can. Assumes nothing.
-use mathlib.Core.Path.{_≡_, sym, _∙_}
-use native.Mathlib.Omega.{arith}
+-- `pointers::keys::key_order` meets its contract: the first byte that differs decides, if it can (`by-first`). Assumes nothing.
+use mathlib.Core.Path.{sym, _∙_}
 use denote.Ref.{now}
-use borrow.Author.Needs.{needs}
 use Rattle.laws.specs.Scan.{scan}
-use Rattle.text.specs.Text.{byteAt}
 use Rattle.text.specs.Strings.{pieceBy, decodeFrom}
 use Rattle.text.specs.Utf8.{conts}
-use Rattle.pointers.proofs.Laws.Beginnings.{begins, uncoded, differ-order}
+use Rattle.pointers.proofs.Laws.Beginnings.{by-first}
 use Rattle.pointers.proofs.keys.key_order.Statement.{statement}
 use Rattle.pointers.proofs.keys.key_order.Tie as tie
 
-last : tie.Need-returns-4
+returns : tie.Need-returns
 unfolding conts decodeFrom scan pieceBy
-last c =
-    let args = c .before .before .before .before .before .before .before .before .before .before .before .args in
-    let a = now (args .a) in
-    let b = now (args .b) in
-    let alike = c .before .before .before .before .before .before .before .before .alike-keys in
-    let k = alike .result in
-    let x = c .before .before .before .before .before .before .before .peek .ensures in
-    let y = c .before .before .before .before .before .before .peek2 .ensures in
-    let u = uncoded (c .before .before .before .before .before .before .before .peek .result) (sym (c .before .before .before .before .is-coded .ensures) ∙ c .before .before .before .if2 .left) in
-    let v = uncoded (c .before .before .before .before .before .before .peek2 .result) (sym (c .before .before .is-coded2 .ensures) ∙ c .before .if3 .left) in
-    rw (x .0, y .0) at (c .rank-order .ensures)
-    ∙ differ-order (byteAt a k) (byteAt b k) (λ e. c .before .before .before .before .before .if1 .left (x .0 ∙ e ∙ sym (y .0)))
-    (begins a k (omega (arith, x .0, x .1)) (λ e. u .0 (x .0 ∙ e)) (λ e. u .1 (x .0 ∙ e)))
-    (begins b k (omega (arith, y .0, y .1)) (λ e. v .0 (y .0 ∙ e)) (λ e. v .1 (y .0 ∙ e)))
-    ∙ alike .ensures .order
+returns c =
+    let r = c .before .before in
+    let t = r .before .before in
+    let p = t .before .before in
+    let k = p .before in
+    let a = k .before .before .before .args in
+    rw (r .rank .ensures, c .before .rank2 .ensures) at (c .order-at .ensures)
+    ∙ by-first (now (a .a)) (now (a .b)) (k .alike-keys .result) (p .peek .ensures) (t .before .peek2 .ensures) (sym (t .tells .ensures) ∙ r .before .if1 .taken) .0
+    ∙ k .alike-keys .ensures .order
+
+returns-2 : tie.Need-returns-2
+unfolding conts decodeFrom scan pieceBy
+returns-2 c = c .parts-order .ensures ∙ c .before .before .before .before .before .alike-keys .ensures .order
 
 pub key-order-spec : {M : Type 1} → statement M
 key-order-spec =
     tie.close
-    (tie.spec
-    (λ c κs. tt)
-    (λ c κs. tt)
-    (λ c κs. tt)
-    (λ c κs. tt)
-    (λ c. c .parts-order .ensures)
-    (λ c κs. tt)
-    (λ c κs. tt)
-    (λ c. c .parts-order2 .ensures)
-    (λ c κs. tt)
-    (λ c κs. tt)
-    (λ c. c .parts-order3 .ensures)
-    (λ c κs. (c .before .before .before .before .before .before .peek .ensures .1, c .before .before .before .before .before .peek2 .ensures .1))
-    last)
+    (tie.spec (λ c κs. tt) (λ c κs. tt) (λ c κs. tt) (λ c κs. tt) (λ c κs. tt) (λ c κs. tt) (λ c κs. tt) returns (λ c κs. tt) returns-2)

@@ -4,24 +4,23 @@ use lib.ListN.{length}
 use denote.Ref.{now}
 use borrow.Author.Needs.{needs}
 use Rattle.json.specs.Cursors.{rest}
-use Rattle.text.specs.Strings.{decode}
 use Rattle.text.specs.Utf8.{conts}
 use Rattle.contact.specs.Pointer.{pointerOf, parts}
 use Rattle.laws.specs.declared.Order.the-variants.{Less, More}
-use Rattle.pointers.specs.Pointers.{pointerOrder}
+use Rattle.pointers.specs.Pointers.{pointerOrder, pointerFrom}
 use Rattle.pointers.proofs.Laws.Pointers.{order-first, order-ends, order-left, order-right, order-on, fewer}
 use Rattle.pointers.proofs.keys.parts_order.Statement.{statement}
 use Rattle.pointers.proofs.keys.parts_order.Tie as tie
 
 abbrev Inv-loop : tie.InvT-loop
-Inv-loop a b x₀ y₀ x y = pointerOrder (pointerOf (rest a x)) (pointerOf (rest b y)) ≡ pointerOrder (pointerOf (decode a)) (pointerOf (decode b))
+Inv-loop a b from x₀ y₀ x y = pointerOrder (pointerOf (rest a x)) (pointerOf (rest b y)) ≡ pointerOrder (pointerFrom a from) (pointerFrom b from)
 
 abbrev μ-loop : tie.MeasureT-loop
-μ-loop a b x₀ y₀ x y = length (parts (pointerOf (rest a x)))
+μ-loop a b from x₀ y₀ x y = length (parts (pointerOf (rest a x)))
 
 loop-holds : tie.Need-loop-holds Inv-loop μ-loop
 unfolding conts
-loop-holds c = rw (c .before .start .ensures, c .start2 .ensures) refl
+loop-holds c = rw (c .before .cursor-at .ensures, c .cursor-at2 .ensures) refl
 
 returns : tie.Need-returns Inv-loop μ-loop
 returns c =

@@ -1,17 +1,8 @@
 -- `pointers::keys::rank` meets its contract. Assumes nothing.
 use native.Mathlib.Omega.{arith}
-use borrow.Author.Tests.{eq-eqb, ne-eqb}
+use Rattle.laws.proofs.Picks.{picks}
 use Rattle.pointers.proofs.keys.rank.Statement.{statement}
 use Rattle.pointers.proofs.keys.rank.Tie as tie
 
-returns : tie.Need-returns
-returns c = rw (eq-eqb _ _ (c .if1 .taken))
-
-returns-2 : tie.Need-returns-2
-returns-2 c = rw (ne-eqb _ _ (c .before .if1 .left), eq-eqb _ _ (c .if2 .taken))
-
-returns-3 : tie.Need-returns-3
-returns-3 c = rw (ne-eqb _ _ (c .before .if1 .left), ne-eqb _ _ (c .if2 .left))
-
 pub rank-spec : {M : Type 1} → statement M
-rank-spec = tie.close (tie.spec returns returns-2 (λ c. omega arith) returns-3)
+rank-spec = tie.close (tie.spec (λ c. omega arith) (λ c. search picks) (λ c. search picks) (λ c. search picks))

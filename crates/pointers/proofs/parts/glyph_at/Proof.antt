@@ -4,7 +4,7 @@ use denote.Ref.{now}
 use native.Mathlib.Omega.{arith}
 use borrow.Author.Needs.{needs}
 use Rattle.laws.proofs.Picks.{granted, denied}
-use Rattle.pointers.proofs.Laws.Glyphs.{coded-glyph, name-glyph, part-glyph, slash-glyph}
+use Rattle.pointers.proofs.Laws.Glyphs.{name-glyph, part-glyph, slash-glyph}
 use Rattle.pointers.proofs.parts.glyph_at.Statement.{statement}
 use Rattle.pointers.proofs.parts.glyph_at.Tie as tie
 
@@ -35,4 +35,4 @@ returns-5 c =
 
 pub glyph-at-spec : {M : Type 1} → statement M
 glyph-at-spec =
-    tie.close (tie.spec (λ c κs. tt) (λ c. coded-glyph _ _ _) returns-2 returns-3 (λ c κs. search needs) returns-4 returns-5)
+    tie.close (tie.spec (λ c κs. tt) (λ c κs. tt) (λ c. c .coded-at .ensures) returns-2 returns-3 (λ c κs. search needs) returns-4 returns-5)

@@ -2,7 +2,7 @@
 use mathlib.Core.Path.{sym, _∙_}
 use denote.Ref.{now}
 use native.Mathlib.Omega.{arith}
-use Rattle.pointers.proofs.Laws.Glyphs.{coded-glyph, tilde-inside, tilde-one, tilde-zero, tilde-alone}
+use Rattle.pointers.proofs.Laws.Glyphs.{tilde-inside, tilde-one, tilde-zero, tilde-alone}
 use Rattle.pointers.proofs.parts.tilde_at.Statement.{statement}
 use Rattle.pointers.proofs.parts.tilde_at.Tie as tie
 
@@ -27,4 +27,4 @@ returns-4 c =
     (λ z. c .before .if2 .left (p .ensures .0 ∙ z)) (λ z. c .if3 .left (p .ensures .0 ∙ z))
 
 pub tilde-at-spec : {M : Type 1} → statement M
-tilde-at-spec = tie.close (tie.spec add-peek (λ c κs. tt) returns returns-2 (λ c. coded-glyph _ _ _) returns-4)
+tilde-at-spec = tie.close (tie.spec add-peek (λ c κs. tt) returns returns-2 (λ c κs. tt) (λ c. c .untold .ensures _ _ _) returns-4)
