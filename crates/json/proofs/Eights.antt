@@ -2,11 +2,11 @@
 --     class-plain                all of either class are plain
 --     alike-none, alike-more     one more of them
 --     alike-eight                the first j of n bytes that were read as numbers
---     one-run                    two runs that go as far as they can are as long
+--     one-run, one-told          two runs that go as far as they can are as long; two tests that tell the same say the same
 --     common-plain               what two names have in common by plain bytes
 -- Assumes nothing.
 use Prim.Native.Nat.{ℕ, zero, suc, _+_, _/_, _%_, _≤_, _<_}
-use mathlib.Core.Path.{_≡_, sym, subst, _∙_}
+use mathlib.Core.Path.{_≡_, refl, sym, subst, _∙_}
 use mathlib.Core.Bool.{Bool, true, false}
 use mathlib.Core.List.{List}
 use native.Mathlib.Decide.{decLe}
@@ -17,7 +17,7 @@ use lib.ListN.{length, getD}
 use borrow.Author.Count.{below-more}
 use Rattle.laws.proofs.Places.{any-default}
 use Rattle.text.specs.Text.{byteAt}
-use Rattle.json.specs.Plain.{packedAt, Plain, Class, AlikeBytes, AlikeTo, AlikeRun}
+use Rattle.json.specs.Plain.{packedAt, Plain, Class, Told, AlikeBytes, AlikeTo, AlikeRun}
 use Rattle.json.specs.Quoted.{CommonFrom}
 use Rattle.json.proofs.Comparing.{common-none, common-next}
 
@@ -46,6 +46,12 @@ module _ (P : ℕ → Type 0) (s : List ℕ) (a : ℕ) (t : List ℕ) (b : ℕ) 
 
   pub one-run : {k l : ℕ} → AlikeRun P s a t b k → AlikeRun P s a t b l → k ≡ l
   one-run r q = omega (arith, no-longer r q, no-longer q r)
+
+pub one-told : {A : Type 0} (r s : Bool) → Told A r → Told A s → r ≡ s
+one-told true true x y = refl
+one-told true false x y = absurd (y .no refl (x .yes refl))
+one-told false true x y = absurd (x .no refl (y .yes refl))
+one-told false false x y = refl
 
 -- ---- bytes that were read as numbers
 

@@ -15,7 +15,7 @@ use lib.Bits.{bitAnd, bitOr, bitXor, and-block, or-block, xor-block, and-le-l, a
 use lib.Count.{under, trailingZeros, trailing-le}
 use borrow.Author.Tests.{ltb-true, leb-true, eqb-false}
 use Rattle.laws.proofs.Picks.{denied}
-use Rattle.json.specs.Plain.{Plain, Own, Bytes, AlikeBytes, Zero, Marked}
+use Rattle.json.specs.Plain.{Plain, Own, Bytes, AlikeBytes, Zero, MarkedBytes}
 
 -- ---- bytes of a number
 
@@ -183,7 +183,7 @@ same-bytes P (suc k) v w p z =
     let h = clear k (xor-bytes (lowest v) (lowest w)) z in
     (p .0, (xor-none (v % 256) (w % 256) (h .0), same-bytes P k (v / 256) (w / 256) (p .1) (h .1)))
 
-pub alike-marked : (P : ℕ → Type 0) (m v w k : ℕ) → Marked P m v → k ≤ 8 → Bytes Zero k (bitOr m (bitXor v w)) → AlikeBytes P k v w
+pub alike-marked : (P : ℕ → Type 0) (m v w k : ℕ) → MarkedBytes P m v → k ≤ 8 → Bytes Zero k (bitOr m (bitXor v w)) → AlikeBytes P k v w
 alike-marked P m v w k tells h z =
     let c = either-clear k m (bitXor v w) z in
     same-bytes P k v w (tells k h (c .0)) (c .1)
@@ -239,16 +239,16 @@ xor-seven w c h = xor-lt 63 (bitAnd w 0x7F7F7F7F7F7F7F7F) c (omega (arith, low-s
 abbrev eightMarks : (x c y d w : ℕ) → ℕ
 eightMarks x c y d w = marked w (bitAnd w 0x7F7F7F7F7F7F7F7F) x c y d 0x8080808080808080
 
-pub plain-marked : (w : ℕ) → Marked Plain (eightMarks 0x0202020202020202 0x5F5F5F5F5F5F5F5F 0x5C5C5C5C5C5C5C5C 0x7F7F7F7F7F7F7F7F w) w
+pub plain-marked : (w : ℕ) → MarkedBytes Plain (eightMarks 0x0202020202020202 0x5F5F5F5F5F5F5F5F 0x5C5C5C5C5C5C5C5C 0x7F7F7F7F7F7F7F7F w) w
 unfolding marks rep
 plain-marked w k h z = told 2 95 92 127 (omega arith) (omega arith) (omega arith) (omega arith) plain-byte 8 k w h z
 
-unparted-marked : (w : ℕ) → Marked Unparted (eightMarks 0x2F2F2F2F2F2F2F2F 0x7F7F7F7F7F7F7F7F 0x7E7E7E7E7E7E7E7E 0x7F7F7F7F7F7F7F7F w) w
+unparted-marked : (w : ℕ) → MarkedBytes Unparted (eightMarks 0x2F2F2F2F2F2F2F2F 0x7F7F7F7F7F7F7F7F 0x7E7E7E7E7E7E7E7E 0x7F7F7F7F7F7F7F7F w) w
 unfolding marks rep
 unparted-marked w k h z = told 47 127 126 127 (omega arith) (omega arith) (omega arith) (omega arith) unparted-byte 8 k w h z
 
-pub own-marked : {m : ℕ} (w : ℕ) → Marked Plain m w
-    → Marked Own (bitOr m (eightMarks 0x2F2F2F2F2F2F2F2F 0x7F7F7F7F7F7F7F7F 0x7E7E7E7E7E7E7E7E 0x7F7F7F7F7F7F7F7F w)) w
+pub own-marked : {m : ℕ} (w : ℕ) → MarkedBytes Plain m w
+    → MarkedBytes Own (bitOr m (eightMarks 0x2F2F2F2F2F2F2F2F 0x7F7F7F7F7F7F7F7F 0x7E7E7E7E7E7E7E7E 0x7F7F7F7F7F7F7F7F w)) w
 own-marked {m} w plain k h z =
     let c = either-clear k m (eightMarks 0x2F2F2F2F2F2F2F2F 0x7F7F7F7F7F7F7F7F 0x7E7E7E7E7E7E7E7E 0x7F7F7F7F7F7F7F7F w) z in
     joined k w (plain k h (c .0)) (unparted-marked w k h (c .1))

@@ -52,8 +52,8 @@ abbrev pub Zero : ℕ → Type 0
 Zero b = b ≡ 0
 
 -- of eight bytes those below the lowest mark are in a class
-abbrev pub Marked : (P : ℕ → Type 0) → (marks w : ℕ) → Type 0
-Marked P marks w = (k : ℕ) → k ≤ 8 → Bytes Zero k marks → Bytes P k w
+abbrev pub MarkedBytes : (P : ℕ → Type 0) → (marks w : ℕ) → Type 0
+MarkedBytes P marks w = (k : ℕ) → k ≤ 8 → Bytes Zero k marks → Bytes P k w
 
 -- the k bytes from two places of two texts on are in a class and alike; they stand in their texts, so that no place behind them wraps
 pub record AlikeTo (P : ℕ → Type 0) (s : List ℕ) (a : ℕ) (t : List ℕ) (b k : ℕ) : Type 0 where

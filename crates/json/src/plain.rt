@@ -8,7 +8,7 @@ use crate::bytes::peek;
 ghost use mathlib.Core.Path.{_≡_};
 ghost use Prim.Native.Nat.{_+_, _-_, _*_, _<_, _≤_};
 ghost use lib.ListN.{length};
-ghost use Rattle.json.specs.Plain.{packedAt, Plain, Own, Class, Told, Bytes, AlikeBytes, Marked, AlikeTo, AlikeRun, PlainTo};
+ghost use Rattle.json.specs.Plain.{packedAt, Plain, Own, Class, Told, Bytes, AlikeBytes, MarkedBytes, AlikeTo, AlikeRun, PlainTo};
 
 // A number with a byte put below it.
 fn above(low: u8, high: u64) -> u64
@@ -19,7 +19,7 @@ fn above(low: u8, high: u64) -> u64
 }
 
 // The eight bytes from a place on as a number, the first one lowest.
-pub(crate) fn eight(text: &[u8], at: usize) -> u64
+fn eight(text: &[u8], at: usize) -> u64
     requires { ⌜ at + 8 ≤ length (now text) ⌝ }
     ensures { λ r. ⌜ r ≡ packedAt (now (text .entry)) 8 at ⌝ }
 {
@@ -36,7 +36,7 @@ pub(crate) fn eight(text: &[u8], at: usize) -> u64
 // Marks of a number's eight bytes: each that isn't plain has its highest bit. No sum reaches the next byte, and with its second bit turned the quote stands
 // among the controls, below 33, and nothing else does.
 fn plain_marks(w: u64) -> u64
-    ensures { λ r. ⌜ Marked Plain r w ⌝ }
+    ensures { λ r. ⌜ MarkedBytes Plain r w ⌝ }
 {
     let low = w & 0x7F7F7F7F7F7F7F7F;
     let shown = (low ^ 0x0202020202020202) + 0x5F5F5F5F5F5F5F5F;
@@ -47,7 +47,7 @@ fn plain_marks(w: u64) -> u64
 
 // The same where a slash and a tilde are marked too.
 fn own_marks(w: u64) -> u64
-    ensures { λ r. ⌜ Marked Own r w ⌝ }
+    ensures { λ r. ⌜ MarkedBytes Own r w ⌝ }
 {
     let low = w & 0x7F7F7F7F7F7F7F7F;
     let no_slash = (low ^ 0x2F2F2F2F2F2F2F2F) + 0x7F7F7F7F7F7F7F7F;
@@ -59,7 +59,7 @@ fn own_marks(w: u64) -> u64
 
 // The marks by which a class is told.
 fn marks_of(own: bool, w: u64) -> u64
-    ensures { λ r. ⌜ Marked (Class own) r w ⌝ }
+    ensures { λ r. ⌜ MarkedBytes (Class own) r w ⌝ }
 {
     if own {
         return own_marks(w);
@@ -67,14 +67,14 @@ fn marks_of(own: bool, w: u64) -> u64
     plain_marks(w)
 }
 
-// How many of a number's eight bytes, from the lowest on, are plain.
+// So many of a number's eight bytes, from the lowest on, are plain: those below the lowest mark.
 fn plain_bytes(w: u64) -> usize
     ensures { λ r. ⌜ (r ≤ 8) × Bytes Plain r w ⌝ }
 {
     (u64::trailing_zeros(plain_marks(w)) / 8) as usize
 }
 
-// How many of two numbers' eight bytes, from the lowest on, are in a class and the same: up to the lowest mark or bit that differs.
+// So many of two numbers' eight bytes, from the lowest on, are in a class and the same: those up to the lowest mark or bit that differs.
 fn alike_bytes(own: bool, v: u64, w: u64) -> usize
     ensures { λ r. ⌜ (r ≤ 8) × AlikeBytes (Class own) r v w ⌝ }
 {
@@ -105,8 +105,8 @@ pub(crate) fn plain_end(text: &[u8], from: usize) -> usize
     at
 }
 
-// How many bytes stand behind a place.
-fn behind(text: &[u8], at: usize) -> usize
+// How many bytes stand from a place on.
+fn left_from(text: &[u8], at: usize) -> usize
     ensures { λ r. ⌜ r ≡ length (now (text .entry)) - at ⌝ }
 {
     let n = text.len();
@@ -116,19 +116,19 @@ fn behind(text: &[u8], at: usize) -> usize
     n - at
 }
 
-// How many bytes stand behind two places at least.
+// So many bytes stand from each of two places on, and more from one of them.
 fn room(text: &[u8], a: usize, other: &[u8], b: usize) -> usize
     ensures { λ r. ⌜ (r ≤ length (now (text .entry)) - a) × (r ≤ length (now (other .entry)) - b) ⌝ }
 {
-    let first = behind(text, a);
-    let second = behind(other, b);
+    let first = left_from(text, a);
+    let second = left_from(other, b);
     if first < second {
         return first;
     }
     second
 }
 
-// How many bytes stand alike from two places on and are in a class, told eight at a time: up to the first that isn't so, or fewer than eight bytes before the
+// So many bytes stand alike from two places on and are in a class, told eight at a time: up to the first that isn't so, or fewer than eight bytes before the
 // end of a text. A turn adds eight, whatever it finds, so that none waits for the one before.
 pub(crate) fn alike_eights(own: bool, text: &[u8], a: usize, other: &[u8], b: usize) -> usize
     ensures { λ r. ⌜ AlikeTo (Class own) (now (text .entry)) a (now (other .entry)) b r ⌝ }

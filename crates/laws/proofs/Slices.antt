@@ -4,14 +4,16 @@
 --     slice-set                  a store behind a part makes it longer
 --     slice-agree                lists that agree from the one place to the other
 --     slice-all                  the whole list
+--     each-slice                 what holds of each of them
 -- Assumes nothing.
 use mathlib.Core.Path.{_≡_, ap, sym, _∙_}
 use mathlib.Core.List.{List, [], _∷_, _++_}
-use Prim.Native.Nat.{ℕ, _+_, _≤_, _<_}
+use Prim.Native.Nat.{ℕ, zero, suc, _+_, _≤_, _<_}
 use native.Mathlib.Omega.{arith}
 use native.Mathlib.Numerals.{add-one}
 use lib.ListN.{length, getD, set, take, drop, take-append-drop}
 use lib.Seq.{slice, take-length, slice-cons, slice-empty, length-slice, length-take-le, take-take, take-suc-set, drop-append-le, getD-drop, getD-take, ext-getD}
+use Rattle.laws.specs.Each.{Each, none, more}
 
 pub slice-more : (lo hi : ℕ) (l : List ℕ) → lo < hi → hi ≤ length l → slice lo hi l ≡ getD l lo 0 ∷ slice (lo + 1) hi l
 slice-more lo hi l h k = rw add-one (slice-cons lo hi l 0 h k)
@@ -41,3 +43,7 @@ slice-agree lo hi l m p q same =
 
 pub slice-all : (l : List ℕ) → slice 0 (length l) l ≡ l
 slice-all l = take-length l
+
+pub each-slice : (P : ℕ → Type 0) (l : List ℕ) (left lo hi : ℕ) → lo + left ≡ hi → hi ≤ length l → ((j : ℕ) → j < hi → P (getD l j 0)) → Each P (slice lo hi l)
+each-slice P l zero lo hi e r h = rw (slice-none lo hi l (omega arith) (omega arith)) none
+each-slice P l (suc left) lo hi e r h = rw (slice-more lo hi l (omega arith) r) (more (h lo (omega arith)) (each-slice P l left (lo + 1) hi (omega arith) r h))

@@ -14,7 +14,7 @@ use Rattle.json.specs.Plain.{Own}
 use Rattle.json.specs.declared.decode.Cursor.{Cursor}
 use Rattle.json.specs.declared.decode.Next.{Next}
 use Rattle.json.specs.declared.decode.Next.the-variants.{Byte, Over}
-use Rattle.contact.specs.Pointer.{Pointer, last, down, pointerOf, firstPart, badTilde}
+use Rattle.contact.specs.Pointer.{Pointer, last, down, pointerOf, firstPart}
 use Rattle.pointers.specs.declared.parts.Glyph.{Glyph}
 use Rattle.pointers.specs.declared.parts.Onward.{Onward}
 use Rattle.pointers.specs.declared.parts.Onward.the-variants.{Last, Part}
@@ -112,17 +112,6 @@ CrossesTo key at Nothing = Crosses key (cursor at 0 0) Last
 CrossesTo key at (At to) = (c : Cursor) × Crosses key (cursor at 0 0) (Part c) × (c .at ≡ to)
 
 -- ---- on the way
-
--- a cursor that stands in the same part as another, no earlier
-pub record Later (key : List ℕ) (c d : Cursor) : Type 0 where
-  pub follows : beyond (pointerOf (rest key d)) ≡ beyond (pointerOf (rest key c))
-  pub fewer : length (rest key d) ≤ length (rest key c)
-  pub leads : (r : Onward) → Crosses key d r → Crosses key c r
-
--- a cursor no earlier than another, from which on a bad `~` stands just if one does from the other on
-pub record Untilded (key : List ℕ) (c d : Cursor) : Type 0 where
-  pub follows : badTilde (rest key d) ≡ badTilde (rest key c)
-  pub fewer : length (rest key d) ≤ length (rest key c)
 
 -- from a place on, past bytes of the key that are neither `stop` nor a backslash
 pub data RunTo (key : List ℕ) (stop from : ℕ) : ℕ → Type 0 where

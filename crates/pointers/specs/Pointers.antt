@@ -9,7 +9,6 @@ use Rattle.laws.specs.Order.{orderOf}
 use Rattle.laws.specs.declared.Order.{Order}
 use Rattle.laws.specs.declared.Order.the-variants.{Less, Same, More}
 use Rattle.json.specs.Cursors.{rest, cursor}
-use Rattle.json.specs.Names.{orderAt}
 use Rattle.contact.specs.Pointer.{Pointer, last, down, pointerOf, clash}
 
 -- the first decides unless it says the same
@@ -58,7 +57,3 @@ endsBefore x y = cond (eqb x 256) (eqb y 47) (cond (eqb y 256) (eqb x 47) false)
 -- where a byte stands: the end of a part (47) before any other; 256 stays
 abbrev pub rankOf : ℕ → ℕ
 rankOf b = cond (ltb b 47) (b + 1) (cond (eqb b 47) 0 b)
-
--- the order by two bytes that differ: the end of a key comes first, then the end of a part, then any byte
-abbrev pub rankOrder : (x y : ℕ) → Order
-rankOrder x y = orderAt (rankOf x) (rankOf y)

@@ -66,8 +66,8 @@ pub fn is_own(key: &[u8]) -> bool
     part_same(key, start(), false, b"localizations", start())
 }
 
-// How many plain bytes two keys begin with alike: so far their pointers are the same. A tilde at the end of these is left, to be read with what follows. It is
-// the second byte of no `~0` or `~1`, so a character begins there.
+// Plain bytes that two keys begin with alike: so far their pointers are the same. Short keys aren't asked. A tilde at the end of these is left, to be read with
+// what follows. It is the second byte of no `~0` or `~1`, so a character begins there.
 fn alike_start(a: &[u8], b: &[u8]) -> usize
     ensures { λ r. ⌜ AlikeKeys (now (a .entry)) (now (b .entry)) r ⌝ }
 {
@@ -88,8 +88,8 @@ fn alike_start(a: &[u8], b: &[u8]) -> usize
     k
 }
 
-// How many bytes two keys begin with alike so that what is left decides: up to a difference, a backslash, or a tilde behind bytes that aren't plain. Most
-// bytes take few tests.
+// Bytes that two keys begin with alike so that what is left decides: up to a difference, a backslash, or a tilde behind bytes that aren't plain. That they are
+// the most, nothing asks. Most bytes take few tests.
 fn alike_keys(a: &[u8], b: &[u8]) -> usize
     ensures { λ r. ⌜ AlikeKeys (now (a .entry)) (now (b .entry)) r ⌝ }
 {

@@ -35,7 +35,7 @@ const ONE: u16 = b'1' as u16;
 const CODED: u16 = 257;
 
 // What follows a part: another, where the cursor stands, or none.
-pub enum Onward {
+pub(crate) enum Onward {
     Last,
     Part(Cursor),
 }
@@ -201,8 +201,8 @@ pub(crate) fn is_short(key: &[u8], at: usize) -> bool
     key.len() - 8 < at
 }
 
-// How many bytes from two places on are alike and spell themselves, in a part as in a name: those of ASCII, where eight are left of both. Tildes and
-// slashes often stand in a row, and each would be looked at with all that follow.
+// Bytes from two places on that are alike and spell themselves, in a part as in a name: those of ASCII, where eight are left of both. Not asked at a tilde or
+// a slash: they often stand in a row, and each would be looked at with all that follow.
 fn alike_own(key: &[u8], i: usize, name: &[u8], j: usize) -> usize
     ensures { λ r. ⌜ InCommon (now (key .entry)) i (now (name .entry)) j r ⌝ }
 {
@@ -222,8 +222,8 @@ fn alike_own(key: &[u8], i: usize, name: &[u8], j: usize) -> usize
     alike_own_from(key, i, name, j)
 }
 
-// How many bytes from two places on are alike and spell themselves, in a part as in a name: none of them is a slash, a tilde or a backslash. First those of
-// ASCII, and byte by byte where others stand.
+// Bytes from two places on that are alike and spell themselves, in a part as in a name: none of them is a slash, a tilde or a backslash. First those of
+// ASCII, and byte by byte where others stand. That they are all, nothing asks.
 fn alike_from(key: &[u8], i: usize, name: &[u8], j: usize) -> usize
     ensures { λ r. ⌜ InCommon (now (key .entry)) i (now (name .entry)) j r ⌝ }
 {
@@ -294,8 +294,7 @@ fn decoded_order(
     }
 }
 
-// The same from places where a character begins: they are compared as written, up to an escape that spells more than one byte. Glyphs are read only where no
-// plain bytes are alike.
+// The same from places where a character begins: they are compared as written, up to what no glyph tells. Glyphs are read only where no plain bytes are alike.
 fn written_order(
     part: bool,
     key: &[u8],
@@ -334,7 +333,13 @@ fn written_order(
 }
 
 // The order of the part at a cursor and another part, or a name, from its cursor on; `is_part` says which.
-pub fn part_order(key: &[u8], from: Cursor, is_part: bool, name: &[u8], name_from: Cursor) -> Order
+pub(crate) fn part_order(
+    key: &[u8],
+    from: Cursor,
+    is_part: bool,
+    name: &[u8],
+    name_from: Cursor,
+) -> Order
     ensures { λ r. ⌜ r ≡ orderOf (partLeft (rest (now (key .entry)) from)) (nameLeft «is_part» (now (name .entry)) «name_from») ⌝ }
 {
     if from.left != 0 {
@@ -361,7 +366,13 @@ pub fn name_order(name: &[u8], other: &[u8]) -> Order
 }
 
 // Are they the same?
-pub fn part_same(key: &[u8], from: Cursor, is_part: bool, name: &[u8], name_from: Cursor) -> bool
+pub(crate) fn part_same(
+    key: &[u8],
+    from: Cursor,
+    is_part: bool,
+    name: &[u8],
+    name_from: Cursor,
+) -> bool
     ensures { λ r. ⌜ r ≡ same (partLeft (rest (now (key .entry)) from)) (nameLeft «is_part» (now (name .entry)) «name_from») ⌝ }
 {
     is_same(part_order(key, from, is_part, name, name_from))
@@ -398,7 +409,7 @@ pub(crate) fn past_written(key: &[u8], c: Cursor, stop: u16) -> Cursor
 }
 
 // What follows the part at the cursor.
-pub fn next_part(key: &[u8], from: Cursor) -> Onward
+pub(crate) fn next_part(key: &[u8], from: Cursor) -> Onward
     ensures { λ r. ⌜ Goes (now (key .entry)) (pointerOf (rest (now (key .entry)) from)) r ⌝ }
     ensures is { λ r. ⌜ Crosses (now (key .entry)) from r ⌝ }
 {

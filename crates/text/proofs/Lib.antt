@@ -1,5 +1,6 @@
 -- The theorems over the definitions of specs/, by subject.
 pub mod Walks
+pub mod Tails
 pub mod Sequences
 pub mod Laws
 pub mod Standing

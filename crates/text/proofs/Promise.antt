@@ -28,6 +28,9 @@
 --     members-first, members-none      the members, one value after the other
 --     content-part, label-part         the content of a string and a name as written are parts of the text
 --     count-root, count-doc, count-members      it has as many values as the tree
+--
+-- Names as they are written:
+--     tail-is               what is decoded from a place on is what is decoded of the bytes from there on alone
 -- Assumes nothing.
 use Prim.Native.Nat.{ℕ, _*_, _≤_}
 use mathlib.Core.Path.{_≡_, refl, ap, _∙_}
@@ -91,6 +94,7 @@ pub use Rattle.text.proofs.Documents.{
   count-doc,
   count-root,
 }
+pub use Rattle.text.proofs.Tails.{tail-is}
 
 -- ---- a text that is read ----
 

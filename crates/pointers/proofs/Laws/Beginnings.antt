@@ -17,13 +17,14 @@ use lib.ListN.{length}
 use borrow.Author.Tests.{ne-eqb, lt-ltb, le-ltb, eqb-false}
 use Rattle.laws.specs.Order.{orderOf, same}
 use Rattle.laws.specs.declared.Order.the-variants.{Less, More}
+use Rattle.laws.proofs.Orders.{order-on}
 use Rattle.laws.proofs.Places.{inside}
 use Rattle.text.specs.Text.{byteAt}
 use Rattle.json.specs.Cursors.{rest, cursor}
 use Rattle.json.specs.Names.{orderAt}
 use Rattle.json.specs.Plain.{Plain, AlikeTo}
 use Rattle.contact.specs.Pointer.{Pointer, last, down, push, split, plain, plainParts, pointerOf, clash}
-use Rattle.pointers.specs.Pointers.{pointerOrder, isCoded, tells, pointerFrom, AlikeKeys, endsBefore, rankOf, rankOrder}
+use Rattle.pointers.specs.Pointers.{pointerOrder, isCoded, tells, pointerFrom, AlikeKeys, endsBefore, rankOf}
 use Rattle.pointers.proofs.Laws.Parts.{plain-tilde}
 use Rattle.pointers.proofs.Laws.Glyphs.{rest-byte, rest-over}
 
@@ -83,8 +84,7 @@ telling x y t = go (eqb x y) refl (isCoded x) refl (isCoded y) refl t
 -- ---- keys that begin alike
 
 order-same : (b : ℕ) (n m : List ℕ) → orderOf (b ∷ n) (b ∷ m) ≡ orderOf n m
-unfolding orderOf
-order-same b n m = rw (le-ltb b b (omega arith))
+order-same b n m = order-on b b n m (omega arith) (omega arith)
 
 push-order : (b : ℕ) (p q : Pointer) → pointerOrder (push b p) (push b q) ≡ pointerOrder p q
 unfolding pointerOrder
@@ -319,7 +319,7 @@ not-over : (b : ℕ) → b < 256 → eqb b 256 ≡ false
 not-over b h = ne-eqb b 256 (λ e. omega arith)
 
 module _ {p q p′ q′ : Pointer} (x y : ℕ) (differ : x ≢ y) where
-  differ-order : Begins p x p′ → Begins q y q′ → rankOrder x y ≡ pointerOrder p q
+  differ-order : Begins p x p′ → Begins q y q′ → orderAt (rankOf x) (rankOf y) ≡ pointerOrder p q
   unfolding pointerOrder orderOf orderAt
   differ-order (over a e) (over b f) = absurd (differ (a ∙ sym b))
   differ-order (over a e) (slash b f) = rw (a, b, e, f)
@@ -353,7 +353,7 @@ module _ {p q p′ q′ : Pointer} (x y : ℕ) (differ : x ≢ y) where
 
 -- both, by two bytes that tell it
 pub by-first : (a b : List ℕ) (k : ℕ) {x y : ℕ} → (x ≡ byteAt a k) × (x ≤ 256) → (y ≡ byteAt b k) × (y ≤ 256) → tells x y ≡ true
-    → (rankOrder x y ≡ pointerOrder (pointerFrom a k) (pointerFrom b k)) × (endsBefore x y ≡ clash (pointerFrom a k) (pointerFrom b k))
+    → (orderAt (rankOf x) (rankOf y) ≡ pointerOrder (pointerFrom a k) (pointerFrom b k)) × (endsBefore x y ≡ clash (pointerFrom a k) (pointerFrom b k))
 by-first a b k {x} {y} (e, most) (f, top) t =
     let u = telling x y t in
     let p : Begins (pointerFrom a k) x (pointerFrom a (k + 1)) = rw e (begins a k (omega arith) (λ z. u .left .0 (e ∙ z)) (λ z. u .left .1 (e ∙ z))) in

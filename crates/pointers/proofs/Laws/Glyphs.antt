@@ -5,7 +5,7 @@
 --     tilde-one, tilde-zero, tilde-alone                  what a `~` and the byte after it show
 --     shown-order, shown-ends, shown-on                   two glyphs that are compared
 --     common-none, common-next, common-own                bytes that two places have in common
---     later-run, later-past, untilded-past                a run of bytes without a `/` stays in its part, one without a `~` has no bad one
+--     Later, later-run, later-past, as-tilded-past        a run of bytes without a `/` stays in its part, one without a `~` has no bad one
 --     goes-later, slash-next, over-next                   what follows a part, from a later cursor on, at a `/` and at the end
 -- Assumes nothing.
 use Prim.Native.Nat.{ℕ, zero, suc, _+_, _-_, _≤_, _<_}
@@ -34,7 +34,7 @@ use Rattle.json.specs.Plain.{Own}
 use Rattle.json.specs.declared.decode.Cursor.{Cursor}
 use Rattle.json.specs.declared.decode.Next.the-variants.{Byte, Over}
 use Rattle.json.proofs.Alike.{decode-over, decode-byte, order-heads}
-use Rattle.pointers.specs.Parts.{partLeft, nameLeft, leftAt, tildeLeft, GlyphAt, InCommon, beyond, Goes, Crosses, at-end, at-slash, past, Later, Untilded, RunTo, no-byte, one-more, Passes, stays, passes}
+use Rattle.pointers.specs.Parts.{partLeft, nameLeft, leftAt, tildeLeft, GlyphAt, InCommon, beyond, Goes, Crosses, at-end, at-slash, past, RunTo, no-byte, one-more, Passes, stays, passes}
 use Rattle.pointers.specs.declared.parts.Onward.{Onward}
 use Rattle.pointers.specs.declared.parts.Onward.the-variants.{Last, Part}
 use Rattle.pointers.specs.declared.parts.Glyph.{Glyph}
@@ -140,17 +140,20 @@ module _ (t : List ℕ) (at : ℕ) (tilde : byteAt t at ≡ 126) where
       let two : at + 1 + 1 ≡ at + 2 = omega arith in
       rest-byte t (at + 1) (λ z. omega arith) (λ z. omega arith) ∙ rw (e, two)
 
+  -- a digit with which it stands for a byte
+  tilde-digit : (d value : ℕ) → d < 92 → value < 256 → ((bs : List ℕ) → tildeLeft (d ∷ bs) ≡ value ∷ partLeft bs) → byteAt t (at + 1) ≡ d
+      → GlyphAt true t at (glyph value 2)
+  tilde-digit d value h small stands e =
+      let k = inside t (at + 1) (omega arith) in
+      shows true t at value 2 small (omega arith) (after ∙ rw (next d h e) (stands (rest t (cursor (at + 2) 0 0))))
+
   pub tilde-one : byteAt t (at + 1) ≡ 49 → GlyphAt true t at (glyph 47 2)
   unfolding tildeLeft
-  tilde-one e =
-      let k = inside t (at + 1) (omega arith) in
-      shows true t at 47 2 (omega arith) (omega arith) (after ∙ rw (next 49 (omega arith) e))
+  tilde-one e = tilde-digit 49 47 (omega arith) (omega arith) (λ bs. refl) e
 
   pub tilde-zero : byteAt t (at + 1) ≡ 48 → GlyphAt true t at (glyph 126 2)
   unfolding tildeLeft
-  tilde-zero e =
-      let k = inside t (at + 1) (omega arith) in
-      shows true t at 126 2 (omega arith) (omega arith) (after ∙ rw (next 48 (omega arith) e))
+  tilde-zero e = tilde-digit 48 126 (omega arith) (omega arith) (λ bs. refl) e
 
   pub tilde-alone : byteAt t (at + 1) ≤ 256 → (byteAt t (at + 1) ≡ 49 → ⊥) → (byteAt t (at + 1) ≡ 48 → ⊥) → (byteAt t (at + 1) ≡ 92 → ⊥)
       → GlyphAt true t at (glyph 126 1)
@@ -237,6 +240,12 @@ crosses-as t e (at-end o) = at-end (e ∙ o)
 crosses-as t e (at-slash o) = at-slash (e ∙ o)
 crosses-as t e (past o n x) = past (e ∙ o) n x
 
+-- a cursor that stands in the same part as another, no earlier
+pub record Later (key : List ℕ) (c d : Cursor) : Type 0 where
+  pub follows : beyond (pointerOf (rest key d)) ≡ beyond (pointerOf (rest key c))
+  pub fewer : length (rest key d) ≤ length (rest key c)
+  pub leads : (r : Onward) → Crosses key d r → Crosses key c r
+
 abbrev beyondIn : List ℕ → Option Pointer
 beyondIn bs = beyond (pointerOf bs)
 
@@ -283,16 +292,21 @@ over-next t at e =
     let next : nextOf t (cursor at 0 0) ≡ Over = rw e in
     (ends (pointerOf (rest t (cursor at 0 0))) (rw (rest-over t at e)), at-end next)
 
-untilded-run : (t : List ℕ) (c : Cursor) {to : ℕ} → c .left ≡ 0 → RunTo t 126 (c .at) to → Untilded t c (cursor to 0 0)
-untilded-run t c e no-byte = record { follows = sym (ap badTilde (fresh t c e)); fewer = omega (arith, ap length (fresh t c e)) }
-untilded-run t c e (one-more {at} r h s n) =
-    let u = untilded-run t c e r in
+-- a cursor no earlier than another, from which on a bad `~` stands just if one does from the other on
+pub record AsTilded (key : List ℕ) (c d : Cursor) : Type 0 where
+  pub follows : badTilde (rest key d) ≡ badTilde (rest key c)
+  pub fewer : length (rest key d) ≤ length (rest key c)
+
+as-tilded-run : (t : List ℕ) (c : Cursor) {to : ℕ} → c .left ≡ 0 → RunTo t 126 (c .at) to → AsTilded t c (cursor to 0 0)
+as-tilded-run t c e no-byte = record { follows = sym (ap badTilde (fresh t c e)); fewer = omega (arith, ap length (fresh t c e)) }
+as-tilded-run t c e (one-more {at} r h s n) =
+    let u = as-tilded-run t c e r in
     let f = rest-byte t at s (λ z. omega arith) in
     record {
       follows = sym (rw (ne-eqb (byteAt t at) 126 n) at (ap badTilde f)) ∙ u .follows;
       fewer = omega (arith, ap length f, u .fewer);
     }
 
-pub untilded-past : (t : List ℕ) (c : Cursor) {d : Cursor} → Passes t 126 c d → Untilded t c d
-untilded-past t c stays = record { follows = refl; fewer = omega arith }
-untilded-past t c (passes e r) = untilded-run t c e r
+pub as-tilded-past : (t : List ℕ) (c : Cursor) {d : Cursor} → Passes t 126 c d → AsTilded t c d
+as-tilded-past t c stays = record { follows = refl; fewer = omega arith }
+as-tilded-past t c (passes e r) = as-tilded-run t c e r

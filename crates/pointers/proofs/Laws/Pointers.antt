@@ -1,12 +1,12 @@
 -- Laws of two pointers that are compared part by part, by what follows the first part of each:
 --     clash-differ, clash-left, clash-right, clash-on     one is a prefix of the other
 --     order-first, order-ends, order-left, order-right, order-on    the order of pointers
---     strip-on, strip-stays                                a pointer without its first parts
+--     strip-on                                             a pointer without its first parts
 -- Assumes nothing.
-use mathlib.Core.Path.{_≡_, refl, sym, _∙_}
+use mathlib.Core.Path.{_≡_, refl}
 use mathlib.Core.Bool.{Bool, true, false}
 use mathlib.Core.List.{List}
-use Prim.Native.Nat.{ℕ, zero, suc, _+_, _<_, _≤_}
+use Prim.Native.Nat.{ℕ, zero, suc, _+_, _<_}
 use native.Mathlib.Omega.{arith}
 use native.Mathlib.Numerals.{add-one}
 use lib.ListN.{length}
@@ -81,14 +81,3 @@ unfolding strip
 strip-on zero p e = rw e refl
 strip-on (suc k) (last m) e = let z : _≡_ {A = ℕ} 0 1 = cc in absurd (omega arith)
 strip-on (suc k) (down m p) e = rw add-one (rw add-one at (strip-on k p e))
-
-pub strip-stays : (k m : ℕ) (p : Pointer) {n : List ℕ} → strip k p ≡ last n → k ≤ m → strip m p ≡ last n
-unfolding strip
-strip-stays zero zero p e h = e
-strip-stays zero (suc m) p e h = rw e refl
-strip-stays (suc k) zero p e h = absurd (omega arith)
-strip-stays (suc k) (suc m) (last l) e h = e
-strip-stays (suc k) (suc m) (down l p) e h = strip-stays k m p e (omega arith)
-
-pub strip-keeps : (k m : ℕ) (p : Pointer) {n : List ℕ} → strip k p ≡ last n → k ≤ m → strip k p ≡ strip m p
-strip-keeps k m p e h = e ∙ sym (strip-stays k m p e h)

@@ -7,10 +7,10 @@ use borrow.Author.Needs.{needs}
 use Rattle.laws.proofs.Places.{inside}
 use Rattle.contact.specs.Pointer.{pointerOf}
 use Rattle.json.specs.Cursors.{rest, cursor}
-use Rattle.pointers.specs.Parts.{Goes, Crosses, Later}
+use Rattle.pointers.specs.Parts.{Goes, Crosses}
 use Rattle.pointers.specs.declared.parts.Onward.{Onward}
 use Rattle.pointers.proofs.Laws.Outcomes.{crossed}
-use Rattle.pointers.proofs.Laws.Glyphs.{fresh, later-run, slash-next, over-next, goes-later}
+use Rattle.pointers.proofs.Laws.Glyphs.{fresh, Later, later-run, slash-next, over-next, goes-later}
 use Rattle.pointers.proofs.keys.after_part.Statement.{statement}
 use Rattle.pointers.proofs.keys.after_part.Tie as tie
 

@@ -11,8 +11,7 @@ use Rattle.json.specs.Cursors.{rest}
 use Rattle.text.specs.Strings.{decode}
 use Rattle.text.specs.Utf8.{conts}
 use Rattle.contact.specs.Pointer.{badTilde}
-use Rattle.pointers.specs.Parts.{Untilded}
-use Rattle.pointers.proofs.Laws.Glyphs.{untilded-past}
+use Rattle.pointers.proofs.Laws.Glyphs.{AsTilded, as-tilded-past}
 use Rattle.pointers.proofs.keys.has_bad_tilde.Statement.{statement}
 use Rattle.pointers.proofs.keys.has_bad_tilde.Tie as tie
 
@@ -27,8 +26,8 @@ unfolding conts
 loop-holds c = rw (c .start .ensures) refl
 
 -- no bad `~` stands in what is passed
-passed : (k : tie.After-past-written Inv-loop μ-loop) → Untilded (now (k .before .before .before .before .args .key)) (k .before .loop .c) (k .past-written .result)
-passed k = untilded-past _ _ (k .past-written .ensures)
+passed : (k : tie.After-past-written Inv-loop μ-loop) → AsTilded (now (k .before .before .before .before .args .key)) (k .before .loop .c) (k .past-written .result)
+passed k = as-tilded-past _ _ (k .past-written .ensures)
 
 -- where a byte was read, less is left than the turn began with
 less : (c : tie.After-b Inv-loop μ-loop)

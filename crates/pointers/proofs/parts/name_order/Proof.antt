@@ -1,6 +1,6 @@
 -- `pointers::parts::name_order` meets its contract: from its start on a name is left whole. Assumes nothing.
 use Rattle.laws.specs.Scan.{scan}
-use Rattle.text.specs.Strings.{pieceBy, decodeFrom, decode}
+use Rattle.text.specs.Strings.{pieceBy, decodeFrom}
 use Rattle.text.specs.Utf8.{conts}
 use Rattle.pointers.proofs.parts.name_order.Statement.{statement}
 use Rattle.pointers.proofs.parts.name_order.Tie as tie

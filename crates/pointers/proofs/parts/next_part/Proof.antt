@@ -8,10 +8,10 @@ use Rattle.json.proofs.Unread.{byte-left}
 use Rattle.json.specs.Cursors.{rest}
 use Rattle.contact.specs.Pointer.{pointerOf}
 use Rattle.json.specs.declared.decode.Next.the-variants.{Byte}
-use Rattle.pointers.specs.Parts.{beyond, Crosses, at-end, at-slash, past, Later}
+use Rattle.pointers.specs.Parts.{beyond, Crosses, at-end, at-slash, past}
 use Rattle.pointers.specs.declared.parts.Onward.{Onward}
 use Rattle.pointers.proofs.Laws.Parts.{tail-on, ends, goes}
-use Rattle.pointers.proofs.Laws.Glyphs.{later-past}
+use Rattle.pointers.proofs.Laws.Glyphs.{Later, later-past}
 use Rattle.pointers.proofs.parts.next_part.Statement.{statement}
 use Rattle.pointers.proofs.parts.next_part.Tie as tie
 

@@ -1,6 +1,6 @@
 -- `pointers::parts::part_order_at` meets its contract: from its start on the name is left whole. Assumes nothing.
 use Rattle.laws.specs.Scan.{scan}
-use Rattle.text.specs.Strings.{pieceBy, decodeFrom, decode}
+use Rattle.text.specs.Strings.{pieceBy, decodeFrom}
 use Rattle.text.specs.Utf8.{conts}
 use Rattle.pointers.proofs.parts.part_order_at.Statement.{statement}
 use Rattle.pointers.proofs.parts.part_order_at.Tie as tie
