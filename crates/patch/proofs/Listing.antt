@@ -11,3 +11,4 @@ pub mod Places
 pub mod Runs
 pub mod Members
 pub mod Marks
+pub mod Steps

@@ -28,6 +28,7 @@ use Rattle.patch.specs.Entries.{mostEntries, width}
 use Rattle.patch.specs.Children.{Held}
 use Rattle.patch.specs.Conditions.{ListedPlaces, conditionOf, keyFault, walkFault}
 use Rattle.patch.specs.Marks.{ShortKeys}
+use Rattle.patch.specs.Tails.{BeginAlike}
 use Rattle.patch.specs.Patched.{Said, BaseAt}
 use Rattle.patch.specs.declared.conditions.Condition.{Condition}
 use Rattle.patch.specs.declared.conditions.Condition.the-variants.{Kept, Broken}
@@ -99,10 +100,10 @@ Drafted (draft t) old new r = (r ≡ fittingOf (length t) (length old)) × (new 
 Drafted (refusal q tried) old new r = (r ≡ Refused q) × (new ≡ sets old 0 tried)
 
 -- the card was written as the listed entries leave it, which ascend and do not clash; or 25 or 26 was found
-abbrev pub PutSorted : (card ctable : List ℕ) → (leave : ℕ) → (text table rows : List ℕ) → (n : ℕ) → (old new : List ℕ) → Attempt → Type 0
-PutSorted card ctable leave text table rows n old new r =
-    (place : Name → ℕ) (g : Forest) (ms : Members) → BaseAt card ctable leave 0 true g → Said text table rows 0 n 0 ms → ListedPlaces text table rows n place
-    → Countable (docOf card g) ms
+abbrev pub PutSorted : (card ctable : List ℕ) → (leave : ℕ) → (text table rows : List ℕ) → (n shared : ℕ) → (old new : List ℕ) → Attempt → Type 0
+PutSorted card ctable leave text table rows n shared old new r =
+    (place : Name → ℕ) (g : Forest) (ms : Members) → BaseAt card ctable leave 0 true g → Said text table rows 0 n 0 ms
+    → BeginAlike text table rows n shared → ListedPlaces text table rows n place → Countable (docOf card g) ms
     → Drafted (unlessAstray (conditionOf place (walkFault (start (docOf card g)) ms)) (written (patchedDoc (docOf card g) ms))) old new r
 
 -- what is asked to write the card as the PatchObject at a row leaves it: the row's number is below the table's words, and the lists are equally long, no longer

@@ -5,11 +5,12 @@ use Prim.Native.Nat.{ℕ, _+_, _-_, _≤_, _<_}
 use mathlib.Core.Path.{_≡_}
 use mathlib.Core.Bool.{true, cond}
 use mathlib.Core.List.{List}
-use mathlib.Core.Logic.{_⊎_}
+use mathlib.Core.Logic.{_⊎_, _≢_}
 use mathlib.Core.Option.{none}
 use lib.Dec.{ltb}
 use lib.ListN.{length, getD}
 use Rattle.laws.specs.Lists.{RunIn}
+use Rattle.text.specs.Text.{byteAt}
 use Rattle.text.specs.Doc.{Name, object, Members, seek, isThere}
 use Rattle.text.specs.Distinct.{DistinctMembers}
 use Rattle.json.specs.Cursors.{rest, cursor}
@@ -19,6 +20,7 @@ use Rattle.pointers.specs.Pointers.{strip}
 use Rattle.pointers.specs.Parts.{longestEscape}
 use Rattle.patch.specs.Children.{keyBytes, keyAt}
 use Rattle.patch.specs.Conditions.{walkCode}
+use Rattle.patch.specs.Tails.{BeginAlike}
 
 -- ---- words
 
@@ -26,10 +28,11 @@ use Rattle.patch.specs.Conditions.{walkCode}
 abbrev pub met : ℕ
 met = 2147483648
 
--- a place as a cue
+-- a place as a cue, or 0 if it is too large for one
 pub record PlaceWord (at r : ℕ) : Type 0 where
   pub low : r < met
   pub is : at < met → r ≡ at
+  pub none : met ≤ at → r ≡ 0
 
 -- a member's row as a cue
 abbrev pub MetWord : (row r : ℕ) → Type 0
@@ -125,8 +128,38 @@ NextCue key at r =
     ShortKeys key → (n : Name) (q : Pointer) → pointerOf (rest key (cursor at 0 0)) ≡ down n q
     → (r < met) × (pointerOf (rest key (cursor r 0 0)) ≡ q)
 
+-- the entry at i, if its pointer goes on from one cue, has its next part at another
+abbrev pub NextAt : (pt ptable rows : List ℕ) → (i cue next : ℕ) → Type 0
+NextAt pt ptable rows i cue next =
+    (n : Name) (q : Pointer) → leftOf pt ptable rows i cue ≡ down n q → (next < met) × (leftOf pt ptable rows i next ≡ q)
+
 -- each of the run whose pointer goes on has gone on to its next part; the others are as they were
 pub record Advanced (pt ptable rows : List ℕ) (lo hi : ℕ) (old new : List ℕ) : Type 0 where
-  pub on : ShortKeys pt → (i : ℕ) → lo ≤ i → i < hi → (n : Name) (q : Pointer) → leftOf pt ptable rows i (getD old i 0) ≡ down n q
-      → (getD new i 0 < met) × (leftOf pt ptable rows i (getD new i 0) ≡ q)
+  pub on : ShortKeys pt → (i : ℕ) → lo ≤ i → i < hi → NextAt pt ptable rows i (getD old i 0) (getD new i 0)
+  pub around : Around old lo hi new
+
+-- ---- a run that goes on together
+
+-- the cues from lo up to hi are all this one
+abbrev pub AllAt : (cues : List ℕ) → (lo hi cue : ℕ) → Type 0
+AllAt cues lo hi cue = (i : ℕ) → lo ≤ i → i < hi → getD cues i 0 ≡ cue
+
+-- a slash (47) before `most` ends the part at a place of a key, and r is the place behind it
+pub record PassesSlash (key : List ℕ) (at most r : ℕ) : Type 0 where
+  pub slash : ℕ
+  pub is : r ≡ slash + 1
+  pub low : r < met
+  pub from : at ≤ slash
+  pub within : slash < most
+  pub here : byteAt key slash ≡ 47
+  pub first : (j : ℕ) → at ≤ j → j < slash → byteAt key j ≢ 47
+
+-- the next part of each of the run begins at r, if all keys begin alike up to `shared`; 0 says nothing
+abbrev pub SharedStep : (pt ptable rows cues : List ℕ) → (lo hi shared r : ℕ) → Type 0
+SharedStep pt ptable rows cues lo hi shared r =
+    0 < r → BeginAlike pt ptable rows hi shared → (i : ℕ) → lo ≤ i → i < hi → NextAt pt ptable rows i (getD cues i 0) r
+
+-- the run has gone on, if all keys begin alike up to `shared`; the others are as they were
+pub record AdvancedBy (pt ptable rows : List ℕ) (lo hi shared : ℕ) (old new : List ℕ) : Type 0 where
+  pub all : BeginAlike pt ptable rows hi shared → Advanced pt ptable rows lo hi old new
   pub around : Around old lo hi new

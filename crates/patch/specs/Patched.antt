@@ -26,6 +26,7 @@ use Rattle.patch.specs.Written.{Wrote}
 use Rattle.json.specs.Lookup.{KnownAt}
 use Rattle.json.specs.Cursors.{rest, cursor}
 use Rattle.patch.specs.Children.{keyBytes}
+use Rattle.patch.specs.Tails.{BeginAlike}
 use Rattle.patch.specs.Conditions.{walkCode, Walked}
 use Rattle.patch.specs.Marks.{met, Around, MetWith, FilledWith, MarkIn, RunCued, ShortKeys, pointAt, Waiting, Mark, Marked, Unmet}
 use Rattle.patch.specs.Copied.{headOf, labelIn}
@@ -224,37 +225,37 @@ abbrev pub GoOn : (pt ptable rows : List ℕ) → (lo hi parts : ℕ) → Name �
 GoOn pt ptable rows lo hi parts n = (i : ℕ) → lo ≤ i → i < hi → (q : Pointer) × (pointAt pt ptable rows parts i ≡ down n q)
 
 -- the member at a row was written with its value as the run leaves that, one part further; where the walks end is marked, and the run has met the member
-pub record PutInside (t table : List ℕ) (row leave : ℕ) (pt ptable rows : List ℕ) (lo hi : ℕ) (cues cues′ walks walks′ old : List ℕ) (from : Pen)
+pub record PutInside (t table : List ℕ) (row leave : ℕ) (pt ptable rows : List ℕ) (lo hi shared : ℕ) (cues cues′ walks walks′ old : List ℕ) (from : Pen)
     (new : List ℕ) (r : Pen) : Type 0 where
   pub elsewhere : Elsewhere lo hi cues cues′ walks walks′
   pub is : (n : Name) (g : Forest) (ms : Members) (parts : ℕ) → BaseAt t table leave row false g → Said pt ptable rows lo hi (parts + 1) ms
-      → Waiting pt ptable rows cues lo hi parts → GoOn pt ptable rows lo hi parts n
+      → BeginAlike pt ptable rows hi shared → Waiting pt ptable rows cues lo hi parts → GoOn pt ptable rows lo hi parts n
       → Passed old from (some (applied (docOf t g) (stripped (parts + 1) ms))) (labelIn t table row) new r
       × Walked pt ptable rows walks′ lo hi (parts + 1) (docOf t g)
       × ((i : ℕ) → lo ≤ i → i < hi → getD cues′ i 0 ≡ met + row)
 
 -- the member at hand was written as the entries leave it, and those that it meets are marked: it is no longer ahead
-pub record PutMember (t table : List ℕ) (row leave : ℕ) (pt ptable rows : List ℕ) (lo hi : ℕ) (cues cues′ walks walks′ old : List ℕ) (from : Pen)
+pub record PutMember (t table : List ℕ) (row leave : ℕ) (pt ptable rows : List ℕ) (lo hi shared : ℕ) (cues cues′ walks walks′ old : List ℕ) (from : Pen)
     (new : List ℕ) (r : Pen) : Type 0 where
   pub elsewhere : Elsewhere lo hi cues cues′ walks walks′
   pub is : (root : Bool) (g : Forest) (ms : Members) (parts : ℕ) (all : Members) → let n = nameOf t (nameStart g) (nameEnd g) in
       KnownAt table row g → OutAt (isOut root n) leave row (belowAt g) → row + 1 + belowAt g ≤ met → Said pt ptable rows lo hi parts ms
-      → Unmet all (basedAll root (membersOf t g))
+      → BeginAlike pt ptable rows hi shared → Unmet all (basedAll root (membersOf t g))
       → Marked t table pt ptable rows cues walks lo hi parts all (basedAll root (membersOf t g))
       → Passed old from (stays root n (stripped parts ms) (docOf t g)) (labelAt t (nameStart g) (nameEnd g)) new r
       × Marked t table pt ptable rows cues′ walks′ lo hi parts all (basedAll root (membersOf t (restAt g)))
 
 -- the value at hand was written as the entries leave it, and where their walks end is marked
-pub record PutValue (t table : List ℕ) (row leave : ℕ) (pt ptable rows : List ℕ) (lo hi : ℕ) (cues cues′ walks walks′ old : List ℕ) (at : ℕ)
+pub record PutValue (t table : List ℕ) (row leave : ℕ) (pt ptable rows : List ℕ) (lo hi shared : ℕ) (cues cues′ walks walks′ old : List ℕ) (at : ℕ)
     (new : List ℕ) (r : ℕ) : Type 0 where
   pub elsewhere : Elsewhere lo hi cues cues′ walks walks′
   pub is : (root : Bool) (g : Forest) (ms : Members) (parts : ℕ) → BaseAt t table leave row root g → Said pt ptable rows lo hi parts ms
-      → Waiting pt ptable rows cues lo hi parts
+      → BeginAlike pt ptable rows hi shared → Waiting pt ptable rows cues lo hi parts
       → Wrote old at (written (applied (based root (docOf t g)) (stripped parts ms))) new r
       × Walked pt ptable rows walks′ lo hi parts (based root (docOf t g))
 
 -- the card was written: without its localizations, as the listed entries leave it; and where their walks end is marked
-abbrev pub PutCard : (t table : List ℕ) → (leave : ℕ) → (pt ptable rows : List ℕ) → (n : ℕ) → (walks′ old new : List ℕ) → (r : ℕ) → Type 0
-PutCard t table leave pt ptable rows n walks′ old new r =
-    (g : Forest) (ms : Members) → BaseAt t table leave 0 true g → Said pt ptable rows 0 n 0 ms
+abbrev pub PutCard : (t table : List ℕ) → (leave : ℕ) → (pt ptable rows : List ℕ) → (n shared : ℕ) → (walks′ old new : List ℕ) → (r : ℕ) → Type 0
+PutCard t table leave pt ptable rows n shared walks′ old new r =
+    (g : Forest) (ms : Members) → BaseAt t table leave 0 true g → Said pt ptable rows 0 n 0 ms → BeginAlike pt ptable rows n shared
     → Wrote old 0 (written (patchedDoc (docOf t g) ms)) new r × Walked pt ptable rows walks′ 0 n 0 (start (docOf t g))

@@ -40,7 +40,8 @@ fn fitting(count: usize, room: usize) -> Attempt
     Attempt::Bytes(count)
 }
 
-// The card written as the sorted entries leave it, which do not clash; unless 25, 26 or 27 is broken. What was written counts only if none is.
+// The card written as the sorted entries leave it, which do not clash and whose keys begin alike up to `shared`; unless 25, 26 or 27 is broken. What was
+// written counts only if none is.
 fn put_sorted(
     card: &[u8],
     card_table: &[u32],
@@ -52,9 +53,10 @@ fn put_sorted(
     walks: &mut [u8],
     n: usize,
     out: &mut [u8],
+    shared: usize,
 ) -> Attempt
     requires { ⌜ RunAsks (now rows) (now cues) (now walks) 0 n ⌝ }
-    ensures { λ r. ⌜ PutSorted (now (card .entry)) (now («card_table» .entry)) leave (now (text .entry)) (now (table .entry)) (now (rows .entry)) n (now (out .entry)) (now (out .exit)) r ⌝ }
+    ensures { λ r. ⌜ PutSorted (now (card .entry)) (now («card_table» .entry)) leave (now (text .entry)) (now (table .entry)) (now (rows .entry)) n shared (now (out .entry)) (now (out .exit)) r ⌝ }
 {
     let count = put_card(
         card,
@@ -67,6 +69,7 @@ fn put_sorted(
         walks,
         n,
         out,
+        shared,
     );
     if let Condition::Broken(r) = first_astray(text, table, rows, n, walks) {
         return Attempt::Refused(r);
@@ -110,6 +113,7 @@ fn compose_on(
         walks,
         n,
         out,
+        behind,
     )
 }
 

@@ -126,7 +126,7 @@ fn copy_value(text: &[u8], table: &[u32], row: usize, out: &mut [u8], at: usize)
 }
 
 // ---- values as the entries of a patch leave them: the card's text and table, and those of the patch. `leave` is the row of a member of the card that is
-// left out; row 0 is the card itself, so 0 leaves out none
+// left out; row 0 is the card itself, so 0 leaves out none. The keys of all entries begin alike up to `shared`
 
 // Does nothing follow a part?
 fn is_nothing(o: After) -> bool
@@ -273,16 +273,17 @@ fn put_inside(
     own: Run,
     out: &mut [u8],
     from: Pen,
+    shared: usize,
 ) -> Pen
     requires { ⌜ RunAsks (now rows) (now cues) (now walks) (own .lo) (own .hi) ⌝ }
-    ensures { λ r. ⌜ PutInside (now (text .entry)) (now (table .entry)) row leave (now (ptext .entry)) (now (ptable .entry)) (now (rows .entry)) (own .lo) (own .hi) (now (cues .entry)) (now (cues .exit)) (now (walks .entry)) (now (walks .exit)) (now (out .entry)) from (now (out .exit)) r ⌝ }
+    ensures { λ r. ⌜ PutInside (now (text .entry)) (now (table .entry)) row leave (now (ptext .entry)) (now (ptable .entry)) (now (rows .entry)) (own .lo) (own .hi) shared (now (cues .entry)) (now (cues .exit)) (now (walks .entry)) (now (walks .exit)) (now (out .entry)) from (now (out .exit)) r ⌝ }
 {
     let p = put_head(text, table, row, OBJECT, from.first, out, from.to);
     if own.lo == own.hi {
         let to = copy_value(text, table, row, out, p);
         return behind(from, to);
     }
-    advance(ptext, ptable, rows, cues, own.lo, own.hi);
+    advance(ptext, ptable, rows, cues, own.lo, own.hi, shared);
     let to = put_value(
         text,
         table,
@@ -296,6 +297,7 @@ fn put_inside(
         own,
         out,
         p,
+        shared,
     );
     meet(cues, own.lo, own.hi, row);
     behind(from, to)
@@ -315,9 +317,10 @@ fn put_member(
     run: Run,
     out: &mut [u8],
     from: Pen,
+    shared: usize,
 ) -> Pen
     requires { ⌜ RunAsks (now rows) (now cues) (now walks) (run .lo) (run .hi) ⌝ }
-    ensures { λ r. ⌜ PutMember (now (text .entry)) (now (table .entry)) row leave (now (ptext .entry)) (now (ptable .entry)) (now (rows .entry)) (run .lo) (run .hi) (now (cues .entry)) (now (cues .exit)) (now (walks .entry)) (now (walks .exit)) (now (out .entry)) from (now (out .exit)) r ⌝ }
+    ensures { λ r. ⌜ PutMember (now (text .entry)) (now (table .entry)) row leave (now (ptext .entry)) (now (ptable .entry)) (now (rows .entry)) (run .lo) (run .hi) shared (now (cues .entry)) (now (cues .exit)) (now (walks .entry)) (now (walks .exit)) (now (out .entry)) from (now (out .exit)) r ⌝ }
 {
     if row == leave {
         return from;
@@ -342,6 +345,7 @@ fn put_member(
         own,
         out,
         s,
+        shared,
     )
 }
 
@@ -367,9 +371,10 @@ fn put_value(
     run: Run,
     out: &mut [u8],
     at: usize,
+    shared: usize,
 ) -> usize
     requires { ⌜ RunAsks (now rows) (now cues) (now walks) (run .lo) (run .hi) ⌝ }
-    ensures { λ r. ⌜ PutValue (now (text .entry)) (now (table .entry)) row leave (now (ptext .entry)) (now (ptable .entry)) (now (rows .entry)) (run .lo) (run .hi) (now (cues .entry)) (now (cues .exit)) (now (walks .entry)) (now (walks .exit)) (now (out .entry)) at (now (out .exit)) r ⌝ }
+    ensures { λ r. ⌜ PutValue (now (text .entry)) (now (table .entry)) row leave (now (ptext .entry)) (now (ptable .entry)) (now (rows .entry)) (run .lo) (run .hi) shared (now (cues .entry)) (now (cues .exit)) (now (walks .entry)) (now (walks .exit)) (now (out .entry)) at (now (out .exit)) r ⌝ }
 {
     let k = kind(table, row);
     if k != OBJECT {
@@ -398,6 +403,7 @@ fn put_value(
             run,
             out,
             s,
+            shared,
         );
         m = next_row(table, m);
     }
@@ -417,9 +423,10 @@ pub(crate) fn put_card(
     walks: &mut [u8],
     n: usize,
     out: &mut [u8],
+    shared: usize,
 ) -> usize
     requires { ⌜ RunAsks (now rows) (now cues) (now walks) 0 n ⌝ }
-    ensures { λ r. ⌜ PutCard (now (text .entry)) (now (table .entry)) leave (now (ptext .entry)) (now (ptable .entry)) (now (rows .entry)) n (now (walks .exit)) (now (out .entry)) (now (out .exit)) r ⌝ }
+    ensures { λ r. ⌜ PutCard (now (text .entry)) (now (table .entry)) leave (now (ptext .entry)) (now (ptable .entry)) (now (rows .entry)) n shared (now (walks .exit)) (now (out .entry)) (now (out .exit)) r ⌝ }
 {
     clear_words(&mut cues[..n]);
     let all = Run { lo: 0, hi: n };
@@ -436,5 +443,6 @@ pub(crate) fn put_card(
         all,
         out,
         0,
+        shared,
     )
 }

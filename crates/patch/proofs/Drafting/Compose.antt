@@ -31,7 +31,7 @@ use Rattle.contact.proofs.Patching.Order.{any-order}
 use Rattle.contact.proofs.Patching.Together.{shuffled-entries}
 use Rattle.patch.specs.Children.{keyBytes, Held}
 use Rattle.patch.specs.Entries.{mostEntries, Collected}
-use Rattle.patch.specs.Tails.{tailOrder, Common}
+use Rattle.patch.specs.Tails.{tailOrder, Common, BeginAlike}
 use Rattle.patch.specs.Runs.{LeadsAll, leads-none, leads-more, InOrder, asc-none, asc-more}
 use Rattle.patch.specs.Written.{full, Wrote}
 use Rattle.patch.specs.Conditions.{keyFault, walkFault, ListedPlaces, conditionOf, FirstKey}
@@ -60,34 +60,35 @@ apart asc-none = tt
 apart (asc-more l a) = (leads-apart l, apart a)
 
 -- the card was put as the sorted entries leave it, and what their walks come to is told
-abbrev pub PutTold : (card ctable : List ℕ) → (leave : ℕ) → (text table rows : List ℕ) → (n : ℕ) → (old new : List ℕ) → (count : ℕ) → Condition → Type 0
-PutTold card ctable leave text table rows n old new count condition =
-    (place : Name → ℕ) (g : Forest) (ms : Members) → BaseAt card ctable leave 0 true g → Said text table rows 0 n 0 ms → ListedPlaces text table rows n place
+abbrev pub PutTold : (card ctable : List ℕ) → (leave : ℕ) → (text table rows : List ℕ) → (n shared : ℕ) → (old new : List ℕ) → (count : ℕ) → Condition → Type 0
+PutTold card ctable leave text table rows n shared old new count condition =
+    (place : Name → ℕ) (g : Forest) (ms : Members) → BaseAt card ctable leave 0 true g → Said text table rows 0 n 0 ms
+    → BeginAlike text table rows n shared → ListedPlaces text table rows n place
     → Wrote old 0 (written (patchedDoc (docOf card g) ms)) new count × (condition ≡ conditionOf place (walkFault (start (docOf card g)) ms))
 
-module _ {card ctable text table rows old new : List ℕ} {leave n count : ℕ} {condition : Condition}
-    (put : PutTold card ctable leave text table rows n old new count condition) where
-  pub put-astray : {q : LocalRefusal} → condition ≡ Broken q → PutSorted card ctable leave text table rows n old new (Refused q)
-  put-astray {q} e place g ms b s p few =
-      let (w, told) = put place g ms b s p in
+module _ {card ctable text table rows old new : List ℕ} {leave n shared count : ℕ} {condition : Condition}
+    (put : PutTold card ctable leave text table rows n shared old new count condition) where
+  pub put-astray : {q : LocalRefusal} → condition ≡ Broken q → PutSorted card ctable leave text table rows n shared old new (Refused q)
+  put-astray {q} e place g ms b s alike p few =
+      let (w, told) = put place g ms b s alike p in
       subst (λ (c : Condition). Drafted (unlessAstray c (written (patchedDoc (docOf card g) ms))) old new (Refused q)) (sym e ∙ told) (refl, w .out)
 
   -- 27, or the card was written
-  pub put-fitting : condition ≡ Kept → {a : Attempt} → a ≡ fittingOf count (length new) → PutSorted card ctable leave text table rows n old new a
-  put-fitting e {a} fits place g ms b s p few =
+  pub put-fitting : condition ≡ Kept → {a : Attempt} → a ≡ fittingOf count (length new) → PutSorted card ctable leave text table rows n shared old new a
+  put-fitting e {a} fits place g ms b s alike p few =
       subst (λ (c : Condition). Drafted (unlessAstray c text′) old new a) (sym is) (fits ∙ ap₂ fittingOf counted long, w .out)
     where
       text′ : List ℕ
       text′ = written (patchedDoc (docOf card g) ms)
 
       w : Wrote old 0 text′ new count
-      w = put place g ms b s p .0
+      w = put place g ms b s alike p .0
 
       d : Doc
       d = start (docOf card g)
 
       is : conditionOf place (walkFault d ms) ≡ Kept
-      is = sym (put place g ms b s p .1) ∙ e
+      is = sym (put place g ms b s alike p .1) ∙ e
 
       no-clash : NoClash (entriesOf ms)
       no-clash = apart (rw (stripped-all ms) at (s .ascending))
@@ -157,10 +158,11 @@ module _ (card : List ℕ) {ctable text table rows : List ℕ} {leave n patch : 
       let later = unlessAstray (conditionOf place (walkFault (start (docOf card g)) ms)) (written (patchedDoc (docOf card g) ms)) in
       subst (λ (c : Condition). Drafted (unlessBroken c later) old old (Refused q)) (sym (found first (sorts place p h d places) ∙ e)) (refl, refl)
 
-  pub made-sorted : condition ≡ Kept → {old new : List ℕ} {a : Attempt} → PutSorted card ctable leave text table rows n old new a
+  pub made-sorted : condition ≡ Kept → {shared : ℕ} → BeginAlike text table rows n shared → {old new : List ℕ} {a : Attempt}
+      → PutSorted card ctable leave text table rows n shared old new a
       → Makes card ctable leave text table patch old new a
-  made-sorted e {old} {new} {a} put place g p b h d places short few =
-      subst (λ (x : Draft). Drafted x old new a) (sym is) (put place g ns b said (s .places) (same-countable σ card′ no-clash few))
+  made-sorted e alike {old} {new} {a} put place g p b h d places short few =
+      subst (λ (x : Draft). Drafted x old new a) (sym is) (put place g ns b said alike (s .places) (same-countable σ card′ no-clash few))
     where
       card′ : Doc
       card′ = docOf card g

@@ -1,6 +1,6 @@
 -- Words that are set one after the other, and marks:
 --     set-around, fill-start, fill-one          a run that is filled with a word
---     next-goes, next-ends, advance-start, advance-one      entries that go on to their next parts
+--     down-tail, next-goes, next-ends, advance-start, advance-one      entries that go on to their next parts
 --     around-part, around-join, around-next     what is outside a run
 --     cleared-word, cleared-long, cleared-same, waiting-start     where all begin
 -- Assumes nothing.
@@ -28,7 +28,7 @@ use Rattle.json.specs.Cursors.{rest, cursor}
 use Rattle.pointers.specs.Parts.{GoesAt}
 use Rattle.pointers.specs.declared.keys.After.the-variants.{Nothing, At}
 use Rattle.patch.specs.Children.{keyBytes}
-use Rattle.patch.specs.Marks.{met, PlaceWord, Around, FilledWith, leftOf, Waiting, ShortKeys, NextCue, Advanced}
+use Rattle.patch.specs.Marks.{PlaceWord, Around, FilledWith, leftOf, Waiting, ShortKeys, NextCue, NextAt, Advanced}
 
 -- ---- a run that is filled ----
 
@@ -59,15 +59,15 @@ fill-one {new = new} {i = i} w le lt f =
 
 -- ---- entries that go on ----
 
+pub down-tail : {n m : Name} {p q : Pointer} → down n p ≡ down m q → p ≡ q
+down-tail e = cc
+
 -- where a pointer goes on is where its part ends
 pub next-goes : (key : List ℕ) (at : ℕ) {to w : ℕ} → GoesAt key (pointerOf (rest key (cursor at 0 0))) (At to) → PlaceWord to w → NextCue key at w
 next-goes key at {to} {w} (goes, near) word short n q e =
     let place : w ≡ to = word .is (omega arith) in
     let after : q ≡ pointerOf (rest key (cursor to 0 0)) = down-tail (sym e ∙ goes) in
     (word .low, rw place (sym after))
-  where
-    down-tail : {n m : Name} {p q : Pointer} → down n p ≡ down m q → p ≡ q
-    down-tail e = cc
 
 pub next-ends : (key : List ℕ) (at : ℕ) {w : ℕ} → GoesAt key (pointerOf (rest key (cursor at 0 0))) Nothing → NextCue key at w
 next-ends key at ends short n q e = let both = sym e ∙ ends in let z : _≡_ {A = ℕ} 0 1 = cc in absurd (omega arith)
@@ -100,8 +100,7 @@ module _ {pt ptable rows : List ℕ} {lo : ℕ} where
         → Advanced pt ptable rows lo (i + 1) old (set new i w)
     advance-one {w} lt next = record { on = on; around = set-around w le (a .around) }
       where
-        on : ShortKeys pt → (j : ℕ) → lo ≤ j → j < i + 1 → (n : Name) (q : Pointer) → leftOf pt ptable rows j (getD old j 0) ≡ down n q
-            → (getD (set new i w) j 0 < met) × (leftOf pt ptable rows j (getD (set new i w) j 0) ≡ q)
+        on : ShortKeys pt → (j : ℕ) → lo ≤ j → j < i + 1 → NextAt pt ptable rows j (getD old j 0) (getD (set new i w) j 0)
         on short j x y n q e = elim (ℕ-discrete j i) [
           | yes same ↦
               let row = getD rows i 0 in

@@ -2,6 +2,7 @@
 --     rows-listed       the members stand at them
 --     rows-places       the place of each key is that of the name at its row, if the names are distinct
 --     sorted-places     so it is after sorting
+--     sorted-alike      and the keys begin alike as they did before
 -- Assumes nothing.
 use Prim.Native.Nat.{ℕ, zero, suc, _+_, _-_, _≤_, _<_}
 use mathlib.Core.Path.{_≡_, sym, ap, _∙_}
@@ -33,10 +34,11 @@ use Rattle.json.proofs.Seeking.{rest-kinds}
 use Rattle.contact.specs.Conditions.{HasKey, first, later}
 use Rattle.contact.specs.Places.{quoteOf}
 use Rattle.contact.proofs.Patching.Places.{other-key}
-use Rattle.patch.specs.Children.{keyAt}
+use Rattle.patch.specs.Children.{keyAt, keyBytes}
 use Rattle.patch.specs.Entries.{Listed, RowsOf, no-more, one-more}
 use Rattle.patch.specs.Entries as entries
 use Rattle.patch.specs.Conditions.{ListedPlaces}
+use Rattle.patch.specs.Tails.{Common, BeginAlike}
 use Rattle.patch.proofs.Listing.Orders.{key-is}
 
 -- ---- as they stand in the text
@@ -111,3 +113,8 @@ was-in {old = old} {new} {n} r a i lt =
 pub sorted-places : (t table : List ℕ) {old new : List ℕ} {n : ℕ} (place : Name → ℕ) {o : ℕ → ℕ → Order} → n ≤ length old → Arranged o old 0 n new
     → ListedPlaces t table old n place → ListedPlaces t table new n place
 sorted-places t table place r a p i lt = let s = was-in r a i lt in rw (← s .is) (p (s .at) (s .upto-end))
+
+pub sorted-alike : (t table : List ℕ) {old new : List ℕ} {n k : ℕ} {o : ℕ → ℕ → Order} → n ≤ length old → Common t table old n k → Arranged o old 0 n new
+    → BeginAlike t table new n k
+sorted-alike t table {old} r h a =
+    record { like = keyBytes t table (getD old 0 0); all = λ i lt. let s = was-in r a i lt in rw (← s .is) (h (s .at) (s .upto-end)) }

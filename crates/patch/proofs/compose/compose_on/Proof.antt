@@ -5,6 +5,7 @@ use native.Mathlib.Omega.{arith}
 use denote.Ref.{now}
 use Rattle.json.specs.Rows.{belowIn}
 use Rattle.json.proofs.Seeking.{row-after}
+use Rattle.patch.proofs.Listing.Places.{sorted-alike}
 use Rattle.patch.proofs.Drafting.Compose.{sorting, made-broken, made-sorted}
 use borrow.Author.Needs.{needs}
 use Rattle.patch.proofs.compose.compose_on.Statement.{statement}
@@ -44,7 +45,9 @@ returns-2 c room =
     (sorting (ends (collect .before .before)) (collect .collect .ensures) (λ p h. omega (arith, room p h, collect .collect .kept .1 .1 .1 .0)) (common .common .ensures)
     (sort .sort .ensures .0))
     (first .first-key .ensures)
-    (told .enum-told .given .1) (put .put-sorted .ensures)
+    (told .enum-told .given .1)
+    (sorted-alike (now (a .text)) (now (a .table)) (collect .collect .ensures .inside) (common .common .ensures) (sort .sort .ensures .0))
+    (put .put-sorted .ensures)
 
 -- the lists are as long as they were lent
 put-sorted-requires : tie.Need-put-sorted-requires

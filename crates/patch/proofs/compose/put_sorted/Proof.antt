@@ -13,7 +13,7 @@ returns c =
     let written = told .before .before .before .before .before .before .before .before in
     let card = now (written .before .before .before .before .before .before .before .before .before .before .before .before .args .card) in
     put-astray
-    (λ place g ms b s p. let (w, walked) = written .put-card .ensures g ms b s in
+    (λ place g ms b s alike p. let (w, walked) = written .put-card .ensures g ms b s alike in
     (w, told .first-astray .ensures place (start (docOf card g)) ms (s .listed) p walked))
     (c .before .r .given .1)
 
@@ -23,7 +23,7 @@ returns-2 c =
     let written = told .before .before .before .before .before .before .before .before in
     let card = now (written .before .before .before .before .before .before .before .before .before .before .before .before .args .card) in
     put-fitting
-    (λ place g ms b s p. let (w, walked) = written .put-card .ensures g ms b s in
+    (λ place g ms b s alike p. let (w, walked) = written .put-card .ensures g ms b s alike in
     (w, told .first-astray .ensures place (start (docOf card g)) ms (s .listed) p walked))
     (c .before .enum-told .given .1) (c .fitting .ensures)
 

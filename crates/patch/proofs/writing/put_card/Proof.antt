@@ -24,9 +24,9 @@ put-value-requires c κs =
 
 returns : tie.Need-returns
 returns c =
-    λ g ms b s.
+    λ g ms b s alike.
     let a = c .before .before .before .before .before .before .before .before .before .before .before .before .before .before .before .before .before .before .before .before .before .before .args in
-    let w = c .before .before .before .before .before .before .put-value .ensures .is true g ms 0 b s
+    let w = c .before .before .before .before .before .before .put-value .ensures .is true g ms 0 b s alike
     (waiting-start (now (a .ptext)) (now (a .ptable)) (now (a .rows)) (c .before .before .before .before .before .before .before .before .before .before .before .before .clear-words .last .0 ++ drop (a .n) (now (a .cues))) (a .n)
     (λ i h. rw (zeros (c .before .before .before .before .before .before .before .before .before .before .before .before)) (cleared-word (a .n) i (drop (a .n) (now (a .cues))) h))) in
     (rw (← stripped-all ms) (w .0), w .1)

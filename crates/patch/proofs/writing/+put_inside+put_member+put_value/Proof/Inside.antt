@@ -59,7 +59,7 @@ module _ (t : ℕ) where
       record {
         elsewhere = (around-all _ _ _, around-all _ _ _);
         is =
-            λ n g ms parts base s w go.
+            λ n g ms parts base s alike w go.
             let d = docOf (now (a .text)) g in
             let as-is = idle-value (parts + 1) d (omega (arith, test .if1 .taken)) (s .listed) in (
               rw (c .behind .ensures) (passed-some d (ap some as-is) (head .put-head .ensures) (c .before .before .before .copy-value .ensures g (base .value))),
@@ -104,9 +104,9 @@ module _ (t : ℕ) where
       record {
         elsewhere = (around-join (around-join (advance .around) (value .elsewhere .0)) (meet .filled .around), value .elsewhere .1);
         is =
-            λ n g ms parts base s w go.
+            λ n g ms parts base s alike w go.
             let d = docOf (now (a .text)) g in
-            let wrote = value .is false g ms (parts + 1) base s (waiting-on go (s .short) w advance) in (
+            let wrote = value .is false g ms (parts + 1) base s alike (waiting-on go (s .short) w (advance .all alike)) in (
               rw (c .behind2 .ensures) (passed-some (applied d (stripped (parts + 1) ms)) refl (head .put-head .ensures) (wrote .0)),
               wrote .1,
               λ i x y. meet .filled .within i x y ∙ meet .is (omega (arith, base .few)),

@@ -14,6 +14,7 @@ use Rattle.patch.specs.Entries.{stripped}
 use Rattle.patch.specs.Marks.{RunCued}
 use Rattle.patch.specs.Patched.{basedAll, BaseAt}
 use Rattle.patch.proofs.Listing.Marks.{around-all, around-part}
+use Rattle.patch.proofs.Listing.Steps.{alike-part}
 use Rattle.patch.proofs.Putting.Copies.{label-is}
 use Rattle.patch.proofs.Putting.Kept.{passed-none}
 use Rattle.patch.proofs.Putting.Additions.{first-said}
@@ -61,7 +62,7 @@ module _ (t : ℕ) where
       record {
         elsewhere = (around-all _ _ _, around-all _ _ _);
         is =
-            λ root g ms parts all v o few s ahead m.
+            λ root g ms parts all v o few s alike ahead m.
             let text = now (a .text) in
             let out = o .is ∙ eq-eqb (a .row) (a .leave) (c .if1 .taken) in (
               passed-none (a .from) (omega (arith, start .good .1 .1 .1 .1 .1 .1 .1 .1 .1 .1 .0 .1)) (stays-out root (nameOf text (nameStart g) (nameEnd g))
@@ -118,7 +119,7 @@ module _ (t : ℕ) where
       record {
         elsewhere = (around-part (run .from .low) (run .to .high) (replaced .marked .filled .around), around-part (run .from .low) (run .to .high) (replaced .ended .around));
         is =
-            λ root g ms parts all v o few s ahead m.
+            λ root g ms parts all v o few s alike ahead m.
             let text = now (a .text) in
             let table = now (a .table) in
             let n = nameOf text (nameStart g) (nameEnd g) in
@@ -156,7 +157,7 @@ module _ (t : ℕ) where
       record {
         elsewhere = (around-part (run .from .low) (run .to .high) (inside .elsewhere .0), around-part (run .from .low) (run .to .high) (inside .elsewhere .1));
         is =
-            λ root g ms parts all v o few s ahead m.
+            λ root g ms parts all v o few s alike ahead m.
             let text = now (a .text) in
             let table = now (a .table) in
             let n = nameOf text (nameStart g) (nameEnd g) in
@@ -164,7 +165,8 @@ module _ (t : ℕ) where
             let k = staying text table (now (a .ptext)) (now (a .ptable)) (now (a .rows)) root v o (early .before .before .if1 .left) s ahead m run in
             let goes = sym (c .before .before .before .before .before .before .before .before .before .before .if2 .left) ∙ c .before .before .before .before .before .before .before .before .before .before .before .ends-first .ensures .is parts (k .mid .run) (k .mid .said) (k .waiting) in
             let base : BaseAt text table (a .leave) (a .row) false g = record { value = v; out = out-inside text g o; distinct = k .ahead .distinct .1; few = few } in
-            let done = inside .is n g (k .mid .run) parts base (said-further (k .mid) root d (k .stays-in) goes) (k .waiting) (gone-all (k .mid) goes) in
+            let done = inside .is n g (k .mid .run) parts base (said-further (k .mid) root d (k .stays-in) goes) (alike-part (run .to .high) alike)
+            (k .waiting) (gone-all (k .mid) goes) in
             let put = rw (c .before .before .before .before .before .before .before .before .before .before .before .before .before .hinted .ensures) at (done .0) in (
               rw (stays-goes (k .mid) root d (k .stays-in) goes, ← label-is text v) (record { wrote = put .wrote; next = put .next }),
               passed-going text table (now (a .ptext)) (now (a .ptable)) (now (a .rows)) (labelAt text (nameStart g) (nameEnd g)) d all

@@ -15,6 +15,7 @@ use Rattle.contact.specs.Patch.{added}
 use Rattle.patch.specs.Entries.{stripped}
 use Rattle.json.specs.Rows.{belowIn}
 use Rattle.json.specs.Lookup.{lastRow}
+use Rattle.patch.specs.Tails.{BeginAlike}
 use Rattle.patch.specs.Marks.{Waiting}
 use Rattle.patch.specs.Patched.{Said, membersIn, BaseAt, Elsewhere}
 use Rattle.patch.proofs.Listing.Marks.{around-all, around-join}
@@ -37,17 +38,17 @@ use Rattle.patch.proofs.output.put_byte.Reads as put-byte-reads
 use Rattle.patch.proofs.writing.+put_inside+put_member+put_value.Proof.Measures.{value-at, member-below}
 
 abbrev pub Inv-loop : lts.InvT-loop
-Inv-loop text table row leave ptext ptable rows cues₀ walks₀ run out₀ at kind end p s₀ m₀ cues walks out s m =
+Inv-loop text table row leave ptext ptable rows cues₀ walks₀ run out₀ at shared kind end p s₀ m₀ cues walks out s m =
     (Passing row end m out₀ out × ((length cues ≡ length cues₀) × (length walks ≡ length walks₀)) × Elsewhere (run .lo) (run .hi) cues₀ cues walks₀ walks)
     × ((root : Bool) (g : Forest) (ms : Members) (parts : ℕ) → BaseAt text table leave row root g → Said ptext ptable rows (run .lo) (run .hi) parts ms
-    → Waiting ptext ptable rows cues₀ (run .lo) (run .hi) parts
+    → BeginAlike ptext ptable rows (run .hi) shared → Waiting ptext ptable rows cues₀ (run .lo) (run .hi) parts
     → let es = stripped parts ms in
     let all = membersIn root text g in
     let more = added all es in
     MeetWalk text table ptext ptable rows (run .lo) (run .hi) parts root es all leave end out₀ p (restBy text root es more (insideAt g) true) cues walks out s m)
 
 abbrev pub μ-loop : lts.MeasureT-loop
-μ-loop text table row leave ptext ptable rows cues₀ walks₀ run out₀ at kind end p s₀ m₀ cues walks out s m = end - m
+μ-loop text table row leave ptext ptable rows cues₀ walks₀ run out₀ at shared kind end p s₀ m₀ cues walks out s m = end - m
 
 abbrev pub given : ℕ → lts.Claims
 given t = (
@@ -98,7 +99,7 @@ module _ (t : ℕ) where
       record {
         elsewhere = (around-all _ _ _, ended .around);
         is =
-            λ root g ms parts b s w.
+            λ root g ms parts b s alike w.
             let v = b .value in
             let filled = rw (c .before .before .before .before .before .before .before .stray-of .ensures, kind, value-row v .kind) at ended in (
               rw (based-other root (docOf text g) (stripped parts ms) (λ e. taken (kind ∙ value-row v .kind ∙ sym (doc-kind text g (v .some)) ∙ e)))
@@ -148,7 +149,7 @@ module _ (t : ℕ) where
       let a = c .before .before .before .before .before .before .before .before .before .before .before .before .before .before .before .args in
       let text = now (a .text) in (
         (record { later = omega arith; near = near (c .before .before .before .before); long = refl }, (refl, refl), (around-all _ _ _, around-all _ _ _)),
-        λ root g ms parts b s w.
+        λ root g ms parts b s alike w.
             meet-start text (now (a .table)) (now (a .ptext)) (now (a .ptable)) (now (a .rows)) (now (a .walks)) parts root (stripped parts ms) b
             (is-object (c .before .before .before .before .before) b) (ends (c .before .before .before .before)) w left-all,
       )
@@ -192,14 +193,14 @@ module _ (t : ℕ) where
           (put-member .kept .1 .1 .1 .1 .1 .1 .1 .0 ∙ inv .0 .1 .0, put-member .kept .1 .1 .1 .1 .1 .1 .1 .1 .0 ∙ inv .0 .1 .1),
           (around-join (inv .0 .2 .0) (put-member .ensures .elsewhere .0), around-join (inv .0 .2 .1) (put-member .ensures .elsewhere .1)),
         ),
-        λ root g ms parts b s w.
+        λ root g ms parts b s alike w.
             let es = stripped parts ms in
             let all = membersIn root text g in
-            let k = inv .1 root g ms parts b s w in
+            let k = inv .1 root g ms parts b s alike w in
             let here = k .walk .walk .values in
             let done = put-member .ensures .is root here ms parts all (walk-here (k .walk .walk) taken) (patch-here text root es (added all es) (k .walk) taken)
             (meet-here text (now (a .table)) (now (a .ptext)) (now (a .ptable)) (now (a .rows)) (a .run .lo) (a .run .hi) parts root es all (a .leave) _ _ _ _ k taken)
-            s (k .ahead) (k .marked) in
+            s alike (k .ahead) (k .marked) in
             meet-turn text (now (a .table)) (now (a .ptext)) (now (a .ptable)) (now (a .rows)) (a .run .lo) (a .run .hi) parts root es all (a .leave) _ _ _ _ k taken
             (done .0) (done .1) (c .next-row2 .result) (steps c),
       )
@@ -229,10 +230,10 @@ module _ (t : ℕ) where
       record {
         elsewhere = (inv .0 .2 .0, around-join (inv .0 .2 .1) (additions .around));
         is =
-            λ root g ms parts b s w.
+            λ root g ms parts b s alike w.
             let es = stripped parts ms in
             let all = membersIn root text g in
-            let k = inv .1 root g ms parts b s w in
+            let k = inv .1 root g ms parts b s alike w in
             let is = is-object (c .before .before .before .before .before .before .before .before .before .before .before .before .before .before .before) b in
             let done = additions .is text (now (a .table)) parts all ms s
             (meet-end text (now (a .table)) (now (a .ptext)) (now (a .ptable)) (now (a .rows)) (a .run .lo) (a .run .hi) parts root es all (a .leave) _ _ _ _ k left) in (
