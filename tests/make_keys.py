@@ -137,6 +137,33 @@ def eights():
             yield patched(*(entry(b"w/" + same + names[name] + b"q", b"{}") for name in some), entry(b"w/" + same + b"~1", b"null"), own=inside)
 
 
+LETTERS = [b"%c" % letter for letter in b"abcdefghijklmnopq"]
+
+
+def holding(parts):
+    """The member of a card with objects one inside the other, by these names; the innermost has a member for each letter."""
+    value = b"{" + b",".join(entry(letter, b"[]") for letter in LETTERS) + b"}"
+    for part in parts[:0:-1]:
+        value = b'{"o":{},' + entry(part, value) + b"}"
+    return entry(parts[0], value)
+
+
+def together():
+    """Seventeen entries whose keys begin alike, so that they go on together so far: in objects one inside the other; and one more whose way is spelled in
+    another manner, stops sooner, branches off, or leads nowhere. Each time the text of the seventeen, and those with one more."""
+    for way in (b"w", b"w/v", b"w/vvvvvvvv", b"w/v/uu/t", b"ww/vvvvvvvvv/u/t/s/r/q"):
+        parts = way.split(b"/")
+        spelled = [b"\\u%04x" % way[0] + way[1:], way[:-1] + b"\\u%04x" % way[-1], b"\\/".join(parts), way.replace(b"/", b"\\/", 1)]
+        others = [one + b"/z" for one in spelled] + [
+            way + b"/zz", b"/".join(parts[:-1] + [b"o", b"x"]), way, way + b"/a", way + b"/a/x", way + b"/z/x", way[:-1] + b"/x", way + b"!", way + b"~1x", way + b"~/x",
+            way + b"/\xc3\xa9", b"\xc3\xa9", b"w/o/x", b"o"]
+        for name in (b"", b"n"):
+            keys = [way + b"/" + letter + name for letter in LETTERS]
+            good = [entry(key, b"{}") for key in keys]
+            more = [[]] + [[entry(key)] for key in sorted(set(others) - set(keys))]
+            yield patched(*good, own=holding(parts)), [patched(*good, *one, own=holding(parts)) for one in more]
+
+
 # Names that are taken by chance, and as parts of keys: bytes around `/`, tildes, nothing at all, and another alphabet.
 NAMES = {
     b"a": b"a", b"b": b"\\u0062", b"a!": b"a!", b"a0": b"a0", b"": b"", b"ab": b"ab", b"~": b"~0", b"/": b"~1", b"a/": b"\\u0061~1", b"\\u00e9": b"\xc3\xa9", b"x": b"x"}

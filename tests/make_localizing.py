@@ -344,4 +344,5 @@ def groups():
     yield NAMED, strings()
     yield make_keys.BASE, named_keys()
     yield from ((base, map(lent, texts)) for base, texts in make_keys.chance(10, 60))
+    yield from ((base, map(lent, texts)) for base, texts in make_keys.together())
     yield b"", itertools.chain(many(), greatest(), map(lent, make_keys.recipes()))

@@ -18,6 +18,8 @@ def patch(entries, own=b""):
     return b"{.." + own + b',"localizations":{"de":{' + entries + b"}}}"
 
 
+TOGETHER = b",".join(b'"w/%c":1' % c for c in b"abcdefghijklmnopq")  # so many that they are sorted behind what their keys begin with
+
 DUDS = [
     # the duds of the rules paper
     ("bezinkol/refuses_all contact/judge_refuses_all bezinkol/fixed_answer contact/judge_fixed_answer", judge(b"{..}", OK), (12, 0)),
@@ -130,6 +132,7 @@ DUDS = [
     ("patch/lost_walk", localize(patch(b'"no/a":1'), (26, 66)), b"{..}"),
     ("pointers/escaped_tilde_alone", localize(patch(rb'"\u007e1":2', b',"/":1'), b'{..,"/":2}'), b'{..,"/":1,"/":2}'),
     ("pointers/tilde_cut_off", localize(patch(rb'"aaaaaaaa~0":1,"aaaaaaaa~1":1,"aaaaaaaa\u007e0/x":1'), (24, 66)), (26, 96)),
+    ("patch/slash_at_the_end", localize(patch(TOGETHER + rb',"w\/r":1', b',"w":{}'), b'{..,"w":{' + b",".join(b'"%c":1' % c for c in b"abcdefghijklmnopqr") + b"}}"), (26, 209)),
     # the program
     ("desk/buffer_one_more", program(b" " * 65537, (34, 0)), (2, 65537)),
     ("desk/long_text_cut desk/cut_by_definition", program(b"{..}" + b" " * 65494, (34, 0)), OK),

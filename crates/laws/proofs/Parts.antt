@@ -1,14 +1,16 @@
 -- Parts of a list (specs/Lists.antt), element by element:
 --     part-none, part-more     a part from a place to itself is empty; any other has the element at its start, and then the part from the next place on
 --     part-back, part-out      a part that ends before it starts, or past the list's end, is empty
+--     part-here, part-short    so is any from a place to itself; and none is longer than the list
 --     part-some                a part that is not empty lies inside the list
 --     part-getD                an element of a part is one of the list
 --     part-part                a part of a part is a part of the list
 -- Assumes nothing.
 use Prim.Native.Nat.{ℕ, suc, _+_, _-_, _≤_, _<_}
-use mathlib.Core.Path.{_≡_, refl, sym, _∙_}
+use mathlib.Core.Path.{_≡_, refl, ap, sym, _∙_}
 use mathlib.Core.Bool.{Bool, true, false, cond}
 use mathlib.Core.List.{List, [], _∷_}
+use native.Mathlib.Decide.{decLe}
 use native.Mathlib.Nat.{add-assoc}
 use native.Mathlib.Omega.{arith}
 use lib.Dec.{leb}
@@ -35,6 +37,21 @@ part-back l i e h = rw (lt-leb i e h) (no-matter (leb e (length l)))
 pub part-out : (l : List ℕ) (i e : ℕ) → length l < e → partOf l i e ≡ []
 unfolding partOf
 part-out l i e h = rw (lt-leb e (length l) h)
+
+pub part-here : (l : List ℕ) (i : ℕ) → partOf l i i ≡ []
+part-here l i = elim (decLe i (length l)) [
+  | yes le ↦ part-none l i le
+  | no lt ↦ part-out l i i (omega arith)
+]
+
+pub part-short : (l : List ℕ) (i e : ℕ) → length (partOf l i e) ≤ length l
+part-short l i e = elim (decLe e (length l)) [
+  | yes inside ↦ elim (decLe i e) [
+    | yes up ↦ omega (arith, length-part l i e up inside)
+    | no back ↦ omega (arith, ap length (part-back l i e (omega arith)))
+  ]
+  | no out ↦ omega (arith, ap length (part-out l i e (omega arith)))
+]
 
 pub part-more : (l : List ℕ) (i e : ℕ) → i < e → e ≤ length l → partOf l i e ≡ getD l i 256 ∷ partOf l (i + 1) e
 unfolding partOf

@@ -4,7 +4,6 @@ use Prim.Native.Nat.{ℕ, zero, suc, _+_, _-_, _≤_, _<_}
 use mathlib.Core.Path.{_≡_}
 use mathlib.Core.Bool.{Bool, false, cond}
 use mathlib.Core.List.{List}
-use mathlib.Core.Option.{Option, none, some}
 use lib.Dec.{eqb, leb}
 use lib.ListN.{getD}
 use Rattle.laws.specs.Order.{before}
@@ -59,11 +58,6 @@ atFault InArray t table rows n walks i = eqb (getD walks i 0) (walkCode inArray)
 atFault NoObject t table rows n walks i = eqb (getD walks i 0) (walkCode noObject)
 
 -- ---- the smallest key
-
--- the key of a row that is named
-abbrev pub keyOf : (t table : List ℕ) → Named → Option Name
-keyOf t table Nothing = none
-keyOf t table (Row row) = some (keyAt t table row)
 
 -- a row, or the best so far if its key stands before the row's
 abbrev pub smallerRow : (t table : List ℕ) → (row : ℕ) → (best : Named) → Named

@@ -106,22 +106,22 @@ PutSorted card ctable leave text table rows n shared old new r =
     → BeginAlike text table rows n shared → ListedPlaces text table rows n place → Countable (docOf card g) ms
     → Drafted (unlessAstray (conditionOf place (walkFault (start (docOf card g)) ms)) (written (patchedDoc (docOf card g) ms))) old new r
 
--- what is asked to write the card as the PatchObject at a row leaves it: the row's number is below the table's words, and the lists are equally long, no longer
--- than the most entries
+-- what is asked to write the card as the PatchObject at a row leaves it: the row's number is below the table's words, and the list of rows is no longer than
+-- the other two, nor than the most entries
 abbrev pub MakeAsks : (table : List ℕ) (patch : ℕ) (rows cues walks : List ℕ) → Type 0
 MakeAsks table patch rows cues walks =
     (patch < length table) × (length rows ≤ mostEntries) × (length rows ≤ length cues) × (length rows ≤ length walks)
 
 -- the PatchObject at a row has no more entries than this
-abbrev pub FewerThan : (table : List ℕ) (patch most : ℕ) → Type 0
-FewerThan table patch most = (p : Forest) → Held table mostEntries patch p → width (insideAt p) ≤ most
+abbrev pub EntriesUpTo : (table : List ℕ) (patch most : ℕ) → Type 0
+EntriesUpTo table patch most = (p : Forest) → Held table mostEntries patch p → width (insideAt p) ≤ most
 
 -- `place` says where the key of each entry of the PatchObject stands
 abbrev pub PlacesOf : (text : List ℕ) → (entries : Forest) → (place : Name → ℕ) → Type 0
 PlacesOf text entries place = (key : Name) → HasKey key (membersOf text entries) → place key ≡ quoteOf text key entries
 
--- The card as the PatchObject at a row of a table leaves it was written, or was not. Its names and those of the card are distinct, and its text is no longer than
--- a card's.
+-- The card as the PatchObject at a row of a table leaves it was written, or was not. Its names and those of the card are distinct, and its text is so
+-- short that each place in it is a cue.
 abbrev pub Makes : (card ctable : List ℕ) → (leave : ℕ) → (text table : List ℕ) → (patch : ℕ) → (old new : List ℕ) → Attempt → Type 0
 Makes card ctable leave text table patch old new r =
     (place : Name → ℕ) (g p : Forest) → BaseAt card ctable leave 0 true g → Held table mostEntries patch p → DistinctMembers (membersOf text (insideAt p))
@@ -130,7 +130,7 @@ Makes card ctable leave text table patch old new r =
 
 -- the same, if the PatchObject has no more entries than this
 abbrev pub MakesUpTo : (most : ℕ) → (card ctable : List ℕ) → (leave : ℕ) → (text table : List ℕ) → (patch : ℕ) → (old new : List ℕ) → Attempt → Type 0
-MakesUpTo most card ctable leave text table patch old new r = FewerThan table patch most → Makes card ctable leave text table patch old new r
+MakesUpTo most card ctable leave text table patch old new r = EntriesUpTo table patch most → Makes card ctable leave text table patch old new r
 
 -- the card as the PatchObject of a language leaves it
 abbrev pub MakesFor : (text table : List ℕ) → (lang : Name) → (old new : List ℕ) → Attempt → Type 0

@@ -4,7 +4,6 @@ use Prim.Native.Nat.{ℕ, _+_, _<_, _≤_}
 use mathlib.Core.Path.{_≡_}
 use mathlib.Core.List.{List, [], _∷_}
 use lib.ListN.{length, getD}
-use Rattle.laws.specs.declared.Order.{Order}
 use Rattle.text.specs.Limits.{base}
 use Rattle.text.specs.Strings.{nameOf}
 use Rattle.text.specs.Tree.{Forest, leaf, node}
@@ -14,8 +13,7 @@ use Rattle.text.specs.Standing.{Stands, StandsTo}
 use Rattle.text.specs.Doc.{Members, empty, member, labelAt, docOf}
 use Rattle.contact.specs.Pointer.{pointerOf}
 use Rattle.contact.specs.Patch.{Entry, entry, changeOf}
-use Rattle.pointers.specs.Pointers.{pointerOrder, strip}
-use Rattle.patch.specs.Children.{keyAt}
+use Rattle.pointers.specs.Pointers.{strip}
 
 -- at the rows that the words i up to n of a list name stand these members, one after the other
 pub data Listed (t table rows : List ℕ) : (i n : ℕ) → Members → Type 0 where
@@ -27,10 +25,6 @@ pub data Listed (t table rows : List ℕ) : (i n : ℕ) → Members → Type 0 w
 unfoldable pub stripped : (parts : ℕ) → Members → List Entry
 stripped parts empty = []
 stripped parts (member key label d ms) = entry (strip parts (pointerOf key)) (changeOf d) ∷ stripped parts ms
-
--- the order of two rows by their keys as pointers
-abbrev pub rowOrder : (t table : List ℕ) → (row other : ℕ) → Order
-rowOrder t table row other = pointerOrder (pointerOf (keyAt t table row)) (pointerOf (keyAt t table other))
 
 -- the most values that a card can have, and so the most entries of a PatchObject
 abbrev pub mostEntries : ℕ

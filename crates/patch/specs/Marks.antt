@@ -133,7 +133,7 @@ abbrev pub NextAt : (pt ptable rows : List ℕ) → (i cue next : ℕ) → Type 
 NextAt pt ptable rows i cue next =
     (n : Name) (q : Pointer) → leftOf pt ptable rows i cue ≡ down n q → (next < met) × (leftOf pt ptable rows i next ≡ q)
 
--- each of the run whose pointer goes on has gone on to its next part; the others are as they were
+-- each of the run whose pointer goes on has gone on to its next part; those outside the run are as they were
 pub record Advanced (pt ptable rows : List ℕ) (lo hi : ℕ) (old new : List ℕ) : Type 0 where
   pub on : ShortKeys pt → (i : ℕ) → lo ≤ i → i < hi → NextAt pt ptable rows i (getD old i 0) (getD new i 0)
   pub around : Around old lo hi new
@@ -159,7 +159,7 @@ abbrev pub SharedStep : (pt ptable rows cues : List ℕ) → (lo hi shared r : �
 SharedStep pt ptable rows cues lo hi shared r =
     0 < r → BeginAlike pt ptable rows hi shared → (i : ℕ) → lo ≤ i → i < hi → NextAt pt ptable rows i (getD cues i 0) r
 
--- the run has gone on, if all keys begin alike up to `shared`; the others are as they were
+-- the run has gone on, if all keys begin alike up to `shared`; those outside it are as they were
 pub record AdvancedBy (pt ptable rows : List ℕ) (lo hi shared : ℕ) (old new : List ℕ) : Type 0 where
   pub all : BeginAlike pt ptable rows hi shared → Advanced pt ptable rows lo hi old new
   pub around : Around old lo hi new

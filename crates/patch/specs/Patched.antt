@@ -14,7 +14,7 @@ use Rattle.text.specs.Tree as T
 use Rattle.text.specs.Firsts.{nameStart, nameEnd, insideAt, belowAt, restAt}
 use Rattle.text.specs.Strings.{nameOf}
 use Rattle.text.specs.Distinct.{Distinct}
-use Rattle.text.specs.Doc.{Name, Doc, object, Members, empty, member, Property, seek, membersOf, labelAt, docOf}
+use Rattle.text.specs.Doc.{Name, Doc, object, Members, empty, Property, seek, membersOf, labelAt, docOf}
 use Rattle.text.specs.Writing.{spelled, written, writtenMembers}
 use Rattle.contact.specs.Pointer.{Pointer, last, down, pointerOf, firstPart}
 use Rattle.contact.specs.Patch.{Change, remove, set, Entry, entry, changeOf, walk, without, mine, under, applied, added}
@@ -52,8 +52,8 @@ abbrev pub RunAsks : (rows cues walks : List ℕ) (lo hi : ℕ) → Type 0
 RunAsks rows cues walks lo hi = RunCued rows cues lo hi × (hi ≤ length walks)
 
 -- what is asked to settle the entry at a place: the lists have the place, and the entry met no member
-abbrev pub SettleAsks : (rows cues walks : List ℕ) (i : ℕ) → Type 0
-SettleAsks rows cues walks i = MarkIn rows cues i × (i < length walks) × (getD cues i 0 < met)
+abbrev pub EntryAsks : (rows cues walks : List ℕ) (i : ℕ) → Type 0
+EntryAsks rows cues walks i = MarkIn rows cues i × (i < length walks) × (getD cues i 0 < met)
 
 -- the members that are listed by the run; their entries, without the parts that were taken, ascend, and their keys are short
 pub record Said (t table rows : List ℕ) (lo hi parts : ℕ) (ms : Members) : Type 0 where
@@ -72,10 +72,6 @@ based false d = d
 abbrev pub basedAll : (root : Bool) → Members → Members
 basedAll true ms = without (bytes "localizations") ms
 basedAll false ms = ms
-
--- the members of the value at hand
-abbrev pub membersIn : (root : Bool) → (t : List ℕ) → Forest → Members
-membersIn root t g = basedAll root (membersOf t (insideAt g))
 
 -- is it the member that is left out at the root?
 abbrev pub isOut : (root : Bool) → Name → Bool
@@ -164,11 +160,6 @@ strayOf kind = cond (eqb kind 6) 1 2
 
 -- ---- the bytes of one member
 
--- a member that is written, or not, and those after it
-abbrev pub link : Option Doc → Name → (label : List ℕ) → Members → Members
-link none n label ms = ms
-link (some d) n label ms = member n label d ms
-
 -- the bytes of a member that is written, or none
 abbrev pub piece : Option Doc → (first : Bool) → (label : List ℕ) → List ℕ
 piece none first label = []
@@ -186,7 +177,7 @@ pub record Passed (old : List ℕ) (from : Pen) (o : Option Doc) (label new : Li
   pub wrote : Wrote old (from .to) (piece o (from .first) label) new (r .to)
   pub next : r .first ≡ since o (from .first)
 
--- the value of the entry at row e was written as a member, whose name is what is left of the entry's key at a place; or it is null
+-- the value of the entry at row e was written as a member, whose name is the part that begins at a place of the entry's key; or it is null
 abbrev pub PutAddition : (pt ptable : List ℕ) → (e place : ℕ) → (old : List ℕ) → (from : Pen) → (new : List ℕ) → (r : Pen) → Type 0
 PutAddition pt ptable e place old from new r =
     (h : Forest) (d : Doc) → KnownAt ptable e h

@@ -97,8 +97,8 @@ fn compose_on(
     let first = patch + 1;
     let end = next_row(table, patch);
     let n = collect(table, first, end, rows);
-    let behind = common(text, table, rows, n);
-    sort(text, table, behind, rows, cues, 0, n);
+    let shared = common(text, table, rows, n);
+    sort(text, table, shared, rows, cues, 0, n);
     if let Condition::Broken(r) = first_key(text, table, rows, n) {
         return Attempt::Refused(r);
     }
@@ -113,7 +113,7 @@ fn compose_on(
         walks,
         n,
         out,
-        behind,
+        shared,
     )
 }
 

@@ -33,7 +33,7 @@ fn place_word(at: usize) -> u32
 }
 
 // A member's row as a cue.
-pub(crate) fn met_word(row: usize) -> u32
+fn met_word(row: usize) -> u32
     ensures { λ r. ⌜ MetWord row r ⌝ }
 {
     if MET <= row {

@@ -74,7 +74,8 @@ fn at_most(step: usize, most: usize) -> usize
     most
 }
 
-// A place from a on and before b: the one that was hinted at, or, where that was looked at, a step away from it, or in the middle if that is nearer.
+// A place from a on and before b: the one that was hinted at, or, where that was looked at, a step from the end that is nearest to it, or the middle if that is
+// nearer.
 fn probe(a: usize, b: usize, near: usize, step: usize) -> usize
     requires { ⌜ a < b ⌝ }
     ensures { λ r. ⌜ ((a ≤ r) × (r < b)) ⌝ }
@@ -91,10 +92,10 @@ fn probe(a: usize, b: usize, near: usize, step: usize) -> usize
 
 // The next step, which stays the same after the hint itself. The end of a run is mostly near, so it is looked for in steps that double; for any other place
 // the middle is best.
-fn next_step(step: usize, room: usize, past: bool, hinted: bool) -> usize
-    ensures { λ r. ⌜ r ≡ nextStep step room past hinted ⌝ }
+fn next_step(step: usize, room: usize, past: bool, reached: bool) -> usize
+    ensures { λ r. ⌜ r ≡ nextStep step room past reached ⌝ }
 {
-    if hinted {
+    if reached {
         return step;
     }
     if past {
@@ -107,7 +108,7 @@ fn next_step(step: usize, room: usize, past: bool, hinted: bool) -> usize
 }
 
 // Stands for no hint: no place of a list is as far.
-pub(crate) const NOWHERE: usize = 4294967296;
+const NOWHERE: usize = 4294967296;
 
 // The first step of a search: none away from a hint, and to the middle if there is no hint.
 fn first_step(near: usize, hi: usize) -> usize

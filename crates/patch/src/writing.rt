@@ -33,7 +33,7 @@ ghost use Rattle.laws.specs.Lists.{RunIn};
 ghost use Rattle.patch.specs.Written.{Wrote};
 ghost use Rattle.patch.specs.Copied.{openByte, closeByte, headOf, labelIn, Copied};
 ghost use Rattle.patch.specs.Marks.{RunCued};
-ghost use Rattle.patch.specs.Patched.{penBehind, penHinted, RunAsks, SettleAsks, PutAddition, PutAdditions, Settled, isNothing, Ending, strayOf, PutReplaced, PutInside, PutMember, PutValue, PutCard};
+ghost use Rattle.patch.specs.Patched.{penBehind, penHinted, RunAsks, EntryAsks, PutAddition, PutAdditions, Settled, isNothing, Ending, strayOf, PutReplaced, PutInside, PutMember, PutValue, PutCard};
 
 // Where the next byte goes, whether the next member is the first of its object, and near which place of the list its entries may stand.
 struct Pen {
@@ -171,7 +171,7 @@ fn settle(
     out: &mut [u8],
     from: Pen,
 ) -> Pen
-    requires { ⌜ SettleAsks (now rows) (now cues) (now walks) i ⌝ }
+    requires { ⌜ EntryAsks (now rows) (now cues) (now walks) i ⌝ }
     ensures { λ r. ⌜ Settled (now (ptext .entry)) (now (ptable .entry)) (now (rows .entry)) (now (cues .entry)) i (now (walks .entry)) (now (walks .exit)) (now (out .entry)) from (now (out .exit)) r ⌝ }
 {
     let cue = cues[i] as usize;

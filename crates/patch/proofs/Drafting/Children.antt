@@ -26,7 +26,7 @@ use Rattle.contact.specs.Localize.{patchAt}
 use Rattle.contact.specs.Places.{insideNamed, quoteOf, keyPlace}
 use Rattle.json.specs.Lookup.{KnownAt, firstMember, fromName, Finds}
 use Rattle.patch.specs.Entries.{mostEntries, width}
-use Rattle.patch.specs.Drafts.{FewerThan}
+use Rattle.patch.specs.Drafts.{EntriesUpTo}
 use Rattle.patch.specs.Children.{Held, ChildAt, ChildFound}
 use Rattle.json.specs.declared.lookup.Found.{Found}
 use Rattle.json.specs.declared.lookup.Found.the-variants.{Row, Nothing}
@@ -81,12 +81,12 @@ width-size (T.leaf kind ns ne from to rest) = omega (arith, width-size rest)
 width-size (T.node b ns ne from to inside rest) = omega (arith, width-size rest)
 
 -- a card can have no more
-pub most-few : {table : List ℕ} {patch : ℕ} → FewerThan table patch mostEntries
+pub most-few : {table : List ℕ} {patch : ℕ} → EntriesUpTo table patch mostEntries
 most-few p h = let v = h .value in omega (arith, inside-few h, value-row v .below, width-size (insideAt p))
 
 -- they were counted
 pub counted-few : {table : List ℕ} {patch end n most : ℕ} → end ≡ patch + 1 + belowIn table patch
-    → ((f : Forest) → StandsTo table (patch + 1) end f → n ≡ width f) → n ≤ most → FewerThan table patch most
+    → ((f : Forest) → StandsTo table (patch + 1) end f → n ≡ width f) → n ≤ most → EntriesUpTo table patch most
 counted-few e count le p h = let v = h .value in omega (arith, count (insideAt p) (members-stand (v .some) (v .stands) e))
 
 -- ---- the PatchObject

@@ -8,7 +8,7 @@ use mathlib.Core.Path.{_≡_, refl, sym, ap, ap₂, subst, _∙_}
 use mathlib.Core.Bool.{true}
 use mathlib.Core.List.{List}
 use native.Mathlib.Omega.{arith}
-use lib.ListN.{length, getD}
+use lib.ListN.{length}
 use lib.Seq.{length-sets}
 use Rattle.laws.specs.Sorting.{Arranged}
 use Rattle.text.specs.Tree.{Forest}
@@ -29,14 +29,14 @@ use Rattle.contact.proofs.Patching.Entries.{perm-parents}
 use Rattle.contact.proofs.Patching.Faults.{shuffled-sym, key-order, clash-order}
 use Rattle.contact.proofs.Patching.Order.{any-order}
 use Rattle.contact.proofs.Patching.Together.{shuffled-entries}
-use Rattle.patch.specs.Children.{keyBytes, Held}
+use Rattle.patch.specs.Children.{Held}
 use Rattle.patch.specs.Entries.{mostEntries, Collected}
-use Rattle.patch.specs.Tails.{tailOrder, Common, BeginAlike}
+use Rattle.patch.specs.Tails.{tailOrder, BeginAlike}
 use Rattle.patch.specs.Runs.{LeadsAll, leads-none, leads-more, InOrder, asc-none, asc-more}
 use Rattle.patch.specs.Written.{full, Wrote}
 use Rattle.patch.specs.Conditions.{keyFault, walkFault, ListedPlaces, conditionOf, FirstKey}
 use Rattle.patch.specs.Patched.{Said, BaseAt}
-use Rattle.patch.specs.Drafts.{Draft, unlessBroken, unlessAstray, entriesDraft, Countable, fittingOf, Drafted, PutSorted, FewerThan, PlacesOf, Makes}
+use Rattle.patch.specs.Drafts.{Draft, unlessBroken, unlessAstray, entriesDraft, Countable, fittingOf, Drafted, PutSorted, EntriesUpTo, PlacesOf, Makes}
 use Rattle.patch.specs.declared.conditions.Condition.{Condition}
 use Rattle.patch.specs.declared.conditions.Condition.the-variants.{Kept, Broken}
 use Rattle.patch.specs.declared.compose.Attempt.{Attempt}
@@ -132,10 +132,10 @@ SortsAt text table rows n patch =
     → Sorts text table rows n (membersOf text (insideAt p)) place
 
 pub sorting : {text table old rows : List ℕ} {n patch end : ℕ} → end ≡ patch + 1 + belowIn table patch → Collected table (patch + 1) end old n
-    → FewerThan table patch (length old) → {k : ℕ} → Common text table old n k → Arranged (tailOrder text table k) old 0 n rows
+    → EntriesUpTo table patch (length old) → {k : ℕ} → BeginAlike text table old n k → Arranged (tailOrder text table k) old 0 n rows
     → SortsAt text table rows n patch
 sorting {text} {table} {old} e c room common tails place p h d places =
-    let a = arranged-all (keyBytes text table (getD old 0 0)) text table (c .inside) common tails in
+    let a = arranged-all (common .like) text table (c .inside) (common .all) tails in
     let v = h .value in
     let stands = members-stand (v .some) (v .stands) e in
     let rows = c .all (insideAt p) stands (omega (arith, e, inside-few h)) (room p h) in

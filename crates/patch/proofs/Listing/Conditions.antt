@@ -26,7 +26,7 @@ use Rattle.pointers.specs.Pointers.{strip}
 use Rattle.patch.specs.Children.{keyAt}
 use Rattle.patch.specs.Entries.{Listed, over, next}
 use Rattle.patch.specs.Neighbours.{keysOf, keyOrder, leastLeading}
-use Rattle.patch.specs.Conditions.{walkCode, Walked, listedKey, clashesNext, atFault, keyOf, smallerRow, leastRow, numberOf, conditionBy, oneCondition, keyFault, walkFault, ListedPlaces, conditionOf}
+use Rattle.patch.specs.Conditions.{walkCode, Walked, listedKey, clashesNext, atFault, smallerRow, leastRow, numberOf, conditionBy, oneCondition, keyFault, walkFault, ListedPlaces, conditionOf}
 use Rattle.patch.specs.declared.conditions.Fault.{Fault}
 use Rattle.patch.specs.declared.conditions.Fault.the-variants.{Tilde, Own, Clash, InArray, NoObject}
 use Rattle.patch.specs.declared.conditions.Named.{Named}
@@ -90,6 +90,11 @@ module _ (t table rows : List ℕ) (n : ℕ) where
       (λ b. rw b l)
 
 -- ---- its key
+
+-- the key of a row that is named
+abbrev keyOf : (t table : List ℕ) → Named → Option Name
+keyOf t table Nothing = none
+keyOf t table (Row row) = some (keyAt t table row)
 
 module _ (t table : List ℕ) where
   smaller-key : (row : ℕ) (later : Named) → keyOf t table (smallerRow t table row later) ≡ smallerKey (some (keyAt t table row)) (keyOf t table later)

@@ -4,19 +4,14 @@
 --     around-part, around-join, around-next     what is outside a run
 --     cleared-word, cleared-long, cleared-same, waiting-start     where all begin
 -- Assumes nothing.
-use Prim.Native.Nat.{ℕ, zero, suc, _+_, _-_, _≤_, _<_}
+use Prim.Native.Nat.{ℕ, zero, suc, _+_, _≤_, _<_}
 use mathlib.Core.Path.{_≡_, refl, sym, ap, _∙_}
 use mathlib.Core.List.{List, [], _∷_, _++_}
-use mathlib.Core.Bool.{Bool, true, false, cond}
 use native.Mathlib.Omega.{arith}
-use native.Mathlib.Decide.{ℕ-discrete, decLe}
-use lib.Dec.{leb}
-use lib.ListN.{length, getD, set, take, drop, replicate}
-use borrow.Author.Tests.{leb-true}
+use native.Mathlib.Decide.{ℕ-discrete}
+use lib.ListN.{length, getD, set, drop, replicate}
 use lib.Seq.{getD-set-same, getD-set-other}
-use Rattle.laws.specs.Lists.{partOf}
-use Rattle.laws.proofs.Splits.{length-part}
-use Rattle.laws.proofs.Parts.{part-out}
+use Rattle.laws.proofs.Parts.{part-short}
 use Rattle.laws.specs.Scan.{scan}
 use Rattle.text.specs.Strings.{pieceBy, decodeFrom}
 use Rattle.text.specs.Utf8.{conts}
@@ -71,25 +66,6 @@ next-goes key at {to} {w} (goes, near) word short n q e =
 
 pub next-ends : (key : List ℕ) (at : ℕ) {w : ℕ} → GoesAt key (pointerOf (rest key (cursor at 0 0))) Nothing → NextCue key at w
 next-ends key at ends short n q e = let both = sym e ∙ ends in let z : _≡_ {A = ℕ} 0 1 = cc in absurd (omega arith)
-
-part-none-down : (l : List ℕ) (i e : ℕ) → e < i → partOf l i e ≡ []
-unfolding partOf
-part-none-down l i e h = go (leb e (length l)) (leb i e) refl
-  where
-    go : (a b : Bool) → leb i e ≡ b → cond a (cond b (take (e - i) (drop i l)) []) [] ≡ []
-    go false b q = refl
-    go true false q = refl
-    go true true q = absurd (omega (arith, leb-true i e q))
-
--- a part is no longer than the whole
-part-short : (l : List ℕ) (i e : ℕ) → length (partOf l i e) ≤ length l
-part-short l i e = elim (decLe e (length l)) [
-  | yes inside ↦ elim (decLe i e) [
-    | yes up ↦ omega (arith, length-part l i e up inside)
-    | no back ↦ omega (arith, ap length (part-none-down l i e (omega arith)))
-  ]
-  | no out ↦ omega (arith, ap length (part-out l i e (omega arith)))
-]
 
 module _ {pt ptable rows : List ℕ} {lo : ℕ} where
   pub advance-start : (old : List ℕ) → Advanced pt ptable rows lo lo old old

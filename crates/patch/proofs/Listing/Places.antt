@@ -34,11 +34,11 @@ use Rattle.json.proofs.Seeking.{rest-kinds}
 use Rattle.contact.specs.Conditions.{HasKey, first, later}
 use Rattle.contact.specs.Places.{quoteOf}
 use Rattle.contact.proofs.Patching.Places.{other-key}
-use Rattle.patch.specs.Children.{keyAt, keyBytes}
+use Rattle.patch.specs.Children.{keyAt}
 use Rattle.patch.specs.Entries.{Listed, RowsOf, no-more, one-more}
 use Rattle.patch.specs.Entries as entries
 use Rattle.patch.specs.Conditions.{ListedPlaces}
-use Rattle.patch.specs.Tails.{Common, BeginAlike}
+use Rattle.patch.specs.Tails.{BeginAlike}
 use Rattle.patch.proofs.Listing.Orders.{key-is}
 
 -- ---- as they stand in the text
@@ -114,7 +114,6 @@ pub sorted-places : (t table : List ℕ) {old new : List ℕ} {n : ℕ} (place :
     → ListedPlaces t table old n place → ListedPlaces t table new n place
 sorted-places t table place r a p i lt = let s = was-in r a i lt in rw (← s .is) (p (s .at) (s .upto-end))
 
-pub sorted-alike : (t table : List ℕ) {old new : List ℕ} {n k : ℕ} {o : ℕ → ℕ → Order} → n ≤ length old → Common t table old n k → Arranged o old 0 n new
+pub sorted-alike : (t table : List ℕ) {old new : List ℕ} {n k : ℕ} {o : ℕ → ℕ → Order} → n ≤ length old → BeginAlike t table old n k → Arranged o old 0 n new
     → BeginAlike t table new n k
-sorted-alike t table {old} r h a =
-    record { like = keyBytes t table (getD old 0 0); all = λ i lt. let s = was-in r a i lt in rw (← s .is) (h (s .at) (s .upto-end)) }
+sorted-alike t table r h a = record { like = h .like; all = λ i lt. let s = was-in r a i lt in rw (← s .is) (h .all (s .at) (s .upto-end)) }

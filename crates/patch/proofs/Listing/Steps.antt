@@ -18,7 +18,7 @@ use Rattle.contact.specs.Pointer.{Pointer, down, pointerOf}
 use Rattle.pointers.specs.Parts.{RunTo, no-byte, one-more}
 use Rattle.pointers.proofs.Laws.Glyphs.{later-run, goes-later, slash-next}
 use Rattle.patch.specs.Children.{keyBytes}
-use Rattle.patch.specs.Tails.{Begin, BeginAlike}
+use Rattle.patch.specs.Tails.{SameBytes, BeginAlike}
 use Rattle.patch.specs.Marks.{met, PlaceWord, FilledWith, NextAt, Advanced, AllAt, PassesSlash}
 use Rattle.patch.proofs.Listing.Marks.{down-tail}
 
@@ -43,7 +43,7 @@ slash-found key {to = to} le lt h e w some = elim (decLe met (to + 1)) [
 
 -- ---- in all keys
 
-module _ {a x y : List ℕ} {at most r : ℕ} (p : PassesSlash x at most r) (of-x : Begin a x most) (of-y : Begin a y most) where
+module _ {a x y : List ℕ} {at most r : ℕ} (p : PassesSlash x at most r) (of-x : SameBytes a x most) (of-y : SameBytes a y most) where
   -- they have the same bytes up to the slash
   alike-byte : (j : ℕ) → j < most → byteAt y j ≡ byteAt x j
   alike-byte j lt = of-y j lt .same ∙ sym (of-x j lt .same)

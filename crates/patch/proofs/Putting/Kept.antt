@@ -24,13 +24,18 @@ use Rattle.contact.specs.Pointer.{Pointer, last, down, firstPart}
 use Rattle.contact.specs.Patch.{Change, remove, set, Entry, entry, mine, under, insert, fresh, added, keep, applied, kept, changeOf}
 use Rattle.pointers.specs.Pointers.{pointerOrder}
 use Rattle.patch.specs.Runs.{LeadsAll, leads-more, InOrder, asc-more}
-use Rattle.patch.specs.Patched.{based, basedAll, keptBy, stays, freshly, adds, link, piece, since, Passed}
+use Rattle.patch.specs.Patched.{based, basedAll, keptBy, stays, freshly, adds, piece, since, Passed}
 use Rattle.patch.specs.Written.{full, Wrote}
 use Rattle.patch.specs.Copied.{headOf}
 use Rattle.patch.specs.declared.writing.Pen.{Pen}
 use Rattle.patch.proofs.Putting.Bytes.{wrote-none, wrote-then}
 
 -- ---- one member ----
+
+-- a member that is written, or not, and those after it
+abbrev pub link : Option Doc → Name → (label : List ℕ) → Members → Members
+link none n label ms = ms
+link (some d) n label ms = member n label d ms
 
 pub linked : (o : Option Doc) (n label : List ℕ) (ms : Members) (first : Bool)
     → writtenMembers (link o n label ms) first ≡ piece o first label ++ writtenMembers ms (since o first)

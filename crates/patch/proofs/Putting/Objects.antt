@@ -1,6 +1,6 @@
 -- An object whose members are met one after the other, each written as the entries leave it; and a value that is none:
 --     stray-walked                          where walks end that reach no object
---     MeetWalk, meet-start, meet-here, meet-turn, meet-end     a walk along the members
+--     membersIn, MeetWalk, meet-start, meet-here, meet-turn, meet-end     a walk along the members
 -- Assumes nothing.
 use Prim.Native.Nat.{ℕ, _+_, _≤_, _<_}
 use mathlib.Core.Path.{_≡_, refl, ap, _∙_}
@@ -23,7 +23,7 @@ use Rattle.contact.specs.Patch.{Entry, added, walk}
 use Rattle.contact.proofs.Patching.Distinct.{distinct-start}
 use Rattle.patch.specs.Conditions.{walkCode, Walked}
 use Rattle.patch.specs.Marks.{met, FilledWith, pointAt, Waiting, Marked, Unmet}
-use Rattle.patch.specs.Patched.{based, basedAll, membersIn, isOut, BaseAt, stays, strayOf, Passed}
+use Rattle.patch.specs.Patched.{based, basedAll, isOut, BaseAt, stays, strayOf, Passed}
 use Rattle.patch.specs.declared.writing.Pen.{Pen}
 use Rattle.patch.proofs.Putting.Bytes.{BytesLeft}
 use Rattle.patch.proofs.Putting.Walks.{value-row, walk-start, walk-here, walk-on}
@@ -60,6 +60,10 @@ stray-walked root t pt ptable rows parts g v not-one f i x y =
     f .within i x y ∙ stray-code root t g (v .some) (v .kinds) not-one (pointAt pt ptable rows parts i)
 
 -- ---- an object ----
+
+-- the members of the value at hand
+abbrev pub membersIn : (root : Bool) → (t : List ℕ) → Forest → Members
+membersIn root t g = basedAll root (membersOf t (insideAt g))
 
 -- its members have distinct names, also without those that are left out
 distinct-in : (root : Bool) (t : List ℕ) (g : Forest) → docOf t g ≡ object (membersOf t (insideAt g)) → Distinct (docOf t g)

@@ -5,13 +5,11 @@ use Prim.Native.Nat.{ℕ, zero, suc, _+_, _-_, _≤_, _<_}
 use mathlib.Core.Path.{_≡_, ap}
 use mathlib.Core.Bool.{true}
 use mathlib.Core.List.{List, [], _∷_, _++_}
-use native.Mathlib.Decide.{decLe}
 use native.Mathlib.Omega.{arith}
-use lib.ListN.{length}
 use borrow.Author.Tests.{ne-eqb, le-ltb}
 use Rattle.laws.specs.Lists.{partOf}
 use Rattle.laws.proofs.Places.{inside}
-use Rattle.laws.proofs.Parts.{part-none, part-out, part-more}
+use Rattle.laws.proofs.Parts.{part-here, part-more}
 use Rattle.text.specs.Text.{byteAt}
 use Rattle.text.specs.Writing.{spelledByte}
 use Rattle.json.specs.Plain.{Own}
@@ -35,17 +33,10 @@ own-byte b o =
       le-ltb b 32 low,
     )
 
--- no byte
-run-none : (t : List ℕ) (i : ℕ) → partOf t i i ≡ []
-run-none t i = elim (decLe i (length t)) [
-  | yes le ↦ part-none t i le
-  | no lt ↦ part-out t i i (omega arith)
-]
-
 -- k of them
 run-of : (key : List ℕ) (k i e : ℕ) → i + k ≡ e → ((j : ℕ) → i ≤ j → j < e → Own (byteAt key j))
     → spelledRest (leftAt true key i) ≡ partOf key i e ++ spelledRest (leftAt true key e)
-run-of key zero i e at own = let here : i ≡ e = omega arith in rw (here, run-none key e)
+run-of key zero i e at own = let here : i ≡ e = omega arith in rw (here, part-here key e)
 run-of key (suc k) i e at own =
     let o = own i (omega arith) (omega arith) in
     let last-in = inside key (i + k) (let small = own (i + k) (omega arith) (omega arith) .plain .ascii in omega arith) in

@@ -6,7 +6,7 @@ use borrow.Author.Needs.{needs}
 use borrow.Fn.Kinds.{In}
 use borrow.Fn.PlainCycle.{Measures, is, falls, and}
 use Rattle.json.proofs.Seeking.{row-after}
-use Rattle.patch.specs.Drafts.{FewerThan}
+use Rattle.patch.specs.Drafts.{EntriesUpTo}
 use Rattle.patch.proofs.Drafting.Children.{counted-few, most-few}
 use Rattle.patch.proofs.compose.compose.Reads as compose
 use Rattle.patch.proofs.compose.compose.Kinds as kinds
@@ -54,7 +54,7 @@ module _ (t : ℕ) where
 
   -- the entries were counted
   fewer : (c : lts.After-count (given t) (here t) compose.Post) {most : ℕ} → c .count .result ≤ most
-      → let a = c .before .before .before .before .before .before .before .before .args in FewerThan (now (a .table)) (a .patch) most
+      → let a = c .before .before .before .before .before .before .before .before .args in EntriesUpTo (now (a .table)) (a .patch) most
   fewer c le =
       let start = c .before .before .before .before .before .before .before .before in
       counted-few (row-after (now (start .args .table)) (start .args .patch) (c .before .next-row .ensures) (omega (arith, start .pre .1))) (c .count .ensures) le

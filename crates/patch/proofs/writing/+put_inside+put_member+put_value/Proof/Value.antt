@@ -17,14 +17,14 @@ use Rattle.json.specs.Rows.{belowIn}
 use Rattle.json.specs.Lookup.{lastRow}
 use Rattle.patch.specs.Tails.{BeginAlike}
 use Rattle.patch.specs.Marks.{Waiting}
-use Rattle.patch.specs.Patched.{Said, membersIn, BaseAt, Elsewhere}
+use Rattle.patch.specs.Patched.{Said, BaseAt, Elsewhere}
 use Rattle.patch.proofs.Listing.Marks.{around-all, around-join}
 use Rattle.patch.proofs.Putting.Bytes.{left-all, wrote-then}
 use Rattle.json.proofs.Seeking.{row-after, row-inside}
 use Rattle.patch.proofs.Putting.Walks.{value-row, Passing, walk-here}
 use Rattle.patch.proofs.Putting.Kept.{based-object, based-members, based-other}
 use Rattle.patch.proofs.Putting.Patches.{restBy, patch-here, patch-end}
-use Rattle.patch.proofs.Putting.Objects.{stray-walked, MeetWalk, meet-start, meet-here, meet-turn, meet-end}
+use Rattle.patch.proofs.Putting.Objects.{stray-walked, membersIn, MeetWalk, meet-start, meet-here, meet-turn, meet-end}
 use Rattle.patch.proofs.writing.put_member.Reads as member
 use Rattle.patch.proofs.writing.put_value.Reads as value
 use Rattle.patch.proofs.writing.+put_inside+put_member+put_value.Lts-put_value as lts
