@@ -52,8 +52,8 @@ extern "C" {
 #define BEZINKOL_ANSWER_WORDS 3
 
 /* The bytes of stack that a call needs, for any text and for one of at most BEZINKOL_SHORT_BYTES bytes. By the frames of the machine code for x86-64 of this
- * kit (rattle-kit-5b) no call takes more than 287 KiB for reading and judging and 349 KiB for localizing, and for a short text no more than 30, 45 and 61
- * KiB: what is said here is more by 33 KiB or more, for short texts by 10, 11 and 3. tests/c counts them again (frames.py), measures calls at the limits (stack.c), and
+ * kit (rattle-kit-5b) no call takes more than 287 KiB for reading and judging and 340 KiB for localizing, and for a short text no more than 31, 45 and 58
+ * KiB: what is said here is more by 33 KiB or more, for short texts by 9, 11 and 6. tests/c counts them again (frames.py), measures calls at the limits (stack.c), and
  * fails where it is more than is said here; another kit may write other machine code. */
 #define BEZINKOL_READ_STACK 327680
 #define BEZINKOL_JUDGE_STACK 327680

@@ -1,6 +1,7 @@
 -- The order of pointers by which entries are sorted, and a pointer without its first parts. Assumes nothing: these are definitions.
-use Prim.Native.Nat.{ℕ, zero, suc, _+_, _≤_}
+use Prim.Native.Nat.{ℕ, zero, suc, _+_, _≤_, _<_}
 use mathlib.Core.Path.{_≡_}
+use mathlib.Core.Logic.{_≢_}
 use mathlib.Core.Bool.{Bool, false, not, cond, _||_}
 use mathlib.Core.List.{List}
 use lib.Dec.{eqb, ltb}
@@ -8,6 +9,7 @@ use lib.ListN.{length}
 use Rattle.laws.specs.Order.{orderOf}
 use Rattle.laws.specs.declared.Order.{Order}
 use Rattle.laws.specs.declared.Order.the-variants.{Less, Same, More}
+use Rattle.text.specs.Text.{byteAt}
 use Rattle.json.specs.Cursors.{rest, cursor}
 use Rattle.contact.specs.Pointer.{Pointer, last, down, pointerOf, clash}
 
@@ -39,6 +41,16 @@ isCoded b = eqb b 126 || eqb b 92
 -- what is left of a key at a place where a character begins, as a pointer
 abbrev pub pointerFrom : List ℕ → (at : ℕ) → Pointer
 pointerFrom key at = pointerOf (rest key (cursor at 0 0))
+
+-- two keys have the same byte at a place, which is no backslash (92)
+pub record SameAt (a b : List ℕ) (k : ℕ) : Type 0 where
+  pub same : byteAt a k ≡ byteAt b k
+  pub byte : byteAt a k < 256
+  pub no-escape : byteAt a k ≢ 92
+
+-- so it is with their first k bytes
+abbrev pub SameWritten : (a b : List ℕ) → (k : ℕ) → Type 0
+SameWritten a b k = (i : ℕ) → i < k → SameAt a b i
 
 -- the first k bytes of two keys are the same, and spell the same: so what is left decides
 pub record AlikeKeys (a b : List ℕ) (k : ℕ) : Type 0 where

@@ -26,7 +26,7 @@ ghost use Rattle.text.specs.Text.{bytes};
 ghost use Rattle.json.specs.Cursors.{rest, cursor};
 ghost use Rattle.contact.specs.Pointer.{pointerOf, badTilde, zeroOrOne, firstPart, clash};
 ghost use Rattle.pointers.specs.Parts.{GoesAt, CrossesTo};
-ghost use Rattle.pointers.specs.Pointers.{pointerOrder, isCoded, tells, pointerFrom, AlikeKeys, endsBefore, rankOf};
+ghost use Rattle.pointers.specs.Pointers.{pointerOrder, isCoded, tells, pointerFrom, SameWritten, AlikeKeys, endsBefore, rankOf};
 
 // Is the next byte `0` or `1`?
 fn zero_or_one(key: &[u8], c: Cursor) -> bool
@@ -66,10 +66,9 @@ pub fn is_own(key: &[u8]) -> bool
     part_same(key, start(), false, b"localizations", start())
 }
 
-// Plain bytes that two keys begin with alike: so far their pointers are the same. Short keys aren't asked. A tilde at the end of these is left, to be read with
-// what follows. It is the second byte of no `~0` or `~1`, so a character begins there.
+// Plain bytes that two keys begin with alike, told eight at a time. Short keys aren't asked: to ask would take longer.
 fn alike_start(a: &[u8], b: &[u8]) -> usize
-    ensures { λ r. ⌜ AlikeKeys (now (a .entry)) (now (b .entry)) r ⌝ }
+    ensures { λ r. ⌜ SameWritten (now (a .entry)) (now (b .entry)) r ⌝ }
 {
     if is_short(a, 0) {
         return 0;
@@ -77,21 +76,13 @@ fn alike_start(a: &[u8], b: &[u8]) -> usize
     if is_short(b, 0) {
         return 0;
     }
-    let k = alike_plain_from(a, 0, b, 0);
-    if k == 0 {
-        return 0;
-    }
-    let last = k - 1;
-    if peek(a, last) == TILDE {
-        return last;
-    }
-    k
+    alike_plain_from(a, 0, b, 0)
 }
 
-// Bytes that two keys begin with alike so that what is left decides: up to a difference, a backslash, or a tilde behind bytes that aren't plain. That they are
-// the most, nothing asks. Most bytes take few tests.
-fn alike_keys(a: &[u8], b: &[u8]) -> usize
-    ensures { λ r. ⌜ AlikeKeys (now (a .entry)) (now (b .entry)) r ⌝ }
+// Bytes that two keys begin with alike as they are written: up to a difference, a backslash or an end. That they are the most, nothing asks. Most bytes take
+// few tests.
+fn alike_written(a: &[u8], b: &[u8]) -> usize
+    ensures { λ r. ⌜ SameWritten (now (a .entry)) (now (b .entry)) r ⌝ }
 {
     let mut k = alike_start(a, b);
     loop {
@@ -106,14 +97,27 @@ fn alike_keys(a: &[u8], b: &[u8]) -> usize
         if x == BACKSLASH {
             return k;
         }
-        if x == TILDE {
-            return k;
-        }
         if x == OVER {
             return k;
         }
         k += 1;
     }
+}
+
+// Bytes that two keys begin with alike so that what is left decides. A tilde at the end of these is left, to be read with what follows: it is the second byte of
+// no `~0` or `~1`, so a character begins there.
+fn alike_keys(a: &[u8], b: &[u8]) -> usize
+    ensures { λ r. ⌜ AlikeKeys (now (a .entry)) (now (b .entry)) r ⌝ }
+{
+    let k = alike_written(a, b);
+    if k == 0 {
+        return 0;
+    }
+    let last = k - 1;
+    if peek(a, last) == TILDE {
+        return last;
+    }
+    k
 }
 
 // Must a byte be looked at together with the next ones: is it a tilde or a backslash?

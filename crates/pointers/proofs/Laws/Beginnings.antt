@@ -1,7 +1,8 @@
 -- Keys by the bytes that they begin with, as they are written:
 --     Begins, begins, uncoded    a pointer by the first byte of what is left of a key
 --     alike-none, alike-next     keys that begin alike, byte by byte
---     alike-to-tilde, alike-past     the same past plain bytes, with the tildes that both have
+--     same-plain, same-more          bytes that both have as they are written
+--     alike-to-tilde, alike-past     what is left behind these decides, with the tildes that both have
 --     by-first     their order, and whether they clash, by the first byte that differs
 -- Assumes nothing.
 use Prim.Native.Nat.{ℕ, zero, suc, _+_, _-_, _≤_, _<_}
@@ -24,7 +25,7 @@ use Rattle.json.specs.Cursors.{rest, cursor}
 use Rattle.json.specs.Names.{orderAt}
 use Rattle.json.specs.Plain.{Plain, AlikeTo}
 use Rattle.contact.specs.Pointer.{Pointer, last, down, push, split, plain, plainParts, pointerOf, clash}
-use Rattle.pointers.specs.Pointers.{pointerOrder, isCoded, tells, pointerFrom, AlikeKeys, endsBefore, rankOf}
+use Rattle.pointers.specs.Pointers.{pointerOrder, isCoded, tells, pointerFrom, SameAt, SameWritten, AlikeKeys, endsBefore, rankOf}
 use Rattle.pointers.proofs.Laws.Parts.{plain-tilde}
 use Rattle.pointers.proofs.Laws.Glyphs.{rest-byte, rest-over}
 
@@ -142,6 +143,20 @@ module _ (a b : List ℕ) (k : ℕ) (w : AlikeKeys a b k) (e : byteAt a k ≡ by
       go (byte x ne p) (byte y ne2 q) =
           alike-push a b k (k + 1) (byteAt a k) w p (q ∙ ap (λ (c : ℕ). push c (pointerFrom b (k + 1))) (sym e)) long
 
+-- ---- as they are written
+
+pub same-plain : (a b : List ℕ) {k : ℕ} → AlikeTo Plain a 0 b 0 k → SameWritten a b k
+same-plain a b run i h =
+    let e : 0 + i ≡ i = omega arith in
+    let here = rw e at (run .alike i h) in
+    record { same = here .0; byte = omega (arith, here .1 .ascii); no-escape = here .1 .no-slash }
+
+pub same-more : (a b : List ℕ) (k : ℕ) → SameWritten a b k → byteAt a k ≡ byteAt b k → byteAt a k < 256 → byteAt a k ≢ 92 → SameWritten a b (k + 1)
+same-more a b k run e some back i h = elim (ℕ-discrete i k) [
+  | yes here ↦ rw here (record { same = e; byte = some; no-escape = back })
+  | no ne ↦ run i (omega arith)
+]
+
 -- ---- with tildes that both have
 
 coded-tilde : (p : Pointer) → plainParts (push 126 (push 48 p)) ≡ push 126 (plainParts p)
@@ -196,19 +211,16 @@ module _ (a b : List ℕ) (k : ℕ) (w : AlikeKeys a b k) (e : byteAt a k ≡ 12
           rest-byte t (k + 1) (λ z. back (sym y ∙ z)) (λ z. omega (arith, y)) ∙ rw (y, two) in
           ap pointerOf (pair t x y) ∙ pointer-alone c (rest t (cursor (k + 2) 0 0)) one nought ∙ sym (ap (λ (bs : List ℕ). push 126 (pointerOf bs)) next)
 
--- behind a plain byte, the last of some that stand alike, what is left decides; a tilde is left too
+-- behind a byte, the last of some that stand alike, what is left decides; a tilde is left too
 record Upto (a b : List ℕ) (k : ℕ) : Type 0 where
   tilde : byteAt a k ≡ 126 → AlikeKeys a b k
   other : byteAt a k ≢ 126 → AlikeKeys a b (k + 1)
 
-abbrev Both : List ℕ → List ℕ → ℕ → Type 0
-Both a b k = (byteAt a k ≡ byteAt b k) × Plain (byteAt a k)
-
-from-here : (a b : List ℕ) (k : ℕ) → Both a b k → AlikeKeys a b k → Upto a b k
+from-here : (a b : List ℕ) (k : ℕ) → SameAt a b k → AlikeKeys a b k → Upto a b k
 from-here a b k h w =
-    record { tilde = λ e. w; other = λ ne. alike-next a b k w (h .0) (omega (arith, h .1 .ascii)) ne (h .1 .no-slash) }
+    record { tilde = λ e. w; other = λ ne. alike-next a b k w (h .same) (h .byte) ne (h .no-escape) }
 
-further : (a b : List ℕ) (k : ℕ) → Both a b k → Both a b (k + 1) → Upto a b k → Upto a b (k + 1)
+further : (a b : List ℕ) (k : ℕ) → SameAt a b k → SameAt a b (k + 1) → Upto a b k → Upto a b (k + 1)
 further a b k h n u = elim (ℕ-discrete (byteAt a k) 126) [
   | no ne ↦ from-here a b (k + 1) n (u .other ne)
   | yes e ↦ elim (ℕ-discrete (byteAt a (k + 1)) 48) [
@@ -216,7 +228,7 @@ further a b k h n u = elim (ℕ-discrete (byteAt a k) 126) [
     | no nought ↦ elim (ℕ-discrete (byteAt a (k + 1)) 49) [
       | yes d ↦ digit e 49 47 d (λ bs. coded-slash (split bs)) (omega arith)
       | no one ↦ from-here a b (k + 1) n
-          (alike-alone a b k (u .tilde e) e (sym (h .0) ∙ e) (n .0) (omega (arith, n .1 .ascii)) (n .1 .no-slash) one nought)
+          (alike-alone a b k (u .tilde e) e (sym (h .same) ∙ e) (n .same) (n .byte) (n .no-escape) one nought)
     ]
   ]
 ]
@@ -226,19 +238,19 @@ further a b k h n u = elim (ℕ-discrete (byteAt a k) 126) [
         let two : k + 1 + 1 ≡ k + 2 = omega arith in
         record {
           tilde = λ z. absurd (omega arith);
-          other = λ ne. rw two (alike-digit a b k (u .tilde e) e (sym (h .0) ∙ e) (n .0) (omega (arith, n .1 .ascii)) (n .1 .no-slash) d c g is);
+          other = λ ne. rw two (alike-digit a b k (u .tilde e) e (sym (h .same) ∙ e) (n .same) (n .byte) (n .no-escape) d c g is);
         }
 
 module _ (a b : List ℕ) where
-  upto : (k : ℕ) → ((i : ℕ) → i < suc k → Both a b i) → Upto a b k
+  upto : (k : ℕ) → ((i : ℕ) → i < suc k → SameAt a b i) → Upto a b k
   upto zero alike = from-here a b 0 (alike 0 (omega arith)) (alike-none a b)
   upto (suc k) alike =
       rw (← add-one k)
       (further a b k (alike k (omega arith)) (alike (k + 1) (omega arith)) (upto k (λ i h. alike i (omega arith))))
 
-  module _ (k : ℕ) (run : AlikeTo Plain a 0 b 0 k) (some : 0 < k) where
+  module _ (k : ℕ) (run : SameWritten a b k) (some : 0 < k) where
     last-of : Upto a b (k - 1)
-    last-of = upto (k - 1) (λ i h. let e : 0 + i ≡ i = omega arith in rw e at (run .alike i (omega arith)))
+    last-of = upto (k - 1) (λ i h. run i (omega arith))
 
     pub alike-to-tilde : byteAt a (k - 1) ≡ 126 → AlikeKeys a b (k - 1)
     alike-to-tilde e = last-of .tilde e
