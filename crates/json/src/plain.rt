@@ -116,7 +116,7 @@ fn left_from(text: &[u8], at: usize) -> usize
     n - at
 }
 
-// So many bytes stand from each of two places on, and more from one of them.
+// So many bytes stand from both of two places on: the fewer of the two.
 fn room(text: &[u8], a: usize, other: &[u8], b: usize) -> usize
     ensures { λ r. ⌜ (r ≤ length (now (text .entry)) - a) × (r ≤ length (now (other .entry)) - b) ⌝ }
 {

@@ -127,8 +127,8 @@ fn tilde_at(key: &[u8], at: usize) -> Glyph
     }
 }
 
-// What is spelled by a backslash and what follows it, where that is one byte of ASCII; a `~` says nothing, since in a part it means something together with
-// what follows.
+// What is spelled by a backslash and what follows it, where that is one byte of ASCII. A part ends at a slash, and of a `~` in it nothing is said, since it
+// means something together with what follows.
 fn coded_at(part: bool, key: &[u8], at: usize) -> Glyph
     ensures { λ r. ⌜ GlyphAt part (now (key .entry)) at r ⌝ }
 {

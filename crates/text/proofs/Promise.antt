@@ -31,6 +31,7 @@
 --
 -- Names as they are written:
 --     tail-is               what is decoded from a place on is what is decoded of the bytes from there on alone
+--     same-yes, same-no, escape-char      names that are compared; an escape is one or more bytes long
 -- Assumes nothing.
 use Prim.Native.Nat.{ℕ, _*_, _≤_}
 use mathlib.Core.Path.{_≡_, refl, ap, _∙_}
@@ -95,6 +96,8 @@ pub use Rattle.text.proofs.Documents.{
   count-root,
 }
 pub use Rattle.text.proofs.Tails.{tail-is}
+pub use Rattle.text.proofs.Names.{same-yes, same-no}
+pub use Rattle.text.proofs.Walks.{escape-char}
 
 -- ---- a text that is read ----
 

@@ -27,8 +27,7 @@ use Rattle.text.specs.Firsts.{HasFirst, Kinds, nameStart, nameEnd, restAt}
 use Rattle.text.specs.Standing as S
 use Rattle.text.specs.Doc.{Name, membersOf}
 use Rattle.text.specs.Distinct.{DistinctMembers}
-use Rattle.text.proofs.Names.{same-yes, same-no}
-use Rattle.text.proofs.Promise.{first-row, next, members-first, members-none}
+use Rattle.text.proofs.Promise.{first-row, next, members-first, members-none, same-yes, same-no}
 use Rattle.json.specs.Rows.{nameStartIn}
 use Rattle.json.proofs.Seeking.{rest-kinds}
 use Rattle.contact.specs.Conditions.{HasKey, first, later}

@@ -16,7 +16,7 @@ use Rattle.text.specs.Text.{byteAt}
 use Rattle.text.specs.Chars.{escapeAt}
 use Rattle.text.specs.declared.Step.{Step}
 use Rattle.text.specs.declared.Step.the-variants.{Close, Char, Bad2, Bad3}
-use Rattle.text.proofs.Walks.{escape-char}
+use Rattle.text.proofs.Promise.{escape-char}
 use Rattle.json.specs.Cursors.{cursor, firstOf, escaped, freshOf, nextOf}
 use Rattle.json.specs.declared.decode.Cursor.{Cursor}
 use Rattle.json.specs.declared.decode.Next.the-variants.{Byte, Over}
