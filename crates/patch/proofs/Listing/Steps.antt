@@ -46,7 +46,7 @@ slash-found key {to = to} le lt h e w some = elim (decLe met (to + 1)) [
 module _ {a x y : List ℕ} {at most r : ℕ} (p : PassesSlash x at most r) (of-x : SameBytes a x most) (of-y : SameBytes a y most) where
   -- they have the same bytes up to the slash
   alike-byte : (j : ℕ) → j < most → byteAt y j ≡ byteAt x j
-  alike-byte j lt = of-y j lt .same ∙ sym (of-x j lt .same)
+  alike-byte j lt = sym (of-y j lt .written .same) ∙ of-x j lt .written .same
 
   -- which pass over none, and no backslash
   alike-run : (d to : ℕ) → at + d ≡ to → to ≤ p .slash → RunTo y 47 at to
@@ -54,10 +54,10 @@ module _ {a x y : List ℕ} {at most r : ℕ} (p : PassesSlash x at most r) (of-
   alike-run (suc d) to e le =
       let j = at + d in
       let lt : j < most = omega (arith, p .within) in
-      let here = of-y j lt in
+      let here = of-y j lt .written in
       let next : to ≡ j + 1 = omega arith in
       rw next
-      (one-more (alike-run d j refl (omega arith)) (omega (arith, here .same, here .byte)) (λ z. here .no-escape (sym (here .same) ∙ z))
+      (one-more (alike-run d j refl (omega arith)) (omega (arith, here .same, here .byte)) (λ z. here .no-escape (here .same ∙ z))
       (λ z. p .first j (omega arith) (omega arith) (sym (alike-byte j lt) ∙ z)))
 
   alike-next : (n : Name) (q : Pointer) → pointerOf (rest y (cursor at 0 0)) ≡ down n q → pointerOf (rest y (cursor r 0 0)) ≡ q

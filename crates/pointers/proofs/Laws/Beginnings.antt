@@ -15,6 +15,7 @@ use native.Mathlib.Numerals.{add-one}
 use native.Mathlib.Decide.{ℕ-discrete, decLe}
 use lib.Dec.{eqb}
 use lib.ListN.{length}
+use borrow.Author.Count.{below-more}
 use borrow.Author.Tests.{ne-eqb, lt-ltb, le-ltb, eqb-false}
 use Rattle.laws.specs.Order.{orderOf, same}
 use Rattle.laws.specs.declared.Order.the-variants.{Less, More}
@@ -152,10 +153,7 @@ same-plain a b run i h =
     record { same = here .0; byte = omega (arith, here .1 .ascii); no-escape = here .1 .no-slash }
 
 pub same-more : (a b : List ℕ) (k : ℕ) → SameWritten a b k → byteAt a k ≡ byteAt b k → byteAt a k < 256 → byteAt a k ≢ 92 → SameWritten a b (k + 1)
-same-more a b k run e some back i h = elim (ℕ-discrete i k) [
-  | yes here ↦ rw here (record { same = e; byte = some; no-escape = back })
-  | no ne ↦ run i (omega arith)
-]
+same-more a b k run e some back = below-more (SameAt a b) k run (record { same = e; byte = some; no-escape = back })
 
 -- ---- with tildes that both have
 
