@@ -6,7 +6,6 @@ from kinds import NAME, card
 from names import mixed, with_memo
 
 SHORT, LONG = 1 << 14, 1 << 20  # bytes
-ROW_WORDS = 6
 
 # A make: its name and a text of so many bytes or a little less.
 Make = collections.namedtuple("Make", "name text")

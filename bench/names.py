@@ -4,7 +4,7 @@ import collections
 import itertools
 import random
 
-from kinds import LIMIT, MOST_WORDS, NAME, RICH, card
+from kinds import LIMIT, MOST_WORDS, NAME, RICH, ROW_WORDS, card
 
 # `beside` is the text that the time is held to, with the same table, `held` says what it is, and `most` how much longer this one may take. Ordinary
 # cards are held to the other build.
@@ -60,8 +60,8 @@ def ordinary():
     others = b",".join(b'"%s%d":%s' % (b"x-", i, members(dozen, b'"as it is"')) for i in range(8))
     for name, text, rows in (("small card", card(NAME), 9), ("rich card", card(RICH), 188), ("a dozen members an object", card(NAME, others), 113)):
         yield name, text, MOST_WORDS
-        yield f"{name}, {rows} rows", text, 6 * rows
-        yield f"{name}, 1 row", text, 6
+        yield f"{name}, {rows} rows", text, ROW_WORDS * rows
+        yield f"{name}, 1 row", text, ROW_WORDS
     yield "ten rich cards", listed([card(RICH)] * 10), MOST_WORDS
     yield "plain cards", plain(LIMIT), MOST_WORDS
 
@@ -111,7 +111,7 @@ def hostile():
 
 def inputs():
     """All of them, in the order of the table."""
-    yield Input("the text 1", b"1", 6)
+    yield Input("the text 1", b"1", ROW_WORDS)
     for name, text, words in ordinary():
         yield Input(name, text, words, most=1.1)
     for name, text, half in grown():

@@ -14,7 +14,7 @@ struct request {
 struct reply {
     uint64_t least; /* nanoseconds of a sample */
     uint64_t answer[BEZINKOL_ANSWER_WORDS];
-    uint64_t sum; /* of all that was lent to be written */
+    uint64_t rows, out; /* sums of all that was lent to be written: of the table and of the output */
 };
 
 static uint8_t text[BEZINKOL_MAX_BYTES * 2], language[4096], out[BEZINKOL_MAX_BYTES * 2];
@@ -83,9 +83,9 @@ static void time_request(const struct request *r, struct reply *to) {
         uint64_t took = now() - from;
         if (took < to->least) to->least = took;
     }
-    to->sum = 0;
-    for (uint32_t i = 0; i < r->words; i++) to->sum = to->sum * 65599 + table[i];
-    for (uint32_t i = 0; r->service == 2 && i < r->room; i++) to->sum = to->sum * 65599 + out[i];
+    to->rows = to->out = 0;
+    for (uint32_t i = 0; i < r->words; i++) to->rows = to->rows * 65599 + table[i];
+    for (uint32_t i = 0; r->service == 2 && i < r->room; i++) to->out = to->out * 65599 + out[i];
 }
 
 static void serve(void) {

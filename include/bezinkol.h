@@ -6,7 +6,7 @@
  *
  *   pointers  Each is good for as many elements as its length says: bytes for `text`, `language` and `out`, 32-bit words for `table`, three
  *             64-bit words for `answer`. It is aligned for its type and not null, also where the length is 0.
- *   lengths   Count elements, not bytes: a table of one row has table_len 6. No text needs a NUL at its end; a NUL inside is a byte like any other.
+ *   lengths   Count elements, not bytes: a table of one row has table_len 8. No text needs a NUL at its end; a NUL inside is a byte like any other.
  *   overlap   What is written (`table`, `out`, `answer`) shares no byte with any other buffer. `text` and `language` are only read: the language
  *             may lie inside the text.
  *   threads   While a call runs, no other thread writes what it reads, or uses what it writes.
@@ -27,7 +27,7 @@
  *
  *   All three words are always written, and so is every word of the table and every byte of the output:
  *   after a refusal     all of the table and all of the output is zero;
- *   after acceptance    the table begins with answer[1] rows of six words, the output with answer[2] bytes; the rest of both is zero.
+ *   after acceptance    the table begins with answer[1] rows of eight words, the output with answer[2] bytes; the rest of both is zero.
  */
 #ifndef BEZINKOL_H
 #define BEZINKOL_H
@@ -46,14 +46,14 @@ extern "C" {
 
 /* How much to lend so that there always is room: a table of BEZINKOL_TABLE_WORDS words (then 7 isn't given), and an output as long as the card text,
  * so one of BEZINKOL_MAX_BYTES bytes for any text (then 27 isn't given). For a text of n bytes (n + 1) / 2 rows are enough. All that is lent is cleared or
- * filled at each call, so for small texts small buffers are quicker: 768 KiB of table cost more than to judge a card. */
-#define BEZINKOL_ROW_WORDS 6
+ * filled at each call, so for small texts small buffers are quicker: 1 MiB of table costs more than to judge a card. */
+#define BEZINKOL_ROW_WORDS 8
 #define BEZINKOL_TABLE_WORDS (BEZINKOL_ROW_WORDS * BEZINKOL_MAX_VALUES)
 #define BEZINKOL_ANSWER_WORDS 3
 
 /* The bytes of stack that a call needs, for any text and for one of at most BEZINKOL_SHORT_BYTES bytes. By the frames of the machine code for x86-64 of this
- * kit (rattle-kit-5b) no call takes more than 287 KiB for reading and judging and 340 KiB for localizing, and for a short text no more than 31, 45 and 58
- * KiB: what is said here is more by 33 KiB or more, for short texts by 9, 11 and 6. tests/c counts them again (frames.py), measures calls at the limits (stack.c), and
+ * kit (rattle-kit-5b) no call takes more than 287 KiB for reading and judging and 340 KiB for localizing, and for a short text no more than 31, 44 and 58
+ * KiB: what is said here is more by 33 KiB or more, for short texts by 9, 12 and 6. tests/c counts them again (frames.py), measures calls at the limits (stack.c), and
  * fails where it is more than is said here; another kit may write other machine code. */
 #define BEZINKOL_READ_STACK 327680
 #define BEZINKOL_JUDGE_STACK 327680
@@ -63,15 +63,25 @@ extern "C" {
 #define BEZINKOL_JUDGE_STACK_4K 57344
 #define BEZINKOL_LOCALIZE_STACK_4K 65536
 
-/* The words of a row. There is one row a value, parents before children, in the order of the text. Places count bytes from 0, from the start of the
- * text that was read (of the output, after localizing); ends are exclusive. The root and the elements of arrays have the name 0, 0. */
+/* The words of a row. There is one row a value, parents before children, in the order of the text; row 0 is the root. Places count bytes from 0, from the
+ * start of the text that was read (of the output, after localizing); ends are exclusive. The root and the elements of arrays have the name 0, 0.
+ *
+ * Rows are numbered from 0, and row r has the words from r * BEZINKOL_ROW_WORDS on. A value's parent is the array or object that it directly stands in, its
+ * next sibling the value that follows it there. So of the rows of an accepted text:
+ *   climbing    from parent to parent ends at row 0, in as many steps as the value has arrays and objects around it, so in at most
+ *               BEZINKOL_MAX_DEPTH. The root's own parent is 0 too: stop at row 0.
+ *   children    A value with values below has its first child in the next row, r + 1; from there the next siblings, up to a 0, are just its children, in
+ *               their order. Row 0 is nobody's sibling, so 0 always means that there is none.
+ *   siblings    Where row r has a next sibling, that is row r + 1 + below. */
 enum {
     BEZINKOL_ROW_KIND = 0,
     BEZINKOL_ROW_NAME_START = 1, /* without its quotes, as it is written */
     BEZINKOL_ROW_NAME_END = 2,
     BEZINKOL_ROW_VALUE_START = 3, /* a string with its quotes */
     BEZINKOL_ROW_VALUE_END = 4,
-    BEZINKOL_ROW_BELOW = 5 /* how many values are inside, so many rows follow before the next one beside it */
+    BEZINKOL_ROW_BELOW = 5,  /* how many values are inside, at any depth: so many rows follow before the next one beside it */
+    BEZINKOL_ROW_PARENT = 6, /* the row of the array or object that it directly stands in; 0 for the root too */
+    BEZINKOL_ROW_NEXT = 7    /* the row of the next value in the same array or object; 0 where there is none */
 };
 
 /* The kinds of a row. */
@@ -98,7 +108,7 @@ enum {
     BEZINKOL_REPEATED_NAME = 4,      /* a name already in the same object; the later name's opening quote */
     BEZINKOL_TOO_DEEP = 5,           /* the 65th open array or object; its bracket */
     BEZINKOL_TOO_MANY = 6,           /* a 32,769th value begins; its first byte */
-    BEZINKOL_SMALL_TABLE = 7,        /* fewer whole rows than the text has values; the rows needed, each of six words */
+    BEZINKOL_SMALL_TABLE = 7,        /* fewer whole rows than the text has values; the rows needed, each of eight words */
     BEZINKOL_WRONG_KIND = 11,        /* JSON kind wrong for the type; the value's first byte */
     BEZINKOL_MISSING = 12,           /* mandatory member missing; the object's first byte */
     BEZINKOL_WRONG_VALUE = 13,       /* value not allowed, or map key not an Id; the value's first byte */

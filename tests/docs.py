@@ -10,7 +10,7 @@ from store import ROOT
 import intake
 from duds import edits
 from program import line
-from reading import MOST_WORDS
+from reading import MOST_WORDS, ROW_WORDS
 from rulings import whole
 
 SHEET = re.compile(r"^\| (\d+) \|.*\| ([^|]*) \|$")
@@ -41,7 +41,7 @@ def asked(number, card):
         room = re.search(r"with (\d+) bytes", card)
         return intake.localize(text, b"de", MOST_WORDS, int(room[1]) if room else len(text))[:2]
     rows = re.search(r"with (\d+) rows", card)
-    return (intake.read if number == 6 else intake.judge)(text, 6 * int(rows[1]) if rows else MOST_WORDS)[:2]
+    return (intake.read if number == 6 else intake.judge)(text, ROW_WORDS * int(rows[1]) if rows else MOST_WORDS)[:2]
 
 
 def sheet():

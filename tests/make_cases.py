@@ -14,7 +14,7 @@ import make_reading
 from store import ROOT, lines_of
 
 SERVICES = {"reading": make_reading, "judging": make_judging, "localizing": make_localizing, "program": make_program}
-LIMIT = 1500000  # the program's input buffer is larger by a hundred thousand bytes
+LIMIT = 1550000  # the program's input buffer is larger by fifty thousand bytes
 
 # the numbers of the sheet that each service can answer, and those that can stand second in 28
 SHEET = {

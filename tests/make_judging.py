@@ -7,7 +7,7 @@ from store import ROOT, Case, Made, lent, noted, rows_of
 
 import intake
 from duds import ASKED
-from reading import MOST_BYTES, MOST_DEPTH, MOST_VALUES, MOST_WORDS, tree
+from reading import MOST_BYTES, MOST_DEPTH, MOST_VALUES, MOST_WORDS, ROW_WORDS, tree
 from rulings import MUST
 
 GIVEN = b'{"kind":"given","value":"A"}'
@@ -302,7 +302,7 @@ def chance(count):
 
 def buffers():
     """The table's length; white space before the card; a line feed after it."""
-    for words in (0, 5, 6, 23, 24, 25, 29, 30, 600):
+    for words in (0, 6, 7, 8, 31, 32, 33, 39, 40, 600):
         yield words, card()
         yield words, b"{}"
         yield words, b"5"
@@ -313,7 +313,7 @@ def buffers():
 
 def sized(text):
     rows = rows_of(text)
-    return (6 * rows + 13 if rows else 100), text
+    return (ROW_WORDS * rows + 13 if rows else 100), text
 
 
 HEAD = noted(b"{" + MUST)  # of a card whose text is made by a recipe
@@ -332,24 +332,25 @@ def deep():
 
 def large():
     """Cards of many values and of many bytes, with the words of the table."""
-    own = len(tree(card(), 24).inside) + 2  # the values of a card with an empty array
+    own = len(tree(card(), MOST_WORDS).inside) + 2  # the values of a card with an empty array
     for values in (2048, 2049, MOST_VALUES - 1, MOST_VALUES, MOST_VALUES + 1):
         text = card(b'"x":[' + b"0," * (values - own - 1) + b"0]")
-        for words in (0, 6 * values - 6, 6 * values - 1, 6 * values, 6 * values + 6):
-            if words <= MOST_WORDS + 6:
+        enough = ROW_WORDS * values
+        for words in (0, enough - ROW_WORDS, enough - 1, enough, enough + ROW_WORDS):
+            if words <= MOST_WORDS + ROW_WORDS:
                 yield words, text
         yield MOST_WORDS, card(b'"kind":5', b'"x":[' + b"0," * (values - own - 2) + b"0]")
     for count in (1500, 20000, MOST_VALUES - own - 3):  # a group, and what may be wrong with its last member
         whole = f"{GROUP}%#{count},14,7919;"
-        words = 6 * (count + own + 3)
+        words = ROW_WORDS * (count + own + 3)
         yield words, Made(whole + "}}")
-        yield words - 6, Made(whole + "}}")
+        yield words - ROW_WORDS, Made(whole + "}}")
         yield words, Made(whole.replace('"group"', '"Group"') + "}}")
         for last in ('"n":false', '"n":null', '"m00000":true', '"m07919":true', '"%5cu006d00000":true', '"n":true},"name":{'):
-            yield words + 24, Made(f"{whole},{last}}}}}")
+            yield words + 4 * ROW_WORDS, Made(f"{whole},{last}}}}}")
     for entry, step, values in (('"e00000":{"address":"x"}', 31, 2), ('"e00000":{"address":"x","pref":7}', 310, 3)):  # the digit of `pref` stays
         entries = f'{HEAD},"emails":{{"e":{{"address":"x"}},{entry}%#{10000},{len(entry) + 1},{step};'
-        yield 6 * (10000 * values + 12), Made(entries + "}}")
+        yield ROW_WORDS * (10000 * values + 12), Made(entries + "}}")
         yield MOST_WORDS, Made(entries + ',"e f":{"address":"x"}}}')
         yield MOST_WORDS, Made(entries + ',"e_f":{"address":"x","pref":0}}}')
     part, apart = '{"kind":"given","value":"A"}', '{"kind":"separator","value":"-"}'

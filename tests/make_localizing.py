@@ -11,7 +11,7 @@ from store import lent as lent_words
 
 import intake
 from duds import ASKED
-from reading import MOST_BYTES, MOST_DEPTH, MOST_VALUES, MOST_WORDS, Reader
+from reading import MOST_BYTES, MOST_DEPTH, MOST_VALUES, MOST_WORDS, ROW_WORDS, Reader
 
 GIVEN = b'{"kind":"given","value":"Ann"}'
 OWN = (
@@ -29,7 +29,7 @@ def lent(text, language=b"de", words=None, room=None):
     """A case; the table has some words more than the text needs, the output is as long as the text."""
     if words is None:
         rows = rows_of(text)
-        words = 6 * rows + 13 if rows else 100
+        words = ROW_WORDS * rows + 13 if rows else 100
     return Case("localizing", words, text, len(text) if room is None else room, language)
 
 
@@ -56,8 +56,8 @@ def conditions():
             yield lent(text, language=b"fr", room=0)
     for own in (b'"kind":5', b'"created":"x"', b'"name":{}', b'"members":{}', b'"kind":5,"kind":6', b'"emails":{"a":{}}'):
         yield lent(patched(CONDITIONS[22], own))
-        yield lent(patched(CONDITIONS[22], own), words=5, room=0)
-    yield lent(patched(CONDITIONS[22]), words=6, room=0)
+        yield lent(patched(CONDITIONS[22], own), words=7, room=0)
+    yield lent(patched(CONDITIONS[22]), words=8, room=0)
 
 
 def unread():
@@ -80,12 +80,12 @@ def buffers():
     """Outputs and tables that are just enough, one short, empty and long."""
     for patch in (b"", b'"z":null', b'"uid":null', b'"a~1b":"c","name/full":"B"', b'"x":[1, 2, 3]', b'"~":1'):
         text = patched(patch)
-        rows = rows_of(text)
+        whole = ROW_WORDS * rows_of(text)
         _, _, written, _, _ = intake.localize(text, b"de", MOST_WORDS, len(text))
         for room in (0, 1, written - 1, written, written + 1, len(text), len(text) + 100):
             if room >= 0:
                 yield lent(text, room=room)
-        for words in (0, 6, 6 * rows - 6, 6 * rows - 1, 6 * rows, 6 * rows + 5, 6 * rows + 6):
+        for words in (0, ROW_WORDS, whole - ROW_WORDS, whole - 1, whole, whole + ROW_WORDS - 1, whole + ROW_WORDS):
             yield lent(text, words=words)
             yield lent(text, words=words, room=0)
     yield lent(patched(b'"uid":null'), room=10)
@@ -218,7 +218,7 @@ def named_keys():
     for faults in make_keys.FAULTS:  # they come before a short output, and after a small table
         for keys in faults.values():
             yield lent(make_keys.keyed(*keys), room=0)
-            yield lent(make_keys.keyed(*keys), words=30, room=0)
+            yield lent(make_keys.keyed(*keys), words=40, room=0)
 
 
 def large():
@@ -278,12 +278,13 @@ def greatest():
     for values in (2048, 2049, MOST_VALUES, MOST_VALUES + 1):
         text = Made(f'{HEAD},"x":[0,%*{2 * (values - own - 2)},2;0]{PATCH}"z":1}}}}}}')
         assert values > MOST_VALUES or rows_of(text) == values
-        for words in (0, 6 * values - 6, 6 * values - 1, 6 * values, 6 * values + 6):
-            if words <= MOST_WORDS + 6:
+        whole = ROW_WORDS * values
+        for words in (0, whole - ROW_WORDS, whole - 1, whole, whole + ROW_WORDS):
+            if words <= MOST_WORDS + ROW_WORDS:
                 yield lent(text, words=words)
-        yield lent(text, words=min(6 * values, MOST_WORDS), room=60)
-        yield lent(Made(f'{HEAD},"x":[0,%*{2 * (values - own - 2)},2;0]{PATCH}"x":1}}}}}}'), words=min(6 * values, MOST_WORDS))
-        yield lent(Made(f'{HEAD}{PATCH}"x":[ 0 ,%*{4 * (values - own - 1)},4; 0]}}}}}}'), words=min(6 * values, MOST_WORDS))
+        yield lent(text, words=min(whole, MOST_WORDS), room=60)
+        yield lent(Made(f'{HEAD},"x":[0,%*{2 * (values - own - 2)},2;0]{PATCH}"x":1}}}}}}'), words=min(whole, MOST_WORDS))
+        yield lent(Made(f'{HEAD}{PATCH}"x":[ 0 ,%*{4 * (values - own - 1)},4; 0]}}}}}}'), words=min(whole, MOST_WORDS))
     group = f'{HEAD},"kind":"group","members":{{"":true,"m00000":true%#30000,14,7919;}}{PATCH}'
     yield lent(Made(group + '"members/m00000":null,"members/n":true}}}'))
     yield lent(Made(group + '"members/m07919":false}}}'))

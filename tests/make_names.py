@@ -4,17 +4,17 @@ import itertools
 
 from store import WORDS, Made, rows_of
 
-from reading import MOST_BYTES, MOST_DEPTH, MOST_VALUES, MOST_WORDS
+from reading import MOST_BYTES, MOST_DEPTH, MOST_VALUES, MOST_WORDS, ROW_WORDS
 
 LETTERS = [bytes([byte]) for byte in b"abcdefghijklmnopqrstuvwxyz"]
 FEW, MORE = (8, 9), (10, 16, 17)  # up to eight names may be compared in pairs, more be sorted
-LARGE = 196700  # the words of the table of crates/cases_run, which has room to spare
+LARGE = 262200  # the words of the table of crates/cases_run, which has room to spare
 
 
 def sized(text, spare=13):
     """A text with a table that has some words more than it needs; at most two hundred where it is refused."""
     rows = rows_of(text)
-    return (6 * rows + spare if rows else 200), text
+    return (ROW_WORDS * rows + spare if rows else 200), text
 
 
 def mixed(some, step=7):
@@ -300,7 +300,7 @@ def parts():
 def at_limit():
     """Texts of about 2,048 values, with the words of the table, and of as many as there may be: 4 comes before 6 where its place is smaller, and both
     before 7."""
-    lent = (0, 1, WORDS - 6, WORDS - 1, WORDS, WORDS + 12)
+    lent = (0, 1, WORDS - ROW_WORDS, WORDS - 1, WORDS, WORDS + 12)
     for names in (
             NAMES[:2046], NAMES[:2047], NAMES, again(NAMES[:2047], (1, 2046)), again(NAMES[:2047], (2045, 2046)),
             again(NAMES[:2047], (500, 1000), (500, 1500)), again(NAMES, (2, 2047)), again(NAMES, (7, 1024))):
@@ -350,7 +350,7 @@ def greatest():
     """Objects of up to as many members as there may be, on both sides of each number that a working store may end at; with the words of the table."""
     for count in (63, 64, 65, 66, 1022, 1023, 1024, 1025, 1026, 2048, 4096):
         for repeated in ((), ((1, count - 1),), ((count - 2, count - 1),), ((3, count // 2), (2, count - 1))):
-            yield 6 * count + 13, counted(count, repeated=repeated)
+            yield ROW_WORDS * count + 13, counted(count, repeated=repeated)
         for step in (1, 99999):
             yield 0, in_order(count, step)
             yield 0, in_order(count, step, ',"50000":[]}')
@@ -371,7 +371,7 @@ def greatest():
 def full():
     """Tables for as many members as there may be, and what may follow all but one of them."""
     most = MOST_VALUES - 1
-    for words in (1, MOST_WORDS - 6, MOST_WORDS - 1, MOST_WORDS, LARGE):
+    for words in (1, MOST_WORDS - ROW_WORDS, MOST_WORDS - 1, MOST_WORDS, LARGE):
         yield words, counted(most)
         yield words, counted(most, repeated=((500, 30000),))
         yield words, counted(most + 1)
@@ -408,8 +408,8 @@ def small_tables():
     """Short texts with every table about their size."""
     repeated = ([b"a", b"a"], again(LETTERS[:9], (0, 8)), again(LETTERS[:9], (3, 4)), again(LETTERS[:17], (2, 9), (2, 16)))
     for names in (LETTERS[:2], LETTERS[:8], LETTERS[:9], LETTERS[:17], *repeated):
-        rows = len(names) + 1
-        for words in sorted({0, 1, 6, 6 * rows - 7, 6 * rows - 6, 6 * rows - 1, 6 * rows, 6 * rows + 5, 12300}):
+        whole = ROW_WORDS * (len(names) + 1)
+        for words in sorted({0, 1, ROW_WORDS, whole - ROW_WORDS - 1, whole - ROW_WORDS, whole - 1, whole, whole + ROW_WORDS - 1, WORDS + 12}):
             yield words, members(names)
             yield words, members(names, end=b"")
 

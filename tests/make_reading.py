@@ -3,12 +3,14 @@ import itertools
 
 import make_names
 import make_strings
+from make_judging import Dice
 from make_names import LARGE, sized
 from store import WORDS, Case, Made, lent, rows_of
 
 import intake
 from duds import ASKED
-from reading import MOST_BYTES, MOST_DEPTH, MOST_VALUES, MOST_WORDS
+from reading import MOST_BYTES, MOST_DEPTH, MOST_VALUES, MOST_WORDS, ROW_WORDS
+from rulings import LINKED
 
 RICH = (
     b' {"a" : [1, -2.5e+3,\t0.25E-1,-0, 1e9 ],\n"b":{"\\u0061":null,"\xc3\xa9\\n":true , "":false},\r\n"c\\"\\/":"x\\ud83d\\uDE00\xe2\x82\xac\\u00e9 \x7f",'
@@ -41,7 +43,7 @@ def depths():
 
 def counts():
     for values in (2047, 2048, 2049, *range(MOST_VALUES - 2, MOST_VALUES + 2)):
-        words = MOST_WORDS if values > 2049 else 6 * values
+        words = MOST_WORDS if values > 2049 else ROW_WORDS * values
         yield words, b"[" + b"0," * (values - 2) + b"0]"
         yield words, b"[" + b"[]," * (values - 2) + b"{}]"
         yield words, b"[" + b'{"a":0},' * ((values - 1) // 2) + b'"x"' * (values % 2 == 0) + b"]"
@@ -78,9 +80,10 @@ def lengths():
 def tables():
     texts = [b"0", b'{"a":[1]}', b' {"a" : [ 1 , 2 ] , "b" : { } } ', b"[[[[[[]]]]]]", b"[0,1,2,3,4,5,6,7,8,9]", b'{"a":{"b":{"c":{"d":0}}}}']
     for text in texts:
-        rows = rows_of(text)
-        for words in sorted({0, 1, 5, 6, 7, 11, 12, 6 * rows - 7, 6 * rows - 6, 6 * rows - 1, 6 * rows, 6 * rows + 1, 6 * rows + 5,
-            6 * rows + 6, 600}):
+        whole = ROW_WORDS * rows_of(text)
+        for words in sorted({
+                0, 1, 5, 6, 7, 8, 9, 15, 16, whole - ROW_WORDS - 1, whole - ROW_WORDS, whole - 2, whole - 1, whole, whole + 1, whole + ROW_WORDS - 1,
+                whole + ROW_WORDS, 600}):
             if words >= 0:
                 yield words, text
     faulty = [
@@ -88,14 +91,52 @@ def tables():
         b"[" + b"0," * MOST_VALUES + b"0]",
         b"[1,2,3", b"[1,2,3]]", b" " * 65537]
     for text in faulty:
-        for words in (0, 5, 6, 7, 12, 23, 24, 30, 36, 61):
+        for words in (0, 6, 7, 8, 9, 16, 31, 32, 40, 48, 81):
             yield words, text
-    for words in (0, 61, MOST_WORDS, LARGE):
+    for words in (0, 81, MOST_WORDS, LARGE):
         yield words, Made(f" %*{MOST_BYTES},1;")
     full = b"[" + b"{}," * (MOST_VALUES - 2) + b"0]"  # and one value more
-    for words in (0, 6, 12288, MOST_WORDS - 7, MOST_WORDS - 6, MOST_WORDS - 1, MOST_WORDS, MOST_WORDS + 1, MOST_WORDS + 6, LARGE):
+    for words in (
+            0, ROW_WORDS, WORDS, MOST_WORDS - ROW_WORDS - 1, MOST_WORDS - ROW_WORDS, MOST_WORDS - 1, MOST_WORDS, MOST_WORDS + 1, MOST_WORDS + ROW_WORDS,
+            LARGE):
         yield words, full
         yield words, full[:-1] + b",0]"
+
+
+CHILDREN = (b"0", b"[]", b"{}", b'""', b"[1]", b'{"x":1}', b"[[]]", b'[{"x":[]},2]', b"[1,2]", b'{"x":{},"y":{"z":[]}}')
+
+
+def grown(dice, depth):
+    """A value put together by chance."""
+    if depth == 0 or dice.below(3) == 0:
+        return dice.one(CHILDREN[:4])
+    some = [grown(dice, depth - 1) for _ in range(dice.below(6))]
+    if dice.below(2) == 0:
+        return b"[" + b",".join(some) + b"]"
+    return b"{" + b",".join(b'"%s":%s' % pair for pair in zip(make_names.LETTERS, some)) + b"}"
+
+
+def linked():
+    """Parents and next siblings: every child before, between and after others; containers that end together before a sibling of one of them; values by
+    chance; and many children of one parent. With tables that are just enough, and for some texts also too small."""
+    some = [text for text, _, _ in LINKED]
+    for depth in (1, 2, 3, 20, MOST_DEPTH - 1):
+        some += [b"[" * depth + b"[]" + b",0]" * depth, b"[" * depth + b"[]" + b"]" * (depth - 1) + b",[0]]", b"[0," * depth + b"[]" + b"]" * depth]
+        some += [b'{"a":' * depth + b"1" + b',"b":2}' * depth, b'{"b":[],"a":' * depth + b"{}" + b"}" * depth]
+    for text in some:
+        whole = ROW_WORDS * rows_of(text)
+        for words in (whole - ROW_WORDS, whole - 2, whole - 1, whole):
+            yield words, text
+    more = []
+    for one, other in itertools.product(CHILDREN, repeat=2):
+        more += [b"[%s,%s]" % (one, other), b'{"a":%s,"b":%s}' % (one, other), b"[0,%s,[%s],0]" % (one, other), b'[{"a":%s},%s]' % (one, other)]
+    dice = Dice(9)
+    more += [b"[" + b",".join(grown(dice, 5) for _ in range(4)) + b"]" for _ in range(24)]
+    for count in (2000, MOST_VALUES - 1):
+        more += [Made(f"[0,%*{2 * (count - 2)},2;0]"), Made(f"[[],%*{3 * (count - 2)},3;[]]"), Made(f"[[[0]],%*{6 * (count // 3 - 2)},6;0]")]
+        more += [Made(f"[{{}},[0,%*{2 * (count - 5)},2;0],1]")]
+    for text in more:
+        yield ROW_WORDS * rows_of(text), text
 
 
 def names():
@@ -157,6 +198,6 @@ def strings():
 def groups():
     """The cases, by the base text that they share."""
     assert intake.read(RICH, 313)[0] == 0 and len(RICH) < 313
-    plain = itertools.chain(rulings(), depths(), counts(), lengths(), tables(), names(), short(), strings())
+    plain = itertools.chain(rulings(), depths(), counts(), lengths(), tables(), linked(), names(), short(), strings())
     for base, cases in ((b"", plain), (RICH, damaged(RICH)), *make_names.groups()):
         yield base, (Case("reading", words, text) for words, text in cases)

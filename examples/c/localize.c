@@ -66,9 +66,10 @@ int main(int count, char **given) {
     fwrite(out, 1, answer[2], stdout); /* there is no NUL after it */
     putchar('\n');
 
-    /* The table: row 0 is the card, and after it come its members, each followed by the rows of what is inside it. */
-    for (const uint32_t *row = table + BEZINKOL_ROW_WORDS; row < table + answer[1] * BEZINKOL_ROW_WORDS;
-         row += (1 + row[BEZINKOL_ROW_BELOW]) * BEZINKOL_ROW_WORDS) {
+    /* The table: row 0 is the card. Row 1 is its first member, which every card has, and each member tells the row of the next; the last tells 0. */
+    const uint32_t *row;
+    for (size_t member = 1; member; member = row[BEZINKOL_ROW_NEXT]) {
+        row = table + member * BEZINKOL_ROW_WORDS;
         int name = (int)(row[BEZINKOL_ROW_NAME_END] - row[BEZINKOL_ROW_NAME_START]);
         printf("byte %4d: %.*s\n", (int)row[BEZINKOL_ROW_VALUE_START], name, (const char *)out + row[BEZINKOL_ROW_NAME_START]);
     }

@@ -24,21 +24,21 @@
 
 /* Cases of reading and judging: the words of the table and a text. */
 static const char *const texts[] = {
-    "12288 [%*63,1;" PAIR "]%*63,1;", "0 [%*63,1;" PAIR "]%*63,1;", "12288 [%*64,1;", "12288 {\"a\":%*315,5;" PAIR "}%*63,1;",
-    "12288 " CARD LISTS "}", "12288 " CARD OBJECTS "}", "12288 " CARD "\"name\":{\"components\":[{\"kind\":" PAIR "}]}}",
-    "12288 " DEEP(SOME), "12288 " DEEP(MORE), "196608 " DEEP(MOST), "12288 " DEEP_CARD(SOME), "12288 " DEEP_CARD(MORE), "196608 " DEEP_CARD(MOST), NULL};
+    "16384 [%*63,1;" PAIR "]%*63,1;", "0 [%*63,1;" PAIR "]%*63,1;", "16384 [%*64,1;", "16384 {\"a\":%*315,5;" PAIR "}%*63,1;",
+    "16384 " CARD LISTS "}", "16384 " CARD OBJECTS "}", "16384 " CARD "\"name\":{\"components\":[{\"kind\":" PAIR "}]}}",
+    "16384 " DEEP(SOME), "16384 " DEEP(MORE), "262144 " DEEP(MOST), "16384 " DEEP_CARD(SOME), "16384 " DEEP_CARD(MORE), "262144 " DEEP_CARD(MOST), NULL};
 
 /* Cases of localizing: the words of the table, the bytes of the output, the language and a text. */
 static const char *const cards[] = {
-    "12288 2000 de " CARD LISTS LANGUAGE(""), "12288 2000 de " CARD OBJECTS LANGUAGE("\"y/a%*122,2;\":{\"a\":%*295,5;" PAIR "}%*59,1;"),
-    "12288 2000 de " CARD OBJECTS LANGUAGE("\"y/a%*122,2;/\\ud83d\\ude00\":null"),
-    "12288 2000 de " CARD OBJECTS LANGUAGE("\"y/a%*120,2;/b\":[%*58,1;" PAIR "]%*58,1;"),
-    "12288 9000 de " CARD OBJECTS LANGUAGE("\"y/a%*122,2;/n00000\":true,\"y/a%*122,2;/n07919\":true%#18,140,7919;"),
-    "12288 9000 de " CARD OBJECTS LANGUAGE("\"m\":null,\"n00000\":true%#230,14,7919;"),
-    "12288 9000 de " CARD OBJECTS LANGUAGE("\"y/a%*122,2;\":[0,%*3200,2;0],\"m\":null"),
-    "12288 90000 de " CARD OBJECTS LANGUAGE("\"y/a%*122,2;/n00000\":true,\"y/a%*122,2;/n07919\":true%#300,140,7919;"),
-    "12288 90000 de " CARD OBJECTS LANGUAGE("\"m\":null,\"n00000\":true%#2100,14,7919;"),
-    "196608 400000 de " CARD LISTS "," OBJECTS ",\"z\":" MOST LANGUAGE("\"m\":null,\"z/n00000\":true%#100,16,7919;"), NULL};
+    "16384 2000 de " CARD LISTS LANGUAGE(""), "16384 2000 de " CARD OBJECTS LANGUAGE("\"y/a%*122,2;\":{\"a\":%*295,5;" PAIR "}%*59,1;"),
+    "16384 2000 de " CARD OBJECTS LANGUAGE("\"y/a%*122,2;/\\ud83d\\ude00\":null"),
+    "16384 2000 de " CARD OBJECTS LANGUAGE("\"y/a%*120,2;/b\":[%*58,1;" PAIR "]%*58,1;"),
+    "16384 9000 de " CARD OBJECTS LANGUAGE("\"y/a%*122,2;/n00000\":true,\"y/a%*122,2;/n07919\":true%#18,140,7919;"),
+    "16384 9000 de " CARD OBJECTS LANGUAGE("\"m\":null,\"n00000\":true%#230,14,7919;"),
+    "16384 9000 de " CARD OBJECTS LANGUAGE("\"y/a%*122,2;\":[0,%*3200,2;0],\"m\":null"),
+    "16384 90000 de " CARD OBJECTS LANGUAGE("\"y/a%*122,2;/n00000\":true,\"y/a%*122,2;/n07919\":true%#300,140,7919;"),
+    "16384 90000 de " CARD OBJECTS LANGUAGE("\"m\":null,\"n00000\":true%#2100,14,7919;"),
+    "262144 400000 de " CARD LISTS "," OBJECTS ",\"z\":" MOST LANGUAGE("\"m\":null,\"z/n00000\":true%#100,16,7919;"), NULL};
 
 static struct call call;
 

@@ -4,7 +4,8 @@ import sys
 import intake
 from duds import ASKED, DUDS
 from program import said
-from rulings import OK, RULINGS, SPECIMENS, whole
+from reading import ROW_WORDS
+from rulings import LINKED, OK, RULINGS, SPECIMENS, whole
 
 
 def answer(case):
@@ -42,11 +43,17 @@ def main():
         if (whole(wrong) if isinstance(wrong, bytes) else wrong) == case["wanted"]:
             faults += 1
             print(f"{edits}: the wrong program is right")
-    rows = intake.read(b'{"a":[1]}', 18)
-    if rows != (0, 3, [7, 0, 0, 0, 9, 2, 6, 2, 3, 5, 8, 1, 4, 0, 0, 6, 7, 0]):
+    rows = intake.read(b'{"a":[1]}', 24)
+    if rows != (0, 3, [7, 0, 0, 0, 9, 2, 0, 0, 6, 2, 3, 5, 8, 1, 0, 0, 4, 0, 0, 6, 7, 0, 1, 0]):
         faults += 1
         print("the three rows:", rows)
-    print(f"{len(RULINGS)} inputs of rulings, {len(SPECIMENS) + 1} specimens, {len(DUDS)} inputs against wrong programs, {faults} faults")
+    for text, parents, siblings in LINKED:
+        number, count, table = intake.read(text, ROW_WORDS * len(parents))
+        if (number, count, table[6::ROW_WORDS], table[7::ROW_WORDS]) != (0, len(parents), parents, siblings):
+            faults += 1
+            print(f"the parents and siblings of {text!r}: {table[6::ROW_WORDS]} {table[7::ROW_WORDS]}")
+    print(f"{len(RULINGS)} inputs of rulings, {len(SPECIMENS) + 1} specimens, {len(LINKED)} texts with parents and siblings, "
+        f"{len(DUDS)} inputs against wrong programs, {faults} faults")
     return 1 if faults else 0
 
 

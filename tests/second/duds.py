@@ -41,7 +41,9 @@ DUDS = [
     ("pointers/tilde_zero_is_slash", localize(patch(b'"~0a":2', b',"~a":1'), b'{..,"~a":2}'), (28, 4)),
     ("answers/never_judged contact/never_judged", localize(
         patch(b'"name/full":null,"name/components":null', b"," + GIVEN), (28, 14)), b'{..,"name":{}}'),
-    ("pointers/prefix_by_bytes contact/prefix_by_bytes", localize(
+    ("pointers/prefix_by_bytes", localize(
+        patch(b'"emails/e1":null', b',"emails":{"e1":{"address":"a"},"e10":{"address":"b"}}'), b'{..,"emails":{"e10":{"address":"b"}}}'), b'{..,"emails":{}}'),
+    ("contact/prefix_by_bytes", localize(
         patch(b'"emails/e1":null,"emails/e10":null', b',"emails":{"e1":{"address":"a"},"e10":{"address":"b"}}'), b'{..,"emails":{}}'), (24, 120)),
     ("answers/output_left_dirty laws/first_word_left", localize(patch(b'"uid":null'), (28, 12), room=100), OTHER),
     # repeated names: objects of few members, whose names are compared in pairs, and of more than sixteen, whose names are sorted
@@ -69,8 +71,10 @@ DUDS = [
     ("text/later_fault", read(rb'"\uD800\u00G0"', (3, 1)), (2, 11)),
     ("text/six_before_five", read(b"[" * 64 + b"0," * 32704 + b"[", (5, 65472)), (6, 65472)),
     ("json/depth_65", read(b"[" * 65 + b"]" * 65, (5, 64)), OK),
-    ("text/small_table_first", read(b'{"a":1,"a":2}', (4, 7), words=6), (7, 3)),
+    ("text/small_table_first", read(b'{"a":1,"a":2}', (4, 7), words=8), (7, 3)),
     ("text/row_end text/row_words_swapped", read(b'{"a": [1] }', OK), OTHER),
+    ("text/last_child_goes_on json/last_child_goes_on text/next_is_next_row text/parent_from_one", read(b"[[1],2]", OK), OTHER),
+    ("text/six_words_counted", read(b"1", (7, 1), words=6), OK),
     ("text/form_feed", read(b"1\x0c", (2, 1)), OK),
     ("text/leading_zeros", read(b"[00]", (2, 2)), OK),
     ("text/nul_ends", read(b"1\x00x", (2, 1)), OK),

@@ -1,8 +1,9 @@
 """Reading a second time: a text becomes values and rows, or is refused with 1 to 7."""
 import functools
+import itertools
 import re
 
-MOST_BYTES, MOST_DEPTH, MOST_VALUES, ROW_WORDS = 1048576, 64, 32768, 6  # the limits, which all that is written in Python has from here
+MOST_BYTES, MOST_DEPTH, MOST_VALUES, ROW_WORDS = 1048576, 64, 32768, 8  # the limits, which all that is written in Python has from here
 MOST_WORDS = MOST_VALUES * ROW_WORDS  # of a table that is never too small
 NULL, FALSE, TRUE, NUMBER, STRING, ARRAY, OBJECT = 1, 2, 3, 4, 5, 6, 7
 
@@ -20,7 +21,8 @@ class Value:
 
     def __init__(self, kind, start, name, key):
         self.kind, self.start, self.name, self.key = kind, start, name, key
-        self.end, self.below, self.inside, self.names, self.row, self.string = None, 0, [], set(), None, None
+        self.end, self.below, self.inside, self.names, self.string = None, 0, [], set(), None
+        self.row, self.parent, self.next = None, 0, 0  # rows: its own, that of what it stands in, and that of the value behind it there
 
     def all(self):
         yield self
@@ -210,6 +212,17 @@ class Reader:
         return root
 
 
+def numbered(root):
+    """Numbers the rows of a tree, and tells each child of an array or object its parent's and that of the child behind it."""
+    values = list(root.all())
+    for row, value in enumerate(values):
+        value.row = row
+    for value in values:
+        for child, behind in itertools.zip_longest(value.inside, value.inside[1:]):
+            child.parent = value.row
+            child.next = behind.row if behind else 0
+
+
 @functools.lru_cache(maxsize=8)
 def parsed(text):
     """The root value of a text, with rows numbered, or its refusal, one of 2 to 6. The last few are kept: a text may be asked with several tables."""
@@ -217,8 +230,7 @@ def parsed(text):
         root = Reader(text).whole()
     except Refused as no:
         return no
-    for row, value in enumerate(root.all()):
-        value.row = row
+    numbered(root)
     return root
 
 
@@ -237,7 +249,7 @@ def tree(text, words):
 def table_of(root, words):
     told = []
     for v in root.all():
-        told += [v.kind, v.key[0], v.key[1], v.start, v.end, v.below]
+        told += [v.kind, v.key[0], v.key[1], v.start, v.end, v.below, v.parent, v.next]
     return told + [0] * (words - len(told))
 
 

@@ -117,12 +117,19 @@ RULINGS = [
     read(b'[' + b'0,' * 32767 + b'tru', (6, 65535)),
     read(b'[' + b'0,' * 32767 + b'x', (2, 65535)),
     read(b'[' + b'0,' * 32767 + rb'"\uD800"', (6, 65535)),
-    # AMB-13 Empty tables, and lengths that are no multiple of six
-    read(rb'{"a":[1]}', (7, 3), words=17),
-    read(rb'{"a":[1]}', OK, words=23),
+    # AMB-13 Empty tables, and lengths that are no multiple of eight
+    read(rb'{"a":[1]}', (7, 3), words=23),
+    read(rb'{"a":[1]}', OK, words=31),
     read(rb'0', (7, 1), words=0),
     read(rb'x', (2, 0), words=0),
-    judge(rb'5', (7, 1), words=5),
+    judge(rb'5', (7, 1), words=7),
+    read(rb'1', (7, 1), words=6),  # a row, when it had six words
+    read(rb'1', (7, 1), words=7),
+    read(rb'1', OK, words=8),
+    read(rb'1', OK, words=15),
+    read(rb'[1]', (7, 2), words=15),
+    read(rb'[1]', OK, words=16),
+    read(rb'[1,2]', (7, 3), words=18),
     # AMB-14 Null: 11 or 13?
     judge(rb'{..,"kind":null}', (11, 50)),
     judge(rb'{"@type":"Card","version":"1.0","uid":null}', (11, 38)),
@@ -201,8 +208,8 @@ RULINGS = [
     localize(rb'{..,"loc\u0061lizations":{"de":{}}}', rb'{..}'),
     localize(rb'{..,"localizations":{"de":{}}}', (21, 0), language=b'\xff'),
     # AMB-33 7 when localizing counts the card text
-    localize(rb'{..,"name":{"full":"Ann"},"localizations":{"de":{}}}', (7, 8), words=42),
-    localize(rb'{..,"name":{"full":"Ann"},"localizations":{"de":{}}}', rb'{..,"name":{"full":"Ann"}}', words=48),
+    localize(rb'{..,"name":{"full":"Ann"},"localizations":{"de":{}}}', (7, 8), words=56),
+    localize(rb'{..,"name":{"full":"Ann"},"localizations":{"de":{}}}', rb'{..,"name":{"full":"Ann"}}', words=64),
     # AMB-34 22 looks at decoded keys, of the asked language only
     localize(rb'{..,"localizations":{"de":{"\u007e":1}}}', (22, 66)),
     localize(rb'{..,"localizations":{"de":{"~\u0031":1}}}', rb'{..,"/":1}'),
@@ -310,6 +317,20 @@ RULINGS = [
     localize(rb'{..,"localizations":{"de":{"a/b/x":1,"a!/x":1}}}', (26, 76)),
     localize(rb'{..,"localizations":{"de":{"a~1/x":1,"aB/x":1}}}', (26, 76)),
     localize(rb'{..,"localizations":{"de":{"a/b":1,"a/":1,"/a":1}}}', (26, 81)),
+]
+
+# Texts with the parents and the next siblings of their rows, as a person counts them.
+LINKED = [
+    (b'{"a":[1]}', [0, 0, 1], [0, 0, 0]),
+    (b'1', [0], [0]),
+    (b'[]', [0], [0]),
+    (b'[1,2]', [0, 0, 0], [0, 2, 0]),
+    (b'{"a":{"b":{"c":1}},"d":2}', [0, 0, 1, 2, 0], [0, 4, 0, 0, 0]),
+    (b'[[],{},1]', [0, 0, 0, 0], [0, 2, 3, 0]),
+    (b'[1,[],{}]', [0, 0, 0, 0], [0, 2, 3, 0]),
+    (b'[[1,2],[3,[4]],5]', [0, 0, 1, 1, 0, 4, 4, 6, 0], [0, 4, 3, 0, 8, 6, 0, 0, 0]),
+    (b'[[[[]]],[[]],[]]', [0, 0, 1, 2, 0, 4, 0], [0, 4, 0, 0, 6, 0, 0]),
+    (b'{"a":[1,{"b":2}],"c":[{}],"d":3}', [0, 0, 1, 1, 3, 0, 5, 0], [0, 5, 3, 0, 0, 7, 0, 0]),
 ]
 
 SPECIMENS = [

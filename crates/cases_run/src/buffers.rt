@@ -2,7 +2,7 @@
 ghost use Rattle.io.specs.Counts.{Counts};
 
 // The words of the largest table of a case.
-pub const WORDS: usize = 196700;
+pub const WORDS: usize = 262200;
 
 const SET_BYTE: u8 = 255;
 

@@ -18,7 +18,7 @@ use lib.ListN.{length}
 use Rattle.laws.specs.Lists.{filled}
 use Rattle.laws.proofs.Orders.{before-earlier}
 use Rattle.text.specs.Limits.{Limits, rowWords, base}
-use Rattle.text.specs.Tree.{Forest, size, rowsOf}
+use Rattle.text.specs.Tree.{Forest, size, treeRows}
 use Rattle.text.specs.Reader.{Read, good, bad}
 use Rattle.text.specs.declared.Paper.{Paper}
 use Rattle.text.specs.Sheet.{numbers}
@@ -29,7 +29,7 @@ use Rattle.text.proofs.Outcomes.{same-outcome}
 use Rattle.text.proofs.Spelling.Codes.{utf8-table}
 use Rattle.text.proofs.NewNames.{spelled-name}
 use Rattle.text.proofs.Rows.{row-filled, one-value}
-use Rattle.text.proofs.Promise.{rows-length, whole-good}
+use Rattle.text.proofs.Promise.{tree-length, whole-good}
 use Rattle.contact.specs.Verdict.{Judged, passed, failed, judgedOf, sheetOfJudged, tableOfJudged, paperOfVerdict}
 use Rattle.contact.specs.Localize.{Outcome, done, denied, localizedOf, sheetOfOutcome, tableOfOutcome, outputOfOutcome, answerOfOutcome, paperOfLocalized}
 use Rattle.contact.specs.Places.{keyPlace}
@@ -64,8 +64,8 @@ accepted-ends c rows bytes count e l k = acceptance rows bytes count (wordsOf c 
 
 module _ (L : Limits) (unique : L .unique ≡ true) where
   -- rows that have room
-  rows-fit : (words : ℕ) (f : Forest) → rowWords * size f ≤ words → length (rowsOf f) ≤ words
-  rows-fit words f l = omega (arith, rows-length f)
+  rows-fit : (words : ℕ) (f : Forest) → rowWords * size f ≤ words → length (treeRows f) ≤ words
+  rows-fit words f l = omega (arith, tree-length f)
 
   read-ends : (t : List ℕ) (words : ℕ) → Ends (read t words) (served L (read t words))
   unfolding served sheetOf tableOf
@@ -73,7 +73,7 @@ module _ (L : Limits) (unique : L .unique ≡ true) where
     where
       go : (R : Read) → wholeOf L words t ≡ R → Ends (read t words) (leaves (sheetOf R) (tableOf words R) [])
       go (bad r) e = refused-ends (read t words) (text-line r)
-      go (good f to) e = accepted-ends (read t words) (rowsOf f) [] (size f) (rows-length f) (rows-fit words f (whole-good L words t f to e .room)) (omega arith)
+      go (good f to) e = accepted-ends (read t words) (treeRows f) [] (size f) (tree-length f) (rows-fit words f (whole-good L words t f to e .room)) (omega arith)
 
   judge-ends : (t : List ℕ) (words : ℕ) → Ends (judge t words) (served L (judge t words))
   unfolding served sheetOfJudged paperOfVerdict tableOfJudged
@@ -83,7 +83,7 @@ module _ (L : Limits) (unique : L .unique ≡ true) where
       go (failed r) e = refused-ends (judge t words) (card-line r)
       go (passed f) e =
           let (to, whole, keeps) = judging .accepted L words t f .0 e in
-          accepted-ends (judge t words) (rowsOf f) [] (size f) (rows-length f) (rows-fit words f (whole-good L words t f to whole .room)) (omega arith)
+          accepted-ends (judge t words) (treeRows f) [] (size f) (tree-length f) (rows-fit words f (whole-good L words t f to whole .room)) (omega arith)
 
   localize-ends : (t : List ℕ) (lang : Name) (words room : ℕ) → Ends (localize t lang words room) (served L (localize t lang words room))
   unfolding served sheetOfOutcome paperOfLocalized answerOfOutcome tableOfOutcome outputOfOutcome
@@ -96,7 +96,7 @@ module _ (L : Limits) (unique : L .unique ≡ true) where
           let (f, pass) = passed-text L words room unique t lang (done text g) e (λ r z. let n : _≡_ {A = ℕ} 0 1 = cc in omega arith) in
           let a = accepted-iff L words room (keyPlace t f lang) (docOf t f) lang text g .0 (of-doc L unique words room t lang f pass (done text g) e) in
           let c = passed-card L words text g (a .accepted .reads) in
-          accepted-ends (localize t lang words room) (rowsOf g) text (size g) (rows-length g) (rows-fit words g (c .readable .enough))
+          accepted-ends (localize t lang words room) (treeRows g) text (size g) (tree-length g) (rows-fit words g (c .readable .enough))
           (output-fits L words room (keyPlace t f lang) (docOf t f) lang text g (of-doc L unique words room t lang f pass (done text g) e))
 
   all-ends : (c : Call) → Ends c (served L c)

@@ -95,9 +95,11 @@ pub record ReadingAndJudging (L : Limits) (serve : Call → Left) : Type 0 where
   -- it leaves the rows of that text's tree, one for each value
   pub rows : (t : List ℕ) (words : ℕ) (f : Forest) → Readable L words t f
       → serve (read t words) ≡ leaves (numbers 0 (size f) 0) (filled words (treeRows f)) []
-  -- and these describe the text: the tree stands in the table and lies in the text
+  -- and these describe the text: the tree stands in the table and lies in the text, and each row names that of its parent and that of its next sibling
+  -- (`Kinship`, text/specs/Kin.antt)
   pub describe : (t : List ℕ) (words : ℕ) (f : Forest) → Readable L words t f → Filled L t (serve (read t words) .table) (size f) f
-  -- word by word: the row of each value has its kind, where its name and the value itself start and end, and how many values are below it
+  -- word by word: the row of each value has its kind, where its name and the value itself start and end, and how many values are below it; the other two
+  -- words are told above
   pub each-row : (t : List ℕ) (words : ℕ) (f : Forest) → Readable L words t f → (d : Seat) (h : Head) → Sits top f d h
       → RowAt (serve (read t words) .table) (d .after) h
   -- one row a value: each row is the row of a value, and of no other
@@ -164,6 +166,8 @@ pub record Localization (L : Limits) (serve : Call → Left) (words room : ℕ) 
   pub says : card .document ≡ patchedDoc (docOf t f) members
   -- the row count, the length, the rows and the bytes are those of the written card
   pub left : serve (localize t lang words room) ≡ leaves (numbers 0 (size tree) (length text)) (filled words (treeRows tree)) (filled room text)
+  -- so the table is the one that reading leaves of that text: parents and siblings are those in the written card
+  pub as-read : serve (localize t lang words room) .table ≡ serve (read text words) .table
 
 -- u is a JSON text of no more bytes than a text may have, white space as it likes, and says the document d but for the order of the language's entries
 pub record Reordering (L : Limits) (lang : Name) (d : Doc) (u : List ℕ) : Type 0 where

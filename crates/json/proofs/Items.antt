@@ -1,7 +1,7 @@
 -- Laws of the items of a container: what holds at the head of the loop that reads them, of the definition, the table and the store of names, and how a turn
 -- ends or goes on. Assumes nothing.
 use mathlib.Core.Path.{_≡_, refl, sym, ap, _∙_}
-use mathlib.Core.List.{List, [], _++_, append-assoc, append-nil}
+use mathlib.Core.List.{List, [], _∷_, _++_, append-assoc, append-nil}
 use Prim.Native.Nat.{ℕ, zero, suc, _+_, _*_, _≤_, _<_}
 use native.Mathlib.Omega.{arith}
 use native.Mathlib.Nat.{add-zero}
@@ -11,6 +11,7 @@ use lib.Seq.{sets, length-sets}
 use Rattle.laws.proofs.Places.{inside}
 use Rattle.text.specs.Limits.{rowWords, base}
 use Rattle.text.specs.Text.{byteAt}
+use Rattle.text.specs.Words.{linksAt}
 use Rattle.text.specs.Tokens.{skip}
 use Rattle.text.specs.Tree.{Bracket, Forest, none, size, rowsOf, join}
 use Rattle.text.specs.Grammar.{closing}
@@ -19,10 +20,11 @@ use Rattle.text.specs.declared.Refusal.{Refusal}
 use Rattle.text.specs.declared.Refusal.the-variants.{Grammar}
 use Rattle.text.proofs.Grammar.Sound.{byte-closing}
 use Rattle.text.proofs.TokenEnds.{skip-span}
-use Rattle.text.proofs.Stores.{size-join, rows-then}
+use Rattle.text.proofs.Stores.{size-join, rows-link, rows-then}
 use Rattle.repeats.specs.Closed.{closedAfter, closedFrom, closedIn}
 use Rattle.json.specs.Readers.{Added, Further, Gone}
 use Rattle.json.specs.declared.values.Progress.the-variants.{Next}
+use Rattle.json.proofs.Ways.{OneValue}
 use Rattle.json.proofs.Store.{added-none, added-then}
 
 -- where the items of a container start
@@ -42,9 +44,9 @@ module _ (t : List ℕ) (own : ℕ → List ℕ) (item : ItemReader) where
     unfolding closedIn
     closed-none = rw (← e, eq-eqb _ _ h)
 
-    pub inside-none : (old : List ℕ) → from ≤ length t → first ≤ base .values → Gone (insideOf t item (closing b) from first) t from first old old (start + 1) first
+    pub inside-none : (old : List ℕ) → from ≤ length t → first ≤ base .values → (parent : ℕ) → Gone parent (insideOf t item (closing b) from first) t from first old old (start + 1) first
     unfolding size rowsOf
-    inside-none old i f =
+    inside-none old i f parent =
         let l = skip-span t from i in
         let k = byte-closing b in
         record {
@@ -71,8 +73,9 @@ module _ (t : List ℕ) (own : ℕ → List ℕ) (item : ItemReader) where
     unfolding closedIn
     closed-some = rw (← o .is, ne-eqb _ _ (o .some))
 
--- `done` are the items read from `start` up to `at`, `gathered` the names that they closed, and both definitions have gone as far
-pub record Upto (t : List ℕ) (own : ℕ → List ℕ) (item : ItemReader) (z start first top : ℕ) (old names : List ℕ) (at n end : ℕ) (new names′ : List ℕ) : Type 0 where
+-- `done` are the items read from `start` up to `at`, `gathered` the names that they closed, and both definitions have gone as far; the last of them
+-- has row n as its next sibling
+pub record Upto (parent : ℕ) (t : List ℕ) (own : ℕ → List ℕ) (item : ItemReader) (z start first top : ℕ) (old names : List ℕ) (at n end : ℕ) (new names′ : List ℕ) : Type 0 where
   pub turns : ℕ
   pub done : Forest
   pub gathered : List ℕ
@@ -80,7 +83,7 @@ pub record Upto (t : List ℕ) (own : ℕ → List ℕ) (item : ItemReader) (z s
   pub is : itemsFrom t item z (suc (length t)) start first none ≡ itemsFrom t item z turns at n done
   pub closed : closedFrom t own item z (suc (length t)) start first none ≡ gathered ++ closedFrom t own item z turns at n done
   pub count : n ≡ first + size done
-  pub table : new ≡ sets old (first * rowWords) (rowsOf done)
+  pub table : new ≡ sets old (first * rowWords) (rowsOf parent first n done)
   pub added : Added gathered top names end names′
   pub later : start ≤ at
   pub within : at ≤ length t
@@ -88,9 +91,9 @@ pub record Upto (t : List ℕ) (own : ℕ → List ℕ) (item : ItemReader) (z s
   pub fewer : end < n
   pub spread : 4 * end < at
 
-module _ {t : List ℕ} {own : ℕ → List ℕ} {item : ItemReader} {z start first top : ℕ} {old names : List ℕ} where
+module _ {parent : ℕ} {t : List ℕ} {own : ℕ → List ℕ} {item : ItemReader} {z start first top : ℕ} {old names : List ℕ} where
   pub upto-none : start ≤ length t → first ≤ base .values → top ≤ length names → top < first → 4 * top < start
-      → Upto t own item z start first top old names start first top old names
+      → Upto parent t own item z start first top old names start first top old names
   unfolding size rowsOf
   upto-none i f r h k =
       record {
@@ -110,9 +113,9 @@ module _ {t : List ℕ} {own : ℕ → List ℕ} {item : ItemReader} {z start fi
         spread = k;
       }
 
-  module _ {at n end : ℕ} {new names′ : List ℕ} (u : Upto t own item z start first top old names at n end new names′) where
+  module _ {at n end : ℕ} {new names′ : List ℕ} (u : Upto parent t own item z start first top old names at n end new names′) where
     pub upto-length : length new ≡ length old
-    upto-length = ap length (u .table) ∙ length-sets old (first * rowWords) (rowsOf (u .done))
+    upto-length = ap length (u .table) ∙ length-sets old (first * rowWords) (rowsOf parent first n (u .done))
 
     -- the definitions have a turn left for the item at hand
     record Step : Type 0 where
@@ -153,7 +156,7 @@ module _ {t : List ℕ} {own : ℕ → List ℕ} {item : ItemReader} {z start fi
     upto-stop o e = is-some t own item first o ∙ rw (step .is, e)
 
     -- an item that was read, and the place x after the white space behind it
-    module _ {to after : ℕ} {last : List ℕ} (g : Gone (item (u .done) at n) t at n new last to after) (x : ℕ) (s : x ≡ skip t to) where
+    module _ {to after : ℕ} {last : List ℕ} (g : Gone 0 (item (u .done) at n) t at n new last to after) (x : ℕ) (s : x ≡ skip t to) where
       after-span : (to ≤ x) × (x ≤ length t)
       after-span = let l = skip-span t to (g .inside) in omega arith
 
@@ -167,11 +170,16 @@ module _ {t : List ℕ} {own : ℕ → List ℕ} {item : ItemReader} {z start fi
         unfolding behind
         bad-names a = all a o (rw (g .is, ← s, ne-eqb _ _ h₁, ne-eqb _ _ h₂))
 
-      table : last ≡ sets old (first * rowWords) (rowsOf (join (u .done) (g .trees)))
-      table =
-          g .table
-          ∙ ap (λ (l : List ℕ). sets l (n * rowWords) (rowsOf (g .trees))) (u .table)
-          ∙ rows-then (u .done) (g .trees) old first n (u .count)
+      -- the table once the item has its parent and its next sibling
+      table : OneValue (item (u .done) at n) → (next : ℕ) {linked : List ℕ} → linked ≡ sets last (linksAt n) (parent ∷ next ∷ [])
+          → linked ≡ sets old (first * rowWords) (rowsOf parent first next (join (u .done) (g .trees)))
+      table one next e =
+          let (some, alone) = rw (g .is) at one in
+          e
+          ∙ ap (λ (l : List ℕ). sets l (linksAt n) (parent ∷ next ∷ [])) (g .table)
+          ∙ rows-link (g .trees) new n parent next some alone
+          ∙ ap (λ (l : List ℕ). sets l (n * rowWords) (rowsOf parent n next (g .trees))) (u .table)
+          ∙ rows-then parent next (u .done) (g .trees) old first n (u .count) some
 
       count : after ≡ first + size (join (u .done) (g .trees))
       count = omega (arith, size-join (u .done) (g .trees))
@@ -182,15 +190,16 @@ module _ {t : List ℕ} {own : ℕ → List ℕ} {item : ItemReader} {z start fi
         unfolding afterItem
         is-done = is-some t own item first o ∙ rw (step .is, g .is, ← s, eq-eqb _ _ e)
 
-        pub upto-done : from ≤ length t → z < 256 → Gone (insideOf t item z from first) t from first old last (x + 1) after
-        upto-done i h =
+        pub upto-done : OneValue (item (u .done) at n) → {linked : List ℕ} → linked ≡ sets last (linksAt n) (parent ∷ 0 ∷ []) → from ≤ length t → z < 256
+            → Gone parent (insideOf t item z from first) t from first old linked (x + 1) after
+        upto-done one k i h =
             let l = skip-span t from i in
             let m = after-span in
             record {
               trees = join (u .done) (g .trees);
               is = is-done;
               count = count;
-              table = table;
+              table = table one 0 k;
               later = omega (arith, o .is, u .later, g .later);
               inside = omega (arith, inside t x (omega arith));
               few = g .few;
@@ -217,9 +226,10 @@ module _ {t : List ℕ} {own : ℕ → List ℕ} {item : ItemReader} {z start fi
             let m = after-span in
             omega (arith, g .later)
 
-        pub upto-more : {more : ℕ} {names″ : List ℕ} → Added (own at) end names′ more names″ → Further more (Next to after)
-            → Upto t own item z start first top old names next after more last names″
-        upto-more a f =
+        pub upto-more : OneValue (item (u .done) at n) → {linked : List ℕ} → linked ≡ sets last (linksAt n) (parent ∷ after ∷ [])
+            → {more : ℕ} {names″ : List ℕ} → Added (own at) end names′ more names″ → Further more (Next to after)
+            → Upto parent t own item z start first top old names next after more linked names″
+        upto-more one k a f =
             let i = inside t x (omega arith) in
             let l = skip-span t (x + 1) (omega arith) in
             let m = after-span in
@@ -231,7 +241,7 @@ module _ {t : List ℕ} {own : ℕ → List ℕ} {item : ItemReader} {z start fi
               is = is-more;
               closed = closed-more;
               count = count;
-              table = table;
+              table = table one after k;
               added = added-then (u .added) a;
               later = omega (arith, u .later, g .later);
               within = omega arith;

@@ -15,7 +15,7 @@ use lib.Seq.{sets, sets-eq, length-sets, drop-length, take-append-seam}
 use borrow.Rule.Slice.PartMut.{midOf, putMid, mid-len, post-is}
 use Rattle.laws.specs.Lists.{filled}
 use Rattle.text.specs.Limits.{Limits, rowWords}
-use Rattle.text.specs.Tree.{Forest, size, rowsOf}
+use Rattle.text.specs.Tree.{Forest, size, treeRows}
 use Rattle.text.specs.Standing.{StandsTo}
 use Rattle.text.specs.Promised.{Filled}
 use Rattle.text.specs.Reader.{bad}
@@ -24,8 +24,8 @@ use Rattle.text.specs.Whole.{wholeOf, sheetOf, tableOf, Reads}
 use Rattle.text.specs.declared.Refusal.{Refusal}
 use Rattle.text.specs.declared.Reading.{Reading}
 use Rattle.text.specs.declared.Reading.the-variants.{Rows, Refused}
-use Rattle.text.proofs.Standing.{rows-length, rows-stand}
-use Rattle.text.proofs.Promise.{paper-unique, rows-tree, refusal-is}
+use Rattle.text.proofs.Standing.{LinkedAt, tree-length, rows-stand, rows-linked}
+use Rattle.text.proofs.Promise.{paper-unique, fills, rows-tree, refusal-is}
 use Rattle.json.specs.Answers.{keptOf, ReadsRows, Stored, Ended}
 
 pub one-outcome : (L : Limits) (t old : List ℕ) (a b : Reading) (x y : List ℕ) → ReadsRows L t old a x → ReadsRows L t old b y → (a ≡ b) × (x ≡ y)
@@ -42,22 +42,25 @@ take-sets : (vs l : List ℕ) → length vs ≤ length l → take (length vs) (s
 take-sets vs l h = rw (sets-eq vs l 0 (omega arith), append-assoc, take-append-seam)
 
 -- the rows were written over a table's first words
-module _ (f : Forest) (old : List ℕ) (room : rowWords * size f ≤ length old) {mid : List ℕ} (is : mid ≡ sets old 0 (rowsOf f)) where
+module _ (f : Forest) (old : List ℕ) (room : rowWords * size f ≤ length old) {mid : List ℕ} (is : mid ≡ sets old 0 (treeRows f)) where
   pub rows-stay : StandsTo mid 0 (size f) f
   rows-stay =
-      let h = rows-length f in
+      let h = tree-length f in
       record {
-        stands = rows-stand mid 0 f (drop (0 + length (rowsOf f)) old) (omega arith) (is ∙ sets-eq (rowsOf f) old 0 (omega arith));
+        stands = rows-stand mid 0 0 0 f (drop (0 + length (treeRows f)) old) (omega arith) (is ∙ sets-eq (treeRows f) old 0 (omega arith));
         ends = omega arith;
       }
 
+  pub links-stay : LinkedAt mid 0 0 0 f
+  links-stay = let h = tree-length f in rows-linked mid 0 0 0 f (drop (0 + length (treeRows f)) old) (is ∙ sets-eq (treeRows f) old 0 (omega arith))
+
   pub tail-cleared : (n : ℕ) → n ≡ size f → {rest : List ℕ} → rest ≡ replicate (length (midOf (n * rowWords) (length mid - n * rowWords) mid)) 0
-      → putMid (n * rowWords) (length mid - n * rowWords) mid rest ≡ filled (length old) (rowsOf f)
+      → putMid (n * rowWords) (length mid - n * rowWords) mid rest ≡ filled (length old) (treeRows f)
   tail-cleared n count clear =
-      let h = rows-length f in
-      let used : n * rowWords ≡ length (rowsOf f) = omega arith in
-      let long : length mid ≡ length old = ap length is ∙ length-sets old 0 (rowsOf f) in
-      rest-cleared mid (n * rowWords) (omega arith) clear ∙ rw (long, is, used) (take-sets (rowsOf f) old (omega arith))
+      let h = tree-length f in
+      let used : n * rowWords ≡ length (treeRows f) = omega arith in
+      let long : length mid ≡ length old = ap length is ∙ length-sets old 0 (treeRows f) in
+      rest-cleared mid (n * rowWords) (omega arith) clear ∙ rw (long, is, used) (take-sets (treeRows f) old (omega arith))
 
 -- ---- reading
 
@@ -79,11 +82,11 @@ module _ {L : Limits} {t old : List ℕ} where
     pub rows-there : (s : Stored (wholeOf L (length old) t) old new n) × (n * rowWords ≤ length old) × Filled L t new n (s .trees)
     rows-there =
         let a = rows-tree L (length old) t _ n (as-read h) in
-        let is : new ≡ sets old 0 (rowsOf (a .tree)) = h .left ∙ ap (keptOf old) (a .whole) in
-        let stay = rows-stay (a .tree) old (omega (arith, a .room, a .count)) is in (
+        let is : new ≡ sets old 0 (treeRows (a .tree)) = h .left ∙ ap (keptOf old) (a .whole) in
+        let room : rowWords * size (a .tree) ≤ length old = omega (arith, a .room, a .count) in (
           record { trees = a .tree; to = a .end; is = a .whole; count = sym (a .count); table = is },
           omega (arith, a .room),
-          record { promised = a .filled-by .promised; stands = rw (a .count) at stay },
+          fills (a .filled-by .promised) (rw (a .count) at (rows-stay (a .tree) old room is)) (links-stay (a .tree) old room is),
         )
 
     pub read-cleared : {rest : List ℕ} → rest ≡ replicate (length (midOf (n * rowWords) (length new - n * rowWords) new)) 0

@@ -9,24 +9,25 @@ use native.Mathlib.Decide.{decLe}
 use lib.ListN.{length, List·getD-eq-default}
 use lib.Dec.{eqb}
 use borrow.Author.Tests.{le-leb, lt-leb, eq-eqb, ne-eqb}
-use borrow.Author.Needs.{needs}
 use Rattle.laws.specs.Earliest.{firstRepeat}
 use Rattle.text.specs.Limits.{Limits, comparing, loose}
 use Rattle.text.specs.Text.{byteAt}
 use Rattle.text.specs.Strings.{stringEnd}
 use Rattle.text.specs.Tokens.{skip, isDigit, kindBy, tokenAt}
-use Rattle.text.specs.Tree.{Bracket, curly, Forest, none, leaf, size}
+use Rattle.text.specs.Tree.{curly, Forest, none, leaf}
+use Rattle.text.specs.Firsts.{HasFirst, restAt}
 use Rattle.text.specs.Grammar.{closing}
 use Rattle.text.specs.Reader.{Read, good, bad, Reader, scalarWith, scalarAt, closeOf, container, deep, valueWith, insideOf, colonAt, memberWith, memberOf, valueAt, elementsAt, membersAt, arrayAt, objectAt}
 use Rattle.text.specs.declared.Token.{Token}
 use Rattle.text.specs.declared.Token.the-variants.{End, No2, No3}
 use Rattle.text.specs.declared.Refusal.the-variants.{Grammar, Character, Deep, Many}
 use Rattle.text.proofs.Laws.{value-parts}
+use Rattle.text.proofs.Placing.{single-value}
 use Rattle.repeats.specs.Quoted.{tailAt}
 use Rattle.repeats.specs.Closed.{strictItem, ownName, asideName, settle}
 use Rattle.repeats.proofs.Gathering.{aside-law}
 use Rattle.repeats.proofs.Fair.{value-fair}
-use Rattle.json.specs.Readers.{containerOf, bracketOf, containerAt, itemsAt, namesAt}
+use Rattle.json.specs.Readers.{containerOf, bracketOf, containerAt, itemOf, itemsAt, namesAt}
 use Rattle.json.specs.declared.containers.Container.{Container}
 use Rattle.json.specs.declared.containers.Container.the-variants.{Array, Object}
 
@@ -194,38 +195,30 @@ module _ (t : List ℕ) (at : ℕ) (h : byteAt t at ≡ 34) where
   pub own-closed : (end : ℕ) → stringEnd t (at + 1) ≡ End end → ownName t curly at ≡ at ∷ []
   own-closed end e = rw (eq-eqb _ _ h, e)
 
--- ---- a value that is accepted is one row or more ----
+-- ---- a value that is accepted is one
 
-abbrev pub Some : Read → Type 0
-Some (good f to) = 0 < size f
-Some (bad r) = Prim.Unit {0}
+-- where a value is read, it is one, and nothing follows it
+abbrev pub OneValue : Read → Type 0
+OneValue (good f to) = HasFirst f × (restAt f ≡ none)
+OneValue (bad r) = Prim.Unit {0}
 
-some-cond : (b : Bool) (x y : Read) → Some x → Some y → Some (cond b x y)
-some-cond true x y p q = p
-some-cond false x y p q = q
+one-if : (b : Bool) (x y : Read) → OneValue x → OneValue y → OneValue (cond b x y)
+one-if true x y p q = p
+one-if false x y p q = q
 
-scalar-some : (kind ns ne at : ℕ) (k : Token) → Some (scalarWith kind ns ne at k)
-unfolding scalarWith size
-scalar-some kind ns ne at (End to) = omega arith
-scalar-some kind ns ne at (No2 p) = tt
-scalar-some kind ns ne at (No3 p) = tt
+pub value-one : (L : Limits) (t : List ℕ) (ns ne at n depth : ℕ) → OneValue (valueAt L t depth ns ne at n)
+value-one L t ns ne at n depth = go (valueAt L t depth ns ne at n) refl
+  where
+    go : (R : Read) → valueAt L t depth ns ne at n ≡ R → OneValue R
+    go (good f to) e = let s = single-value L t depth ns ne at n f to e in (s .some, s .alone)
+    go (bad r) e = tt
 
-close-some : (b : Bracket) (ns ne at : ℕ) (R : Read) → Some (closeOf b ns ne at R)
-unfolding closeOf size
-close-some b ns ne at (good f to) = omega arith
-close-some b ns ne at (bad r) = tt
-
-module _ (L : Limits) (t : List ℕ) (ns ne at n : ℕ) where
-  array-some : (depth : ℕ) → Some (arrayAt L t depth ns ne at n)
-  unfolding arrayAt deep container
-  array-some zero = tt
-  array-some (suc depth) = search (needs, some-cond, close-some, tt) depth 9
-
-  object-some : (depth : ℕ) → Some (objectAt L t depth ns ne at n)
-  unfolding objectAt deep container
-  object-some zero = tt
-  object-some (suc depth) = search (needs, some-cond, close-some, tt) depth 9
-
-  pub value-some : (depth : ℕ) → Some (valueAt L t depth ns ne at n)
-  unfolding valueWith scalarAt
-  value-some depth = rw (value-parts L t depth ns ne at n) (search (needs, some-cond, array-some, object-some, scalar-some, tt) depth 9)
+pub item-one : (L : Limits) (of : Container) (t : List ℕ) (depth : ℕ) (done : Forest) (at n : ℕ) → OneValue (itemOf L of t depth done at n)
+unfolding memberOf memberWith colonAt
+item-one L Array t depth done at n = value-one L t 0 0 at n depth
+item-one L Object t depth done at n = one-if (eqb (byteAt t at) 34) _ _ (member (stringEnd t (at + 1))) tt
+  where
+    member : (k : Token) → OneValue (memberWith (loose L) t (valueAt L t depth) done at n k)
+    member (End end) = one-if (eqb (byteAt t (skip t end)) 58) _ _ (value-one L t (at + 1) (end - 1) (skip t (skip t end + 1)) n depth) tt
+    member (No2 p) = tt
+    member (No3 p) = tt

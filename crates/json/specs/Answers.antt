@@ -7,7 +7,7 @@ use lib.Dec.{ltb}
 use lib.ListN.{length, replicate}
 use lib.Seq.{sets}
 use Rattle.text.specs.Limits.{Limits, rowWords, base}
-use Rattle.text.specs.Tree.{Forest, size, rowsOf, treeRows}
+use Rattle.text.specs.Tree.{Forest, size, treeRows}
 use Rattle.text.specs.Reader.{Read, good, bad}
 use Rattle.text.specs.Sheet.{paper}
 use Rattle.text.specs.Whole.{readOf, wholeOf, sheetOf}
@@ -31,7 +31,7 @@ pub record Stored (R : Read) (old new : List ℕ) (n : ℕ) : Type 0 where
   pub to : ℕ
   pub is : R ≡ good trees to
   pub count : n ≡ size trees
-  pub table : new ≡ sets old 0 (rowsOf trees)
+  pub table : new ≡ sets old 0 (treeRows trees)
 
 -- the answer of a reading of a whole text says what R is; on a refusal the table may hold anything
 abbrev pub Ended : Read → (old new : List ℕ) → Reading → Type 0

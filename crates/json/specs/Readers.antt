@@ -105,24 +105,25 @@ Overfull t depth at r = (compare : Bool) (ns ne n : ℕ) → base .values ≤ n 
 
 -- ---- values ----
 
--- R says that values stand from `at` up to `to`, and they are rows n up to `after` of the table, as far as it has room
-pub record Gone (R : Read) (t : List ℕ) (at n : ℕ) (old new : List ℕ) (to after : ℕ) : Type 0 where
+-- R says that values stand from `at` up to `to`, and they are rows n up to `after` of the table, as far as it has room, with `parent` as the row of
+-- their parent. One value by itself has no parent and no sibling yet: both are stored once it is known what follows it.
+pub record Gone (parent : ℕ) (R : Read) (t : List ℕ) (at n : ℕ) (old new : List ℕ) (to after : ℕ) : Type 0 where
   pub trees : Forest
   pub is : R ≡ good trees to
   pub count : after ≡ n + size trees
-  pub table : new ≡ sets old (n * rowWords) (rowsOf trees)
+  pub table : new ≡ sets old (n * rowWords) (rowsOf parent n 0 trees)
   pub later : at < to
   pub inside : to ≤ length t
   pub few : after ≤ base .values
 
 -- a reader's answer says what R is; on a refusal the table may hold anything
-abbrev pub Took : Read → (t : List ℕ) (at n : ℕ) (old new : List ℕ) → Progress → Type 0
-Took R t at n old new (Next to after) = Gone R t at n old new to after
-Took R t at n old new (Stop r) = R ≡ bad r
+abbrev pub Took : (parent : ℕ) → Read → (t : List ℕ) (at n : ℕ) (old new : List ℕ) → Progress → Type 0
+Took parent R t at n old new (Next to after) = Gone parent R t at n old new to after
+Took parent R t at n old new (Stop r) = R ≡ bad r
 
--- the same of a reader that was lent the store, of which it leaves the first `top` names as they were
+-- the same of the reader of one value that was lent the store, of which it leaves the first `top` names as they were
 abbrev pub TookIn : Read → (t : List ℕ) (at n : ℕ) (old new : List ℕ) (top : ℕ) (names names′ : List ℕ) → Progress → Type 0
-TookIn R t at n old new top names names′ r = Took R t at n old new r × KeptBelow top names names′
+TookIn R t at n old new top names names′ r = Took 0 R t at n old new r × KeptBelow top names names′
 
 -- what closing a container asks of what was read inside it, as rows after row n
 abbrev pub Closable : (n : ℕ) → Progress → Type 0
@@ -136,7 +137,7 @@ CloseAsks kind ns ne at n inside = Closable n inside × Row n kind ns ne at 0 0
 -- and what it does: it stores the container's row
 abbrev pub Closes : (kind ns ne at n : ℕ) → Progress → (old new : List ℕ) → Progress → Type 0
 Closes kind ns ne at n (Next to after) old new r =
-    (r ≡ Next to after) × (new ≡ sets old (n * rowWords) (rowOf kind ns ne at to (after - n - 1)))
+    (r ≡ Next to after) × (new ≡ sets old (n * rowWords) (rowOf kind ns ne at to (after - n - 1) 0 0))
 Closes kind ns ne at n (Stop x) old new r = r ≡ Stop x
 
 -- ---- numbers
@@ -252,11 +253,11 @@ Further end (Stop r) = Prim.Unit {0}
 
 -- the answer on one item, and the name that it put aside
 pub record ItemTook (of : Container) (t : List ℕ) (depth end at n : ℕ) (old new names names′ : List ℕ) (r : Gathered) : Type 0 where
-  pub took : (done : Forest) → Took (itemOf (limitsIn names) of t depth done at n) t at n old new (r .read)
+  pub took : (done : Forest) → Took 0 (itemOf (limitsIn names) of t depth done at n) t at n old new (r .read)
   pub further : Further (r .end) (r .read)
   pub added : Added (asideName (limitsIn names) t (bracketOf of) at) end names (r .end) names′
 
--- the answer on all items of a container, and the names that they put aside
+-- the answer on all items of a container, whose row stands before theirs, and the names that they put aside
 pub record ItemsTook (of : Container) (t : List ℕ) (depth top from first : ℕ) (old new names names′ : List ℕ) (r : Gathered) : Type 0 where
-  pub took : Took (itemsAt (limitsIn names) of t depth from first) t from first old new (r .read)
+  pub took : Took (first - 1) (itemsAt (limitsIn names) of t depth from first) t from first old new (r .read)
   pub added : Added (namesAt (limitsIn names) of t depth from first) top names (r .end) names′

@@ -10,4 +10,4 @@ pub const DEPTH: usize = 64;
 pub const VALUES: usize = 32768;
 
 // The words of a row.
-pub const ROW_WORDS: usize = 6;
+pub const ROW_WORDS: usize = 8;

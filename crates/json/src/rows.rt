@@ -2,11 +2,13 @@
 use crate::limits::ROW_WORDS;
 ghost use mathlib.Core.Path.{_≡_};
 ghost use Prim.Native.Nat.{_*_, _<_};
+ghost use mathlib.Core.List.{[], _∷_};
 ghost use lib.ListN.{set};
 ghost use lib.Seq.{sets};
 ghost use Rattle.text.specs.Limits.{rowWords};
+ghost use Rattle.text.specs.Words.{linksAt};
 ghost use Rattle.text.specs.Tree.{rowOf};
-ghost use Rattle.json.specs.Rows.{Word, Row, wordOf, kindIn, nameStartIn, nameEndIn, startIn, endIn, belowIn};
+ghost use Rattle.json.specs.Rows.{Word, Row, wordOf, kindIn, nameStartIn, nameEndIn, startIn, endIn, belowIn, parentIn, siblingIn};
 
 // The kinds of a row, NULL to OBJECT.
 pub const NULL: usize = 1;
@@ -45,18 +47,23 @@ fn put_some(
     below: usize,
 )
     requires { ⌜ Row row kind ns ne from to below ⌝ }
-    ensures { λ _. ⌜ now (table .exit) ≡ sets (now (table .entry)) (row * rowWords) (rowOf kind ns ne from to below) ⌝ }
+    ensures { λ _. ⌜ now (table .exit) ≡ sets (now (table .entry)) (row * rowWords) (rowOf kind ns ne from to below 0 0) ⌝ }
 {
     let at = row * ROW_WORDS;
+    if table.len() <= at {
+        return;
+    }
     put_word(table, at, kind);
     put_word(table, at + 1, ns);
     put_word(table, at + 2, ne);
     put_word(table, at + 3, from);
     put_word(table, at + 4, to);
     put_word(table, at + 5, below);
+    put_word(table, at + 6, 0);
+    put_word(table, at + 7, 0);
 }
 
-// Stores a row. Where it fits, one test is enough for all of it.
+// Stores a row that has neither parent nor next sibling yet. Where it fits, one test is enough for all of it.
 pub(crate) fn put_row(
     table: &mut [u32],
     row: usize,
@@ -68,7 +75,7 @@ pub(crate) fn put_row(
     below: usize,
 )
     requires { ⌜ Row row kind ns ne from to below ⌝ }
-    ensures { λ _. ⌜ now (table .exit) ≡ sets (now (table .entry)) (row * rowWords) (rowOf kind ns ne from to below) ⌝ }
+    ensures { λ _. ⌜ now (table .exit) ≡ sets (now (table .entry)) (row * rowWords) (rowOf kind ns ne from to below 0 0) ⌝ }
 {
     let at = row * ROW_WORDS;
     if table.len() < at + ROW_WORDS {
@@ -80,6 +87,23 @@ pub(crate) fn put_row(
     table[at + 3] = from as u32;
     table[at + 4] = to as u32;
     table[at + 5] = below as u32;
+    table[at + 6] = 0;
+    table[at + 7] = 0;
+}
+
+// Stores the row of a value's parent and that of its next sibling, as far as the table has room for them.
+pub(crate) fn link(table: &mut [u32], row: usize, parent: usize, next: usize)
+    requires { ⌜ Word row × Word parent × Word next ⌝ }
+    ensures { λ _. ⌜ now (table .exit) ≡ sets (now (table .entry)) (linksAt row) (parent ∷ next ∷ []) ⌝ }
+{
+    let at = row * ROW_WORDS;
+    if table.len() < at + ROW_WORDS {
+        put_word(table, at + 6, parent);
+        put_word(table, at + 7, next);
+        return;
+    }
+    table[at + 6] = parent as u32;
+    table[at + 7] = next as u32;
 }
 
 // A word of a row, or 0 where the table has it not.
@@ -138,4 +162,18 @@ pub fn below(table: &[u32], row: usize) -> usize
     ensures { λ r. ⌜ r ≡ belowIn (now (table .entry)) row ⌝ }
 {
     word(table, row, 5)
+}
+
+// The row of the array or object that it directly stands in, or 0 for the root.
+pub fn parent(table: &[u32], row: usize) -> usize
+    ensures { λ r. ⌜ r ≡ parentIn (now (table .entry)) row ⌝ }
+{
+    word(table, row, 6)
+}
+
+// The row of the value that follows it there, or 0 where none does.
+pub fn next_sibling(table: &[u32], row: usize) -> usize
+    ensures { λ r. ⌜ r ≡ siblingIn (now (table .entry)) row ⌝ }
+{
+    word(table, row, 7)
 }

@@ -16,6 +16,7 @@ use crate::members::ItemStart;
 use crate::repeated::NONE;
 use crate::repeated::first_repeat;
 use crate::rows::ARRAY;
+use crate::rows::link;
 use crate::rows::put_row;
 use crate::tokens::kind_of;
 use crate::tokens::skip;
@@ -76,7 +77,7 @@ fn read_scalar(
     count: usize,
 ) -> Progress
     requires { ⌜ ScalarAsks (now text) kind ns ne at count ⌝ }
-    ensures { λ r. ⌜ Took (scalarAt base (now (text .entry)) kind ns ne at count) (now (text .entry)) at count (now (table .entry)) (now (table .exit)) r ⌝ }
+    ensures { λ r. ⌜ Took 0 (scalarAt base (now (text .entry)) kind ns ne at count) (now (text .entry)) at count (now (table .entry)) (now (table .exit)) r ⌝ }
 {
     match token_end(text, kind, at) {
         Token::End(to) => {
@@ -204,6 +205,7 @@ fn read_items(
         let read = Progress::Next(next, first);
         return Gathered { read, end: top };
     }
+    let parent = first - 1;
     let mut at = start;
     let mut count = first;
     let mut end = top;
@@ -217,6 +219,7 @@ fn read_items(
         let x = skip(text, to);
         let b = peek(text, x);
         if b == z {
+            link(table, count, parent, 0);
             let next = x + 1;
             let read = Progress::Next(next, after);
             return Gathered { read, end };
@@ -225,6 +228,7 @@ fn read_items(
             let read = Progress::Stop(Refusal::Grammar(x));
             return Gathered { read, end };
         }
+        link(table, count, parent, after);
         at = skip(text, x + 1);
         count = after;
     }

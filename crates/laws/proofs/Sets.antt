@@ -1,11 +1,11 @@
--- Runs of stores, `sets l i vs`: one run after another, a run before another, a run past the end, and a run from the start of a cleared list. Assumes nothing.
-use mathlib.Core.Path.{_≡_, refl, ap, _∙_}
+-- Runs of stores, `sets l i vs`: one run after another, a run before another, a run over part of another, a run past the end, and a run from the start of a cleared list. Assumes nothing.
+use mathlib.Core.Path.{_≡_, refl, sym, ap, _∙_}
 use mathlib.Core.List.{List, [], _∷_, _++_}
 use Prim.Native.Nat.{ℕ, zero, suc, _+_, _-_, _≤_, _<_}
 use native.Mathlib.Omega.{arith}
 use native.Mathlib.Nat.{add-zero, add-suc, suc-add, sub-zero, zero-sub, suc-sub-suc}
 use lib.ListN.{length, set, drop, replicate}
-use lib.Seq.{sets, set-out, set-comm}
+use lib.Seq.{sets, set-out, set-comm, set-set}
 
 -- a run of stores in two parts
 pub sets-append : (xs ys l : List ℕ) (i : ℕ) → sets l i (xs ++ ys) ≡ sets (sets l i xs) (i + length xs) ys
@@ -30,6 +30,27 @@ sets-before [] ys l i j h = refl
 sets-before (x ∷ xs) ys l i j h =
     ap (λ (m : List ℕ). sets m (suc i) xs) (set-sets ys l i x j (omega arith))
     ∙ sets-before xs ys (set l i x) (suc i) j (omega arith)
+
+-- a run of stores over another of its length leaves nothing of that
+sets-twice : (xs ys l : List ℕ) (i : ℕ) → length xs ≡ length ys → sets (sets l i xs) i ys ≡ sets l i ys
+sets-twice [] [] l i e = refl
+sets-twice [] (y ∷ ys) l i e = absurd (omega arith)
+sets-twice (x ∷ xs) [] l i e = absurd (omega arith)
+sets-twice (x ∷ xs) (y ∷ ys) l i e =
+    ap (λ (m : List ℕ). sets m (suc i) ys) (set-sets xs (set l i x) i y (suc i) (omega arith) ∙ ap (λ (m : List ℕ). sets m (suc i) xs) (set-set l i x y))
+    ∙ sets-twice xs ys (set l i y) (suc i) (omega arith)
+
+-- a run of stores over the middle of another
+pub sets-over : (us vs ws ys l : List ℕ) (i : ℕ) → length vs ≡ length ys → sets (sets l i (us ++ (vs ++ ws))) (i + length us) ys ≡ sets l i (us ++ (ys ++ ws))
+sets-over us vs ws ys l i e =
+    let m = sets l i us in
+    let j = i + length us in
+    let far : j + length vs ≡ j + length ys = omega arith in
+    ap (λ (n : List ℕ). sets n j ys) (sets-append us (vs ++ ws) l i ∙ sets-append vs ws m j)
+    ∙ sets-before ys ws (sets m j vs) j (j + length vs) (omega arith)
+    ∙ ap (λ (n : List ℕ). sets n (j + length vs) ws) (sets-twice vs ys m j e)
+    ∙ ap (λ (n : ℕ). sets (sets m j ys) n ws) far
+    ∙ sym (sets-append us (ys ++ ws) l i ∙ sets-append ys ws m j)
 
 drop-replicate : (n m a : ℕ) → drop m (replicate n a) ≡ replicate (n - m) a
 drop-replicate n zero a = rw sub-zero

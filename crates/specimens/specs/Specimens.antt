@@ -98,22 +98,22 @@ localizing text = localize text (bytes "de") (16 * rowWords + 4) 99
 
 -- ---- rows
 
--- the six words of a row
-abbrev row : (kind name-start name-end start end below : ℕ) → List ℕ
-row kind name-start name-end start end below = kind ∷ name-start ∷ name-end ∷ start ∷ end ∷ below ∷ []
+-- the eight words of a row
+abbrev row : (kind name-start name-end start end below parent next : ℕ) → List ℕ
+row kind name-start name-end start end below parent next = kind ∷ name-start ∷ name-end ∷ start ∷ end ∷ below ∷ parent ∷ next ∷ []
 
 -- those of a card with more members, of which the last ends before `end`
 abbrev cardRows : (end below : ℕ) → List ℕ → List ℕ
-cardRows end below more = row 7 0 0 0 end below ++ row 5 2 7 9 15 0 ++ row 5 17 24 26 31 0 ++ row 5 33 36 38 42 0 ++ more
+cardRows end below more = row 7 0 0 0 end below 0 0 ++ row 5 2 7 9 15 0 0 2 ++ row 5 17 24 26 31 0 0 3 ++ row 5 33 36 38 42 0 0 4 ++ more
 
 -- the rows of `withPref`, where the number ends before `end`
 abbrev prefRows : (end : ℕ) → List ℕ
-prefRows end = cardRows (end + 3) 7 (row 7 44 50 52 (end + 2) 3 ++ row 7 54 56 58 (end + 1) 2 ++ row 5 60 67 69 72 0 ++ row 4 74 78 80 end 0)
+prefRows end = cardRows (end + 3) 7 (row 7 44 50 52 (end + 2) 3 0 0 ++ row 7 54 56 58 (end + 1) 2 4 0 ++ row 5 60 67 69 72 0 5 7 ++ row 4 74 78 80 end 0 5 0)
 
--- the rows of so many arrays, one inside the other, the first at a place
+-- the rows of so many arrays, one inside the other, the first at a place, where so many stand around it
 unfoldable pub nestedRows : (count at : ℕ) → List ℕ
 nestedRows zero at = []
-nestedRows (suc n) at = row 6 0 0 at (at + 2 * n + 2) n ++ nestedRows n (at + 1)
+nestedRows (suc n) at = row 6 0 0 at (at + 2 * n + 2) n (at - 1) 0 ++ nestedRows n (at + 1)
 
 -- ---- the cases
 
@@ -127,8 +127,18 @@ cases =
     ∷ refusedAt (read (bytes "{\"a\":1,\"\\u0061\":2}") 0) 4 7
     -- (P) a lone surrogate: 3 at 1
     ∷ refusedAt (read (bytes "\"\\uD800\"") rowWords) 3 1
-    -- (P) three rows
-    ∷ accepted (read (bytes "{\"a\":[1]}") (3 * rowWords + 2)) 3 0 (row 7 0 0 0 9 2 ++ row 6 2 3 5 8 1 ++ row 4 0 0 6 7 0) []
+    -- (P) three rows: parents 0, 0 and 1, and no siblings
+    ∷ accepted (read (bytes "{\"a\":[1]}") (3 * rowWords + 2)) 3 0 (row 7 0 0 0 9 2 0 0 ++ row 6 2 3 5 8 1 0 0 ++ row 4 0 0 6 7 0 1 0) []
+    -- (P) an element's next sibling; an object in an object before a later member, whose next sibling stands behind what is below it
+    ∷ accepted (read (bytes "[1,2]") (3 * rowWords)) 3 0 (row 6 0 0 0 5 2 0 0 ++ row 4 0 0 1 2 0 0 2 ++ row 4 0 0 3 4 0 0 0) []
+    ∷ accepted (read (bytes "{\"a\":{\"b\":{\"c\":1}},\"d\":2}") (5 * rowWords)) 5 0
+    (row 7 0 0 0 25 4 0 0 ++ row 7 2 3 5 18 2 0 4 ++ row 7 7 8 10 17 1 1 0 ++ row 4 12 13 15 16 0 2 0 ++ row 4 20 21 23 24 0 0 0) []
+    -- (P) tables of 0 and 7 words have no row, one of 8 has one, one of 15 has no second
+    ∷ refusedAt (read (bytes "1") 0) 7 1
+    ∷ refusedAt (read (bytes "1") 7) 7 1
+    ∷ accepted (read (bytes "1") 8) 1 0 (row 4 0 0 0 1 0 0 0) []
+    ∷ accepted (read (bytes "1") 15) 1 0 (row 4 0 0 0 1 0 0 0) []
+    ∷ refusedAt (read (bytes "[1]") 15) 7 2
     -- a table without a third whole row: 7, three needed
     ∷ refusedAt (read (bytes "{\"a\":[1]}") (3 * rowWords - 1)) 7 3
     ∷ refusedAt (read (bytes "{\"a\":[1]}") 0) 7 3
@@ -147,23 +157,23 @@ cases =
     ∷ refusedAt (judging (withPref "101")) 13 80
     ∷ refusedAt (judging (withPref "1.0")) 13 80
     -- (P) an Id of 255 bytes passes, 256 and empty are 13
-    ∷ accepted (judging (withId (replicate 255 97))) 6 0 (cardRows 318 5 (row 7 44 53 55 317 1 ++ row 7 57 312 314 316 0)) []
+    ∷ accepted (judging (withId (replicate 255 97))) 6 0 (cardRows 318 5 (row 7 44 53 55 317 1 0 0 ++ row 7 57 312 314 316 0 4 0)) []
     ∷ refusedAt (judging (withId (replicate 256 97))) 13 315
     ∷ refusedAt (judging (withId [])) 13 59
     -- an Id is decoded before it is judged
-    ∷ accepted (judging (withId (bytes "\\u0061"))) 6 0 (cardRows 69 5 (row 7 44 53 55 68 1 ++ row 7 57 63 65 67 0)) []
+    ∷ accepted (judging (withId (bytes "\\u0061"))) 6 0 (cardRows 69 5 (row 7 44 53 55 68 1 0 0 ++ row 7 57 63 65 67 0 4 0)) []
     -- (P) a fraction passes unless it ends in 0
-    ∷ accepted (judging (created "2010-10-10T10:10:10.003Z")) 5 0 (cardRows 80 4 (row 5 44 51 53 79 0)) []
+    ∷ accepted (judging (created "2010-10-10T10:10:10.003Z")) 5 0 (cardRows 80 4 (row 5 44 51 53 79 0 0 0)) []
     ∷ refusedAt (judging (created "2010-10-10T10:10:10.000Z")) 13 53
     -- (P) 2000-02-29 is a day, 1900-02-29 isn't
-    ∷ accepted (judging (created "2000-02-29T00:00:00Z")) 5 0 (cardRows 76 4 (row 5 44 51 53 75 0)) []
+    ∷ accepted (judging (created "2000-02-29T00:00:00Z")) 5 0 (cardRows 76 4 (row 5 44 51 53 75 0 0 0)) []
     ∷ refusedAt (judging (created "1900-02-29T00:00:00Z")) 13 53
     -- a wrong kind; a mandatory member that is missing; a rule between members
     ∷ refusedAt (judging (with (bytes ",\"kind\":5"))) 11 50
     ∷ refusedAt (judging (bytes " {}")) 12 1
     ∷ refusedAt (judging (with (name ""))) 14 50
     -- `members` needs the kind "group"; a separator needs true `isOrdered`
-    ∷ accepted (judging (with (bytes ",\"kind\":\"group\",\"members\":{}"))) 6 0 (cardRows 71 5 (row 5 44 48 50 57 0 ++ row 7 59 66 68 70 0)) []
+    ∷ accepted (judging (with (bytes ",\"kind\":\"group\",\"members\":{}"))) 6 0 (cardRows 71 5 (row 5 44 48 50 57 0 0 5 ++ row 7 59 66 68 70 0 0 0)) []
     ∷ refusedAt (judging (with (bytes ",\"members\":{}"))) 14 0
     ∷ refusedAt (judge (with (name "\"components\":[{\"kind\":\"given\",\"value\":\"A\"},{\"kind\":\"separator\",\"value\":\" \"}]")) (12 * rowWords)) 14 50
     -- the place is that of the offending value, behind an object with values of its own
@@ -171,16 +181,16 @@ cases =
     -- `defaultSeparator` without true `isOrdered`
     ∷ refusedAt (judging (with (name "\"full\":\"A\",\"defaultSeparator\":\" \""))) 14 50
     -- each other rule between members broken alone, of a Name and of an Address
-    ∷ refusedAt (judge (with (name "\"isOrdered\":true,\"components\":[{\"kind\":\"separator\",\"value\":\" \"}]")) 60) 14 50
-    ∷ refusedAt (judge (with (name "\"isOrdered\":true,\"components\":[{\"kind\":\"given\",\"value\":\"A\"},{\"kind\":\"separator\",\"value\":\" \"},{\"kind\":\"separator\",\"value\":\"-\"}]")) 96) 14 50
-    ∷ refusedAt (judge (with (name "\"components\":[{\"kind\":\"given\",\"value\":\"A\"}],\"defaultSeparator\":\" \"")) 60) 14 50
+    ∷ refusedAt (judge (with (name "\"isOrdered\":true,\"components\":[{\"kind\":\"separator\",\"value\":\" \"}]")) (10 * rowWords)) 14 50
+    ∷ refusedAt (judge (with (name "\"isOrdered\":true,\"components\":[{\"kind\":\"given\",\"value\":\"A\"},{\"kind\":\"separator\",\"value\":\" \"},{\"kind\":\"separator\",\"value\":\"-\"}]")) (16 * rowWords)) 14 50
+    ∷ refusedAt (judge (with (name "\"components\":[{\"kind\":\"given\",\"value\":\"A\"}],\"defaultSeparator\":\" \"")) (10 * rowWords)) 14 50
     ∷ refusedAt (judging (with (name "\"full\":\"A\",\"isOrdered\":true,\"defaultSeparator\":\" \""))) 14 50
-    ∷ refusedAt (judge (with (bytes ",\"addresses\":{\"a\":{\"components\":[{\"kind\":\"separator\",\"value\":\" \"}]}}")) 60) 14 60
+    ∷ refusedAt (judge (with (bytes ",\"addresses\":{\"a\":{\"components\":[{\"kind\":\"separator\",\"value\":\" \"}]}}")) (10 * rowWords)) 14 60
     ∷ refusedAt (judging (with (bytes ",\"addresses\":{\"a\":{\"components\":[],\"defaultSeparator\":\" \"}}"))) 14 60
     ∷ refusedAt (judging (with (bytes ",\"addresses\":{\"a\":{\"isOrdered\":true,\"defaultSeparator\":\" \"}}"))) 14 60
     -- the entry that isn't a separator isn't asked of an Address (house ruling); two separators in a row are 14 there too
     ∷ accepted (judging (with (bytes ",\"addresses\":{\"a\":{\"components\":[]}}"))) 7 0
-    (cardRows 79 6 (row 7 44 53 55 78 2 ++ row 7 57 58 60 77 1 ++ row 6 62 72 74 76 0)) []
+    (cardRows 79 6 (row 7 44 53 55 78 2 0 0 ++ row 7 57 58 60 77 1 4 0 ++ row 6 62 72 74 76 0 5 0)) []
     ∷ refusedAt (judge (with (bytes ",\"addresses\":{\"a\":{\"isOrdered\":true,\"components\":[{\"kind\":\"separator\",\"value\":\" \"},{\"kind\":\"separator\",\"value\":\"-\"}]}}")) (14 * rowWords)) 14 60
     -- more of the wrong kind, in an object of each type of the table; null fits none that is listed
     ∷ refusedAt (judging (with (bytes ",\"language\":null"))) 11 54
@@ -200,7 +210,7 @@ cases =
     ∷ refusedAt (localizing (patched [] "\"localizations/de\":null")) 23 66
     -- (P) keys `emails/e1` and `emails/e10` don't clash
     ∷ accepted (localizing (patched (bytes ",\"emails\":{\"e1\":{\"address\":\"a\"},\"e10\":{\"address\":\"b\"}}") "\"emails/e1\":null,\"emails/e10\":null")) 5 55
-    (cardRows 55 4 (row 7 44 50 52 54 0)) (with (bytes ",\"emails\":{}"))
+    (cardRows 55 4 (row 7 44 50 52 54 0 0 0)) (with (bytes ",\"emails\":{}"))
     -- (P) `name` and `name/full` are 24; whichever comes first, at `name`, the smaller key of the two
     ∷ refusedAt (localizing (patched (name "\"full\":\"Ann\"") "\"name\":null,\"name/full\":\"Anne\"")) 24 88
     ∷ refusedAt (localizing (patched (name "\"full\":\"Ann\"") "\"name/full\":\"Anne\",\"name\":null")) 24 107
@@ -227,25 +237,25 @@ cases =
     ∷ refusedAt (localize (patched (name "\"full\":\"Ann\"") "") (bytes "de") (16 * rowWords + 4) 64) 27 65
     ∷ refusedAt (localize (patched [] "\"uid\":null") (bytes "de") (16 * rowWords + 4) 31) 27 32
     -- an empty PatchObject gives the card without localizations
-    ∷ accepted (localizing (patched (name "\"full\":\"Ann\"") "")) 6 65 (cardRows 65 5 (row 7 44 48 50 64 1 ++ row 5 52 56 58 63 0)) (with (name "\"full\":\"Ann\""))
+    ∷ accepted (localizing (patched (name "\"full\":\"Ann\"") "")) 6 65 (cardRows 65 5 (row 7 44 48 50 64 1 0 0 ++ row 5 52 56 58 63 0 4 0)) (with (name "\"full\":\"Ann\""))
     -- an output just long enough is long enough
-    ∷ accepted (localize (patched (name "\"full\":\"Ann\"") "") (bytes "de") (16 * rowWords + 4) 65) 6 65 (cardRows 65 5 (row 7 44 48 50 64 1 ++ row 5 52 56 58 63 0))
+    ∷ accepted (localize (patched (name "\"full\":\"Ann\"") "") (bytes "de") (16 * rowWords + 4) 65) 6 65 (cardRows 65 5 (row 7 44 48 50 64 1 0 0 ++ row 5 52 56 58 63 0 4 0))
     (with (name "\"full\":\"Ann\""))
     -- a replaced member keeps its name as it is written
-    ∷ accepted (localizing (patched (bytes ",\"\\u0061\":1") "\"a\":2")) 5 54 (cardRows 54 4 (row 4 44 50 52 53 0)) (with (bytes ",\"\\u0061\":2"))
+    ∷ accepted (localizing (patched (bytes ",\"\\u0061\":1") "\"a\":2")) 5 54 (cardRows 54 4 (row 4 44 50 52 53 0 0 0)) (with (bytes ",\"\\u0061\":2"))
     -- a name with just `full` and `components`, null on both: 28 with 14
     ∷ refusedAt (localizing (patched (name "\"full\":\"Ann\",\"components\":[{\"kind\":\"given\",\"value\":\"Ann\"}]") "\"name/full\":null,\"name/components\":null")) 28 14
     -- `~01` is `~1`, not `/`
-    ∷ accepted (localizing (patched [] "\"~01\":1")) 5 50 (cardRows 50 4 (row 4 44 46 48 49 0)) (with (bytes ",\"~1\":1"))
+    ∷ accepted (localizing (patched [] "\"~01\":1")) 5 50 (cardRows 50 4 (row 4 44 46 48 49 0 0 0)) (with (bytes ",\"~1\":1"))
     -- added names in ascending order of bytes, a control first and a name before its longer ones; the control is spelled with small digits
     ∷ accepted (localizing (patched [] "\"a!\":1,\"a\":2,\"\\u001F\":3")) 7 67
-    (cardRows 67 6 (row 4 44 50 52 53 0 ++ row 4 55 56 58 59 0 ++ row 4 61 63 65 66 0)) (with (bytes ",\"\\u001f\":3,\"a\":2,\"a!\":1"))
+    (cardRows 67 6 (row 4 44 50 52 53 0 0 5 ++ row 4 55 56 58 59 0 0 6 ++ row 4 61 63 65 66 0 0 0)) (with (bytes ",\"\\u001f\":3,\"a\":2,\"a!\":1"))
     -- the whole example, for a table of twelve rows and an output as long as the card text
     ∷ accepted
     (localize
     (bytes "{\"@type\":\"Card\",\"version\":\"1.0\",\"uid\":\"u1\",\"name\":{\"full\":\"Ann\"},\"localizations\":{\"de\":{\"ex.com:b\":2,\"name/full\":\"Anne\",\"ex.com:a\": 1}}}")
     (bytes "de") (12 * rowWords) 136)
-    8 92 (cardRows 92 7 (row 7 44 48 50 65 1 ++ row 5 52 56 58 64 0 ++ row 4 67 75 77 78 0 ++ row 4 80 88 90 91 0))
+    8 92 (cardRows 92 7 (row 7 44 48 50 65 1 0 6 ++ row 5 52 56 58 64 0 4 0 ++ row 4 67 75 77 78 0 0 7 ++ row 4 80 88 90 91 0 0 0))
     (bytes "{\"@type\":\"Card\",\"version\":\"1.0\",\"uid\":\"u1\",\"name\":{\"full\":\"Anne\"},\"ex.com:a\":1,\"ex.com:b\":2}")
     ∷ []
 

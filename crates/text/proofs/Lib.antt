@@ -20,6 +20,7 @@ pub mod Stores
 pub mod Grammar
 pub mod Readable
 pub mod Rows
+pub mod Kin
 pub mod NewNames
 pub mod Labels
 pub mod Readback

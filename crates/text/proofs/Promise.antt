@@ -2,7 +2,8 @@
 --
 -- An answer and a table that meet reading's contract (`Reads`, specs/Whole.antt):
 --     rows-tree             after `Rows n` there is one tree of n values whose rows are the table's first n (`Filled`, specs/Promised.antt): one root,
---                           that stands in the text (`Placed`, specs/Placed.antt), names distinct, limits kept
+--                           that stands in the text (`Placed`, specs/Placed.antt), names distinct, limits kept; and the rows name their parents and
+--                           next siblings (`Kinship`, specs/Kin.antt)
 --     refusal-is            after `Refused r` the definition refuses with r, and the table is zero
 --     whole-bad             what is refused of the text is refused whatever the table's room
 --     paper-unique, answer-is, same-outcome      the answer and the table are determined
@@ -16,7 +17,7 @@
 --     some-at, none-at      there is a value before the end of the rows, and none at it
 --     start-at              the start of each value, by its row
 --     stands-unique         a table has one tree only
---     rows-length           six words to a value
+--     tree-length           eight words to a value
 --
 -- The same values in the text:
 --     spot                  its name's places, that it is not empty and inside the text; its first byte begins its kind
@@ -43,6 +44,7 @@ use borrow.Author.Tests.{ltb-false}
 use Rattle.laws.specs.Lists.{filled}
 use Rattle.text.specs.Limits.{Limits, rowWords}
 use Rattle.text.specs.Tree.{Forest, size}
+use Rattle.text.specs.Standing.{StandsTo}
 use Rattle.text.specs.Promised.{Promised, Filled}
 use Rattle.text.specs.Reader.{Read, good, bad}
 use Rattle.text.specs.Tokens.{skip}
@@ -54,10 +56,12 @@ use Rattle.text.proofs.Induction.{read-accepted}
 use Rattle.text.proofs.Fewer.{value-fits}
 use Rattle.text.proofs.Placing.{placed-text, single-value}
 use Rattle.text.proofs.Documents.{distinct-names}
+use Rattle.text.proofs.Standing.{LinkedAt}
+use Rattle.text.proofs.Kin.{kinship}
 pub use Rattle.text.proofs.Fewer.{whole-bad}
 pub use Rattle.text.proofs.Outcomes.{paper-unique, answerOf, answer-is, same-outcome}
 pub use Rattle.text.proofs.Standing.{
-  rows-length,
+  tree-length,
   firstOf,
   first-row,
   first-room,
@@ -71,7 +75,9 @@ pub use Rattle.text.proofs.Standing.{
   none-at,
   stands-unique,
   filled-stands,
+  filled-linked,
   table-stands,
+  table-linked,
   start-at,
 }
 pub use Rattle.text.proofs.Placing.{
@@ -138,6 +144,10 @@ whole-good L words t f to e = go (readOf L t) refl e
     go (bad r) h q = let z : _≡_ {A = ℕ} 0 1 = cc in absurd (omega arith)
     go (good g end) h q = fit g end h (ltb words (rowWords * size g)) refl q
 
+-- a table that has the rows of a tree, and their links
+pub fills : {L : Limits} {t table : List ℕ} {n : ℕ} {f : Forest} → Promised L t f → StandsTo table 0 n f → LinkedAt table 0 0 0 f → Filled L t table n f
+fills {table = table} {f = f} p s l = record { promised = p; stands = s; kin = kinship table f (p .alone) l (s .stands) }
+
 -- an answer and a table that meet reading's contract
 module _ (L : Limits) (words : ℕ) (t table : List ℕ) where
   -- accepted: the tree, and what is promised of it
@@ -152,13 +162,14 @@ module _ (L : Limits) (words : ℕ) (t table : List ℕ) where
   tabled : (f : Forest) (to : ℕ) → table ≡ tableOf words (wholeOf L words t) → wholeOf L words t ≡ good f to → AcceptedWhole (size f)
   tabled f to is w =
       let fits = whole-good L words t f to w in
+      let own = is ∙ ap (tableOf words) w in
       record {
         tree = f;
         end = to;
         whole = w;
         count = refl;
         room = fits .room;
-        filled-by = record { promised = promised L t f to (fits .read); stands = table-stands words f to (is ∙ ap (tableOf words) w) };
+        filled-by = fills (promised L t f to (fits .read)) (table-stands words f to own) (table-linked words f to own);
       }
 
   pub rows-tree : (n : ℕ) → Reads L words t (Rows n) table → AcceptedWhole n

@@ -1,17 +1,17 @@
 -- The rows of a table that the values of a tree stand in, word by word:
---     row-at, value-start        a value's row has its six words; so the value starts where it says
+--     row-at, value-start        a value's row says what it is by itself; so the value starts where it says
 --     row-inside, row-filled     the values sit in the rows before `size f`, and in each of these sits one
 --     one-value                  and no other
 -- Assumes nothing.
 use mathlib.Core.Path.{_≡_, refl, sym, ap, subst, _∙_}
 use mathlib.Core.List.{List, [], append-nil}
 use lib.ListN.{getD}
-use Prim.Native.Nat.{ℕ, _+_, _*_, _≤_, _<_}
+use Prim.Native.Nat.{ℕ, _+_, _≤_, _<_}
 use native.Mathlib.Nat.{zero-add}
 use native.Mathlib.Omega.{arith}
-use Rattle.text.specs.Limits.{rowWords}
-use Rattle.text.specs.Tree.{Forest, none, leaf, node, size, rowsOf, startsOf}
+use Rattle.text.specs.Tree.{Forest, none, leaf, node, size, treeRows, startsOf}
 use Rattle.text.specs.Seats.{Head, Seat, top, under, behind, Sits}
+use Rattle.text.specs.Words.{startIn}
 use Rattle.text.specs.Standing.{Stands, RowAt}
 use Rattle.text.specs.Firsts.{belowAt}
 use Rattle.text.proofs.Standing.{rows-stand, first-row, inside, next, start-at}
@@ -32,16 +32,16 @@ row-in {table} {c} {f = f} s (Sits.node-on {b = b} {ns = ns} {ne = ne} {from = f
     let place : c .after + 1 + belowAt f ≡ c .after + size (node b ns ne from to inner none) = omega arith in
     row-in (subst (λ (k : ℕ). Stands table k rest) place (next f tt s)) i
 
--- theorem: a value's row has its six words
+-- theorem: a value's row says what it is by itself
 pub row-at : (table : List ℕ) (f : Forest) → Stands table 0 f → (d : Seat) (h : Head) → Sits top f d h → RowAt table (d .after) h
 row-at table f s d h i = row-in s i
 
 -- theorem: where a value starts, by its row
 pub value-start : (f : Forest) {d : Seat} {h : Head} → Sits top f d h → getD (startsOf f) (d .after) 0 ≡ h .from
 value-start f {d} {h} i =
-    let s : Stands (rowsOf f) 0 f = rows-stand (rowsOf f) 0 f [] (omega arith) (sym (append-nil (rowsOf f))) in
+    let s : Stands (treeRows f) 0 f = rows-stand (treeRows f) 0 0 0 f [] (omega arith) (sym (append-nil (treeRows f))) in
     let e = start-at f (record { stands = s; ends = refl }) (d .after) (omega (arith, in-few i)) in
-    e ∙ ap (λ (k : ℕ). getD (rowsOf f) (k * rowWords + 3) 0) (zero-add (d .after)) ∙ row-at (rowsOf f) f s d h i .start
+    e ∙ ap (startIn (treeRows f)) (zero-add (d .after)) ∙ row-at (treeRows f) f s d h i .start
 
 -- ---- each row has one value ----
 

@@ -1,6 +1,6 @@
 -- Values that stand in a table from a row on:
---     rows-length                    a value takes one row, and those inside it one each
---     rows-stand                     values whose rows are words of a table stand in it
+--     rows-length, tree-length       a value takes one row, and those inside it one each
+--     rows-stand, rows-linked        values whose rows are words of a table stand in it, and name each other
 --     first-row, first-room          the words of a row are those of the first value, and its rows are inside the table
 --     inside, after, alone           what is inside the first value stands from the next row on; what follows it, `below + 1` rows further
 --     stands-unique                  a table says which values stand in it: no two trees stand at one row and end before the same row
@@ -16,8 +16,9 @@ use lib.ListN.{length, getD, drop, replicate, length-append, length-drop, List·
 use lib.Seq.{drop-drop, drop-at, getD-drop, getD-append-add}
 use Rattle.laws.specs.Lists.{filled}
 use Rattle.text.specs.Limits.{rowWords}
-use Rattle.text.specs.Tree.{Bracket, square, curly, bracketKind, Forest, none, leaf, node, size, rowOf, rowsOf, startsOf}
+use Rattle.text.specs.Tree.{Bracket, square, curly, bracketKind, Forest, none, leaf, node, size, rowOf, firstRow, rowsOf, treeRows, startsOf}
 use Rattle.text.specs.Seats.{Head, leafHead, nodeHead}
+use Rattle.text.specs.Words.{startIn, parentIn, siblingIn}
 use Rattle.text.specs.Standing.{RowAt, RowsAt, Stands, StandsTo}
 use Rattle.text.specs.Firsts.{HasFirst, insideAt, belowAt, headAt, restAt, Kinds}
 use Rattle.text.specs.Reader.{good}
@@ -31,53 +32,81 @@ firstOf (node b ns ne from to inside rest) = node b ns ne from to inside none
 
 -- ---- lengths ----
 
-pub rows-length : (f : Forest) → length (rowsOf f) ≡ rowWords * size f
+pub rows-length : (p k z : ℕ) (f : Forest) → length (rowsOf p k z f) ≡ rowWords * size f
 unfolding rowsOf size
-rows-length none = refl
-rows-length (leaf kind ns ne from to rest) = omega (arith, rows-length rest)
-rows-length (node b ns ne from to inside rest) = simp length-append (omega (arith, rows-length inside, rows-length rest))
+rows-length p k z none = refl
+rows-length p k z (leaf kind ns ne from to rest) = omega (arith, rows-length p (k + 1) z rest)
+rows-length p k z (node b ns ne from to inside rest) =
+    simp length-append (omega (arith, rows-length k (k + 1) 0 inside, rows-length p (k + 1 + size inside) z rest))
+
+pub tree-length : (f : Forest) → length (treeRows f) ≡ rowWords * size f
+tree-length f = rows-length 0 0 0 f
 
 -- ---- the words of a row ----
 
 word : (t l : List ℕ) (n : ℕ) → drop n t ≡ l → (i : ℕ) → getD t (n + i) 0 ≡ getD l i 0
 word t l n e i = sym (getD-drop n t i 0) ∙ ap (λ (m : List ℕ). getD m i 0) e
 
-row-words : (t more : List ℕ) (k : ℕ) (h : Head) → drop (k * rowWords) t ≡ rowOf (h .kind) (h .ns) (h .ne) (h .from) (h .to) (h .below) ++ more → RowAt t k h
-row-words t more k h e =
-    record {
-      kind = word t _ (k * rowWords) e 0;
-      name-start = word t _ (k * rowWords) e 1;
-      name-end = word t _ (k * rowWords) e 2;
-      start = word t _ (k * rowWords) e 3;
-      finish = word t _ (k * rowWords) e 4;
-      below = word t _ (k * rowWords) e 5;
-    }
+-- the links of row k: its parent's row and its next sibling's
+pub record LinksAt (table : List ℕ) (k p z : ℕ) : Type 0 where
+  pub parent : parentIn table k ≡ p
+  pub next : siblingIn table k ≡ z
+
+-- from row k on the rows have the links of the values, which stand in a container of row p, before the row z there
+abbrev pub LinkedAt : (table : List ℕ) (p k z : ℕ) → Forest → Type 0
+LinkedAt table p k z none = Prim.Unit {0}
+LinkedAt table p k z (leaf kind ns ne from to rest) = LinksAt table k p (firstRow (k + 1) z rest) × LinkedAt table p (k + 1) z rest
+LinkedAt table p k z (node b ns ne from to within rest) =
+    LinksAt table k p (firstRow (k + 1 + size within) z rest) × LinkedAt table k (k + 1) 0 within × LinkedAt table p (k + 1 + size within) z rest
+
+row-words : (t more : List ℕ) (k p z : ℕ) (h : Head)
+    → drop (k * rowWords) t ≡ rowOf (h .kind) (h .ns) (h .ne) (h .from) (h .to) (h .below) p z ++ more → RowAt t k h × LinksAt t k p z
+row-words t more k p z h e = (
+  record {
+    kind = word t _ (k * rowWords) e 0;
+    name-start = word t _ (k * rowWords) e 1;
+    name-end = word t _ (k * rowWords) e 2;
+    start = word t _ (k * rowWords) e 3;
+    finish = word t _ (k * rowWords) e 4;
+    below = word t _ (k * rowWords) e 5;
+  },
+  record { parent = word t _ (k * rowWords) e 6; next = word t _ (k * rowWords) e 7 },
+)
 
 next-row : (t l : List ℕ) (k n : ℕ) → drop (k * rowWords) t ≡ l → drop ((k + n) * rowWords) t ≡ drop (n * rowWords) l
 next-row t l k n e =
     let place : (k + n) * rowWords ≡ k * rowWords + n * rowWords = omega arith in
     rw place (sym (drop-drop (n * rowWords) (k * rowWords) t) ∙ ap (λ (m : List ℕ). drop (n * rowWords) m) e)
 
-rows-at : (t : List ℕ) (k : ℕ) (f : Forest) (more : List ℕ) → drop (k * rowWords) t ≡ rowsOf f ++ more → RowsAt t k f
+rows-at : (t : List ℕ) (p k z : ℕ) (f : Forest) (more : List ℕ) → drop (k * rowWords) t ≡ rowsOf p k z f ++ more → RowsAt t k f × LinkedAt t p k z f
 unfolding rowsOf size
-rows-at t k none more e = tt
-rows-at t k (leaf kind ns ne from to rest) more e = (row-words t _ k (leafHead kind ns ne from to) e, rows-at t (k + 1) rest more (next-row t _ k 1 e))
-rows-at t k (node b ns ne from to within rest) more e =
-    let below : drop ((k + 1) * rowWords) t ≡ rowsOf within ++ (rowsOf rest ++ more) = next-row t _ k 1 e ∙ append-assoc (rowsOf within) (rowsOf rest) more in (
-      row-words t _ k (nodeHead b ns ne from to (size within)) e,
-      rows-at t (k + 1) within (rowsOf rest ++ more) below,
-      rows-at t (k + 1 + size within) rest more
-          (next-row t _ (k + 1) (size within) below
-          ∙ drop-at (rowsOf within) (rowsOf rest ++ more) (size within * rowWords) (omega (arith, rows-length within))),
-    )
+rows-at t p k z none more e = (tt, tt)
+rows-at t p k z (leaf kind ns ne from to rest) more e =
+    let (row, links) = row-words t _ k p (firstRow (k + 1) z rest) (leafHead kind ns ne from to) e in
+    let (rows, linked) = rows-at t p (k + 1) z rest more (next-row t _ k 1 e) in
+    ((row, rows), (links, linked))
+rows-at t p k z (node b ns ne from to within rest) more e =
+    let here = rowsOf k (k + 1) 0 within in
+    let behind = rowsOf p (k + 1 + size within) z rest ++ more in
+    let below : drop ((k + 1) * rowWords) t ≡ here ++ behind = next-row t _ k 1 e ∙ append-assoc here (rowsOf p (k + 1 + size within) z rest) more in
+    let beyond : drop ((k + 1 + size within) * rowWords) t ≡ behind =
+    next-row t _ (k + 1) (size within) below ∙ drop-at here behind (size within * rowWords) (omega (arith, rows-length k (k + 1) 0 within)) in
+    let (row, links) = row-words t _ k p (firstRow (k + 1 + size within) z rest) (nodeHead b ns ne from to (size within)) e in
+    let (rows1, linked1) = rows-at t k (k + 1) 0 within behind below in
+    let (rows2, linked2) = rows-at t p (k + 1 + size within) z rest more beyond in
+    ((row, rows1, rows2), (links, linked1, linked2))
 
 -- values whose rows are words of the table stand in it
-pub rows-stand : (t : List ℕ) (k : ℕ) (f : Forest) (more : List ℕ) → k * rowWords ≤ length t → drop (k * rowWords) t ≡ rowsOf f ++ more → Stands t k f
-rows-stand t k f more h e =
+pub rows-stand : (t : List ℕ) (p k z : ℕ) (f : Forest) (more : List ℕ) → k * rowWords ≤ length t → drop (k * rowWords) t ≡ rowsOf p k z f ++ more → Stands t k f
+rows-stand t p k z f more h e =
     record {
-      rows = rows-at t k f more e;
-      room = omega (arith, length-drop (k * rowWords) t, ap length e, length-append (rowsOf f) more, rows-length f);
+      rows = rows-at t p k z f more e .0;
+      room = omega (arith, length-drop (k * rowWords) t, ap length e, length-append (rowsOf p k z f) more, rows-length p k z f);
     }
+
+-- and name each other
+pub rows-linked : (t : List ℕ) (p k z : ℕ) (f : Forest) (more : List ℕ) → drop (k * rowWords) t ≡ rowsOf p k z f ++ more → LinkedAt t p k z f
+rows-linked t p k z f more e = rows-at t p k z f more e .1
 
 -- ---- the first value ----
 
@@ -190,12 +219,20 @@ stands-unique {t} {k} {end} (node b ns ne from to inside1 rest) (node b2 ns2 ne2
 
 -- ---- the table that reading leaves ----
 
-pub filled-stands : (words : ℕ) (f : Forest) → StandsTo (filled words (rowsOf f)) 0 (size f) f
-filled-stands words f = record { stands = rows-stand (filled words (rowsOf f)) 0 f (replicate (words - length (rowsOf f)) 0) (omega arith) refl; ends = omega arith }
+pub filled-stands : (words : ℕ) (f : Forest) → StandsTo (filled words (treeRows f)) 0 (size f) f
+filled-stands words f =
+    record { stands = rows-stand (filled words (treeRows f)) 0 0 0 f (replicate (words - length (treeRows f)) 0) (omega arith) refl; ends = omega arith }
+
+pub filled-linked : (words : ℕ) (f : Forest) → LinkedAt (filled words (treeRows f)) 0 0 0 f
+filled-linked words f = rows-linked (filled words (treeRows f)) 0 0 0 f (replicate (words - length (treeRows f)) 0) refl
 
 pub table-stands : {table : List ℕ} (words : ℕ) (f : Forest) (to : ℕ) → table ≡ tableOf words (good f to) → StandsTo table 0 (size f) f
 unfolding tableOf
 table-stands words f to e = rw e (filled-stands words f)
+
+pub table-linked : {table : List ℕ} (words : ℕ) (f : Forest) (to : ℕ) → table ≡ tableOf words (good f to) → LinkedAt table 0 0 0 f
+unfolding tableOf
+table-linked words f to e = rw e (filled-linked words f)
 
 -- ---- where the values start ----
 
@@ -206,7 +243,7 @@ starts-length (leaf kind ns ne from to rest) = omega (arith, starts-length rest)
 starts-length (node b ns ne from to inside rest) = simp length-append (omega (arith, starts-length inside, starts-length rest))
 
 -- the start of the i-th value from row k on, those inside others counted too, is the word of its row
-pub start-at : {t : List ℕ} {k end : ℕ} (f : Forest) → StandsTo t k end f → (i : ℕ) → i < size f → getD (startsOf f) i 0 ≡ getD t ((k + i) * rowWords + 3) 0
+pub start-at : {t : List ℕ} {k end : ℕ} (f : Forest) → StandsTo t k end f → (i : ℕ) → i < size f → getD (startsOf f) i 0 ≡ startIn t (k + i)
 unfolding startsOf size
 start-at none h i lt = absurd (omega arith)
 start-at {t} {k} {end} (leaf kind ns ne from to rest) h zero lt =

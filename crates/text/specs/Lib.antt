@@ -6,7 +6,7 @@
 --                 that value: full square, of one element; that element: simple numeral, the digit 1
 --     tree        node curly, no name, 0 to 9; inside it node square, name 2 to 3, 5 to 8; inside that leaf 4 (a number), no name, 6 to 7
 --     seats       the object: inside 0 containers, after 0 values; the array: inside 1, after 1; the number: inside 2, after 2
---     rows        kind, name start, name end, value start, value end, values below:  7 0 0 0 9 2,  6 2 3 5 8 1,  4 0 0 6 7 0
+--     rows        kind, name start, name end, value start, value end, values below, parent, next sibling:  7 0 0 0 9 2 0 0,  6 2 3 5 8 1 0 0,  4 0 0 6 7 0 1 0
 --     accepted    depth 2, values 3: with a limit of 1 on the depth the first fault is 5 at place 5, with one of 2 on the values 6 at place 6
 --     a fault     without its last brace the text has the fault 2 at place 8, its length: the eight bytes begin a text, and are none
 --     document    object of member a, written "a", whose value is array of an entry without a name, scalar 4 with the token 1
@@ -43,8 +43,10 @@ pub mod Reader
 pub mod Whole
 pub mod Fewer
 pub mod Doc
--- what the layers above rely on: the rows in a table, the first of some values, the promise
+-- what the layers above rely on: the rows in a table and how they name each other, the first of some values, the promise
+pub mod Words
 pub mod Standing
+pub mod Kin
 pub mod Firsts
 pub mod Promised
 -- documents that are the same

@@ -8,6 +8,7 @@ use lib.ListN.{length}
 use Rattle.text.specs.Limits.{Limits}
 use Rattle.text.specs.Tree.{square, Forest, none, size}
 use Rattle.text.specs.Standing.{StandsTo}
+use Rattle.text.specs.Kin.{Kinship}
 use Rattle.text.specs.Firsts.{HasFirst, restAt}
 use Rattle.text.specs.Placed.{Placed}
 use Rattle.text.specs.Doc.{docOf}
@@ -22,7 +23,8 @@ pub record Promised (L : Limits) (t : List ℕ) (f : Forest) : Type 0 where
   pub short : length t ≤ L .bytes
   pub few : size f ≤ L .values
 
--- the same, and the rows of the tree are those of the table, n of them
+-- the same, and the rows of the tree are those of the table, n of them, and name each other as its values stand
 pub record Filled (L : Limits) (t table : List ℕ) (n : ℕ) (f : Forest) : Type 0 where
   pub promised : Promised L t f
   pub stands : StandsTo table 0 n f
+  pub kin : Kinship table f

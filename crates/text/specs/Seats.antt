@@ -7,7 +7,7 @@ use Rattle.laws.specs.Lists.{partOf}
 use Rattle.text.specs.Spelling.{Spells}
 use Rattle.text.specs.Forest.{Bracket, bracketKind, Forest, none, leaf, node, size, join}
 
--- a value without what is inside it: may it hold others (is it an array or an object)? and the six words of its row
+-- a value without what is inside it: may it hold others (is it an array or an object)? and the words that its row says of it by itself
 pub record Head : Type 0 where
   pub holds : Bool
   pub kind : ℕ

@@ -3,25 +3,26 @@
 use Prim.Native.Nat.{ℕ, _+_, _*_, _≤_}
 use mathlib.Core.Path.{_≡_}
 use mathlib.Core.List.{List}
-use lib.ListN.{length, getD}
+use lib.ListN.{length}
 use Rattle.text.specs.Limits.{rowWords}
+use Rattle.text.specs.Words.{kindIn, nameStartIn, nameEndIn, startIn, endIn, belowIn}
 use Rattle.text.specs.Tree.{Forest, none, leaf, node, size}
 use Rattle.text.specs.Seats.{Head, leafHead, nodeHead}
 
--- row k of the table is the row of the value h: six words, in this order
+-- row k of the table says of the value h, in six words, what it is by itself; its parent and its next sibling follow (specs/Kin.antt)
 pub record RowAt (table : List ℕ) (k : ℕ) (h : Head) : Type 0 where
   -- kind
-  pub kind : getD table (k * rowWords + 0) 0 ≡ h .kind
+  pub kind : kindIn table k ≡ h .kind
   -- name start, after the quote
-  pub name-start : getD table (k * rowWords + 1) 0 ≡ h .ns
+  pub name-start : nameStartIn table k ≡ h .ns
   -- name end, without the quote
-  pub name-end : getD table (k * rowWords + 2) 0 ≡ h .ne
+  pub name-end : nameEndIn table k ≡ h .ne
   -- value start
-  pub start : getD table (k * rowWords + 3) 0 ≡ h .from
+  pub start : startIn table k ≡ h .from
   -- value end, exclusive
-  pub finish : getD table (k * rowWords + 4) 0 ≡ h .to
+  pub finish : endIn table k ≡ h .to
   -- number of values below it
-  pub below : getD table (k * rowWords + 5) 0 ≡ h .below
+  pub below : belowIn table k ≡ h .below
 
 -- from row k of the table on stand the rows of the values, one beside the other, each before those of what is inside it
 abbrev pub RowsAt : (table : List ℕ) (k : ℕ) → Forest → Type 0

@@ -26,7 +26,7 @@ slice-aggregate-run-4 : tie.Need-slice-aggregate-run-4
 slice-aggregate-run-4 c = sym (length-replicate {0} {A = ℕ} 1050000 0)
 
 slice-aggregate-run-5 : tie.Need-slice-aggregate-run-5
-slice-aggregate-run-5 c = sym (length-replicate {0} {A = ℕ} 196700 0)
+slice-aggregate-run-5 c = sym (length-replicate {0} {A = ℕ} 262200 0)
 
 pub main-spec : {M : Type 1} → statement M
 main-spec =

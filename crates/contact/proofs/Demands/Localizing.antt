@@ -6,6 +6,7 @@ use mathlib.Core.Bool.{true}
 use mathlib.Core.Logic.{_⊎_, _↔_}
 use mathlib.Core.List.{List}
 use lib.ListN.{length}
+use Rattle.text.specs.Whole.{tableOf}
 use Rattle.text.specs.Limits.{Limits}
 use Rattle.text.specs.Text.{bytes}
 use Rattle.text.specs.Tree.{Forest}
@@ -13,6 +14,7 @@ use Rattle.text.specs.Sheet.{numbers}
 use Rattle.text.specs.Grammar.{rootOf}
 use Rattle.text.specs.Doc.{Name, Doc, Members, docOf}
 use Rattle.text.specs.Writing.{written}
+use Rattle.text.proofs.Readable.{readable-good}
 use Rattle.text.proofs.Readback.Documents.{text-shorter}
 use Rattle.text.proofs.Grammar.Accepted.{accepts}
 use Rattle.contact.specs.Verdict.{refusedCard, Judged, passed, failed, judgedOf, sheetOfJudged, paperOfVerdict}
@@ -77,7 +79,7 @@ module _ (L : Limits) (unique : L .unique ≡ true) (words room : ℕ) (t : List
     of-doc o e = sym (passed-so L words room t lang f pass) ∙ e
 
     localization : (text : List ℕ) (g : Forest) → outcome ≡ done text g → Localization L (served L) words room t f lang
-    unfolding served sheetOfOutcome paperOfLocalized answerOfOutcome tableOfOutcome outputOfOutcome
+    unfolding served sheetOfOutcome paperOfLocalized answerOfOutcome tableOfOutcome outputOfOutcome tableOf
     localization text g e =
         let c : AcceptedCard L words room place (docOf t f) lang text g = accepted-iff L words room place (docOf t f) lang text g .0 (of-doc (done text g) e) in
         let ms : Members = c .members in
@@ -95,6 +97,7 @@ module _ (L : Limits) (unique : L .unique ≡ true) (words room : ℕ) (t : List
           card = k;
           says = read-documents L words text g (k .readable) (k .document) .0 (k .says) ∙ ap₂ docOf (a .writes) tree ∙ w .writes .back .says;
           left = rw e;
+          as-read = rw (e, readable-good L words text g (k .readable));
         }
 
     pub localize-patched : Passes (served L) (localize t lang words room) → Localization L (served L) words room t f lang

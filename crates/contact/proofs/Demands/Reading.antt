@@ -9,7 +9,7 @@ use lib.ListN.{length}
 use Rattle.laws.specs.Lists.{filled}
 use Rattle.laws.proofs.Branches.{if-less}
 use Rattle.text.specs.Limits.{Limits, rowWords}
-use Rattle.text.specs.Tree.{Forest, size, rowsOf}
+use Rattle.text.specs.Tree.{Forest, size, treeRows}
 use Rattle.text.specs.Reader.{Read, good, bad}
 use Rattle.text.specs.Seats.{Head, Seat, top, Sits}
 use Rattle.text.specs.Standing.{RowAt}
@@ -21,7 +21,7 @@ use Rattle.text.specs.Promised.{Filled}
 use Rattle.text.specs.Fault.{FaultAt, grammar, violated, FirstFault, RowsShort, long, faulty, short}
 use Rattle.text.specs.declared.Refusal.{Refusal}
 use Rattle.text.specs.declared.Refusal.the-variants.{TooLong, Grammar, Character, Repeated, Deep, Many, Small}
-use Rattle.text.proofs.Promise.{filled-stands, promised, whole-bad}
+use Rattle.text.proofs.Promise.{filled-stands, filled-linked, promised, fills, whole-bad}
 use Rattle.text.proofs.Grammar.Rules.{wrong-number, breaks-wrong}
 use Rattle.text.proofs.Grammar.Accepted.{accepts}
 use Rattle.text.proofs.Grammar.Refused.{refuses, too-long}
@@ -49,13 +49,13 @@ module _ (L : Limits) (words : ℕ) (t : List ℕ) where
       go R (denies {r = r} u) e = absurd (omega (arith, line-of (text-line r)))
       go R (reads {f = f} r) e = (f, r)
 
-  pub read-rows : (f : Forest) → Readable L words t f → served L (read t words) ≡ leaves (numbers 0 (size f) 0) (filled words (rowsOf f)) []
+  pub read-rows : (f : Forest) → Readable L words t f → served L (read t words) ≡ leaves (numbers 0 (size f) 0) (filled words (treeRows f)) []
   unfolding served sheetOf tableOf
   read-rows f r = rw (readable-good L words t f r)
 
   pub read-describes : (f : Forest) → Readable L words t f → Filled L t (served L (read t words) .table) (size f) f
   read-describes f r =
-      rw (read-rows f r) (record { promised = promised L t f (length t) (accepts L t f .1 (r .accepts)); stands = filled-stands words f })
+      rw (read-rows f r) (fills (promised L t f (length t) (accepts L t f .1 (r .accepts))) (filled-stands words f) (filled-linked words f))
 
   pub read-words : (f : Forest) → Readable L words t f → (d : Seat) (h : Head) → Sits top f d h → RowAt (served L (read t words) .table) (d .after) h
   read-words f r d h i = row-at (served L (read t words) .table) f (read-describes f r .stands .stands) d h i

@@ -14,7 +14,7 @@ use Rattle.json.proofs.read.read_whole.Tie as tie
 gone : (v : tie.After-v2)
     → let a = v .before .before .before .before .before .before .before .before .before .before .before .before .before .args in
     let R = valueAt (limitsIn (a .names .now)) (a .text .now) (base .depth) 0 0 (skip (a .text .now) 0) 0 in
-    Gone R (a .text .now) (skip (a .text .now) 0) 0 (a .table .now) (v .before .before .before .before .before .before .read-value .last .1 .0) (v .v2 .given .0 .0) (v .v2 .given .0 .1 .0)
+    Gone 0 R (a .text .now) (skip (a .text .now) 0) 0 (a .table .now) (v .before .before .before .before .before .before .read-value .last .1 .0) (v .v2 .given .0 .0) (v .v2 .given .0 .1 .0)
 gone v = rw (v .v2 .given .1, v .before .before .before .before .before .before .before .before .before .skip .ensures) at (v .before .before .before .before .before .before .read-value .ensures .0)
 
 read-value-requires : tie.Need-read-value-requires

@@ -1,4 +1,5 @@
--- `json::rows::put_row` meets its contract: six stores in a row are `sets`. Assumes nothing.
+-- `json::rows::put_row` meets its contract: stores in a row are `sets`. Assumes nothing.
+use mathlib.Core.Path.{refl}
 use native.Mathlib.Omega.{arith}
 use native.Mathlib.Numerals.{towards-suc}
 use lib.ListN.{length-set}
@@ -24,6 +25,15 @@ slice-write-table-5 c = simp length-set (omega arith)
 slice-write-table-6 : tie.Need-slice-write-table-6
 slice-write-table-6 c = simp length-set (omega arith)
 
+slice-write-table-7 : tie.Need-slice-write-table-7
+slice-write-table-7 c = simp length-set (omega arith)
+
+slice-write-table-8 : tie.Need-slice-write-table-8
+slice-write-table-8 c = simp length-set (omega arith)
+
+same-length-2 : tie.Need-same-length-2
+same-length-2 c = simp length-set refl
+
 returns-2 : tie.Need-returns-2
 returns-2 c = simp towards-suc
 
@@ -34,4 +44,4 @@ put-row-spec =
     (λ c. search needs) (λ c. search needs) (λ c. search needs) (λ c. search needs) slice-write-table-2 (λ c. search needs) (λ c. search needs)
     (λ c. search needs) slice-write-table-3 (λ c. search needs) (λ c. search needs) (λ c. search needs) slice-write-table-4 (λ c. search needs)
     (λ c. search needs) (λ c. search needs) slice-write-table-5 (λ c. search needs) (λ c. search needs) (λ c. search needs) slice-write-table-6
-    (λ c. search needs) returns-2)
+    (λ c. search needs) (λ c. search needs) slice-write-table-7 (λ c. search needs) (λ c. search needs) slice-write-table-8 same-length-2 returns-2)

@@ -1,7 +1,7 @@
 -- The needs of `read_container`. Assumes nothing.
 use native.Mathlib.Omega.{arith}
 use Prim.Native.Nat.{ℕ, _+_, _-_}
-use mathlib.Core.Path.{refl}
+use mathlib.Core.Path.{_≡_, refl}
 use mathlib.Core.List.{List}
 use lib.Dec.{ltb}
 use lib.ListN.{length}
@@ -72,13 +72,14 @@ module _ (t : ℕ) where
   settles : (z : Settled)
       → let k = inner z in
       let a = start k .args in
-      Took (settle (firstRepeat (tailAt (a .text .now) 1) (names k)) (inside k)) (a .text .now) (a .at + 1) (a .count + 1) (a .table .now) (k .read-items .last .1 .0) (z .settle .result)
+      Took (a .count) (settle (firstRepeat (tailAt (a .text .now) 1) (names k)) (inside k)) (a .text .now) (a .at + 1) (a .count + 1) (a .table .now) (k .read-items .last .1 .0) (z .settle .result)
   settles z =
       let k = inner z in
       let a = start k .args in
       let g = k .read-items in
-      took-settles (a .text .now) (slice (a .top) (g .result .end) (g .last .1 .1 .0)) (names k) (inside k) (a .at + 1) (a .count + 1) (a .table .now) (g .last .1 .0)
-      (g .result .read) (z .settle .result) (z .settle .ensures .is) (g .ensures .added .is) (g .ensures .took)
+      let own : a .count + 1 - 1 ≡ a .count = omega arith in
+      took-settles (a .count) (a .text .now) (slice (a .top) (g .result .end) (g .last .1 .1 .0)) (names k) (inside k) (a .at + 1) (a .count + 1) (a .table .now) (g .last .1 .0)
+      (g .result .read) (z .settle .result) (z .settle .ensures .is) (g .ensures .added .is) (rw own at (g .ensures .took))
 
   pub close-requires : lts.Need-close-requires (calls t) (at of-container t) container.Post
   close-requires c κs =
@@ -86,7 +87,7 @@ module _ (t : ℕ) where
       let k = inner z in
       let a = start k .args in
       let p = start k .pre .1 in (
-        closable (settle (firstRepeat (tailAt (a .text .now) 1) (names k)) (inside k)) (a .text .now) (a .at + 1) (a .count) (a .table .now) (k .read-items .last .1 .0) (z .settle .result)
+        closable (a .count) (settle (firstRepeat (tailAt (a .text .now) 1) (names k)) (inside k)) (a .text .now) (a .at + 1) (a .count) (a .table .now) (k .read-items .last .1 .0) (z .settle .result)
             (omega (arith, p .0 .store .short)) (settles z),
         omega (arith, kind-fits (bracketOf (a .of)), c .kind-in .ensures, p .0 .store .short, p .0 .few, p .1 .starts, p .1 .ends),
       )

@@ -4,7 +4,7 @@ use Prim.Native.Nat.{ℕ}
 use Rattle.text.specs.Reader.{valueAt}
 use Rattle.json.specs.Readers.{limitsIn, ItemRead}
 use Rattle.json.specs.declared.members.ItemStart.the-variants.{At, Wrong}
-use Rattle.json.proofs.Ways.{value-some}
+use Rattle.json.proofs.Ways.{value-one}
 use Rattle.json.proofs.Store.{store-room, store-kept, added-kept}
 use Rattle.json.proofs.Closing.{took-from, took-further}
 use Rattle.json.proofs.containers.item_at.Reads as item-at-reads
@@ -83,7 +83,7 @@ module _ (t : ℕ) where
         took = λ done. rw (k .is L (a .depth) (a .count) done)
             (took-from R (a .text .now) (a .at) from (a .count) (a .table .now) (v .last .1 .0) (v .result) (i .later) took);
         further =
-            took-further R (a .text .now) from (a .count) top (a .table .now) (v .last .1 .0) (v .result) (value-some L (a .text .now) (g .0) (g .1 .0) from (a .count) (a .depth))
+            took-further R (a .text .now) from (a .count) top (a .table .now) (v .last .1 .0) (v .result) (value-one L (a .text .now) (g .0) (g .1 .0) from (a .count) (a .depth))
             (omega (arith, p .fewer, i .one)) (omega (arith, p .spread, i .spread)) took;
         added = added-kept (k .added) (v .last .1 .1 .0) (v .kept .1 .1 .0) (v .ensures .1);
       }

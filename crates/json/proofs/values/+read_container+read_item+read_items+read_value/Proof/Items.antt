@@ -14,6 +14,7 @@ use Rattle.text.proofs.Grammar.Sound.{byte-closing}
 use Rattle.repeats.specs.Closed.{asideName}
 use Rattle.json.specs.Readers.{limitsIn, Added, Took, Gone, Further, bracketOf, itemOf}
 use Rattle.json.specs.declared.values.Progress.the-variants.{Next}
+use Rattle.json.proofs.Ways.{OneValue, item-one}
 use Rattle.json.proofs.Store.{store-kept}
 use Rattle.json.proofs.Closing.{took-next, took-stop, further-next}
 use Rattle.json.proofs.Items.{Upto, Open, inside-none, names-none, upto-none, upto-length, upto-stop, stop-names, upto-bad, bad-names, upto-done, done-names, upto-more, more-later}
@@ -23,19 +24,20 @@ use Rattle.json.proofs.values.+read_container+read_item+read_items+read
 use Rattle.json.proofs.containers.closing.Reads as closing-reads
 use Rattle.json.proofs.tokens.skip.Reads as skip-reads
 use Rattle.json.proofs.bytes.peek.Reads as peek-reads
+use Rattle.json.proofs.rows.link.Reads as link-reads
 use Rattle.json.proofs.values.+read_container+read_item+read_items+read_value.Proof.Measures.{at, below, of-item, of-items}
 
 abbrev pub Inv-loop : lts.InvT-loop
-Inv-loop text table₀ names₀ depth top of from first z start b at₀ count₀ end₀ table names at count end =
-    Upto text (asideName (limitsIn names₀) text (bracketOf of)) (itemOf (limitsIn names₀) of text depth) (closing (bracketOf of)) start first top table₀ names₀ at count end table names
+Inv-loop text table₀ names₀ depth top of from first z start b parent at₀ count₀ end₀ table names at count end =
+    Upto parent text (asideName (limitsIn names₀) text (bracketOf of)) (itemOf (limitsIn names₀) of text depth) (closing (bracketOf of)) start first top table₀ names₀ at count end table names
 
 abbrev pub μ-loop : lts.MeasureT-loop
-μ-loop text table₀ names₀ depth top of from first z start b at₀ count₀ end₀ table names at count end = length text - at
+μ-loop text table₀ names₀ depth top of from first z start b parent at₀ count₀ end₀ table names at count end = length text - at
 
 -- what is known of the functions that it calls
 abbrev pub calls : ℕ → lts.Claims
 calls t =
-    (closing-reads.Asked, closing-reads.Learnt, skip-reads.Asked, skip-reads.Learnt, peek-reads.Asked, peek-reads.Learnt, below of-item t, item.Post)
+    (closing-reads.Asked, closing-reads.Learnt, skip-reads.Asked, skip-reads.Learnt, peek-reads.Asked, peek-reads.Learnt, below of-item t, item.Post, link-reads.Asked, link-reads.Learnt)
 
 module _ (t : ℕ) where
   abbrev Start : Type 0
@@ -93,11 +95,17 @@ module _ (t : ℕ) where
   told : (v : Item)
       → let a = start v .args in
       let l = loop v .loop in
-      ((done : Forest) → Took (item-of (start v) done (l .at) (l .count)) (a .text .now) (l .at) (l .count) (l .table) (v .read-item .last .1 .0) (v .read-item .result .read))
+      ((done : Forest) → Took 0 (item-of (start v) done (l .at) (l .count)) (a .text .now) (l .at) (l .count) (l .table) (v .read-item .last .1 .0) (v .read-item .result .read))
       × Added (own-of (start v) (l .at)) (l .end) (l .names) (v .read-item .result .end) (v .read-item .last .1 .1 .0)
   told v =
       let long = loop v .loop .inv .added .long in
       (rw long at (v .read-item .ensures .took), rw long at (v .read-item .ensures .added))
+
+  alone : (v : Item) → let l = loop v .loop in OneValue (item-of (start v) (l .inv .done) (l .at) (l .count))
+  alone v =
+      let a = start v .args in
+      let l = loop v .loop in
+      item-one (limitsIn (a .names .now)) (a .of) (a .text .now) (a .depth) (l .inv .done) (l .at) (l .count)
 
   -- by the case that was matched
   abbrev Read : Type 0
@@ -116,7 +124,7 @@ module _ (t : ℕ) where
       → let v = item-at r in
       let a = start v .args in
       let l = loop v .loop in
-      Gone (item-of (start v) (l .inv .done) (l .at) (l .count)) (a .text .now) (l .at) (l .count) (l .table) (v .read-item .last .1 .0) (to r) (after r)
+      Gone 0 (item-of (start v) (l .inv .done) (l .at) (l .count)) (a .text .now) (l .at) (l .count) (l .table) (v .read-item .last .1 .0) (to r) (after r)
   gone r =
       let v = item-at r in
       let a = start v .args in
@@ -147,7 +155,7 @@ module _ (t : ℕ) where
       let p = s .pre .1 in
       let x = c .before .before .skip in
       record {
-        took = inside-none (a .text .now) (own-of s) (item-of s) (bracketOf (a .of)) (a .from) (x .result) (a .first) (x .ensures) (empty c) (a .table .now) (p .inside) (p .few);
+        took = inside-none (a .text .now) (own-of s) (item-of s) (bracketOf (a .of)) (a .from) (x .result) (a .first) (x .ensures) (empty c) (a .table .now) (p .inside) (p .few) (a .first - 1);
         added = names-none (a .text .now) (own-of s) (item-of s) (bracketOf (a .of)) (a .from) (x .result) (a .first) (x .ensures) (empty c) (a .top) (a .names .now) (p .held);
       }
 
@@ -193,27 +201,43 @@ module _ (t : ℕ) where
       let e = took-stop (item-of (start v) (u .done) (l .at) (l .count)) (a .text .now) (l .at) (l .count) (l .table) (v .read-item .last .1 .0) (told v .0 (u .done)) (o .1) in
       record { took = rw (o .1) (upto-stop u (opening (opened v)) e); added = stop-names u (told v .1) (opening (opened v)) e }
 
+  -- the item's row gets its parent, and no sibling
+  pub link-requires : lts.Need-link-requires (calls t) (at of-items t) items.Post Inv-loop μ-loop
+  link-requires c κs =
+      let v = item-at (c .before .before .before .before .before) in
+      omega (arith, loop v .loop .inv .few, start v .pre .1 .few)
+
+  -- the place where it has it
+  abbrev Closed : Type 0
+  Closed = lts.After-slice-known5 (calls t) (at of-items t) items.Post Inv-loop μ-loop
+
+  abbrev closed : Closed → Last
+  closed c = c .before .before .before .before
+
+  abbrev item-closed : Closed → Read
+  item-closed c = closed c .before .before .before .before
+
   pub add-next-2 : lts.Need-add-next-2 (calls t) (at of-items t) items.Post Inv-loop μ-loop
   add-next-2 c =
-      let a = start (item-at (c .before .before .before .before)) .args in
-      let k = byte-closing (bracketOf (a .of)) in
-      let i = inside (a .text .now) (c .before .before .skip2 .result) (omega (arith, last c)) in omega (arith, start (item-at (c .before .before .before .before)) .pre .1 .store .short)
+      let s = start (item-at (item-closed c)) in
+      let k = byte-closing (bracketOf (s .args .of)) in
+      let i = inside (s .args .text .now) (closed c .before .before .skip2 .result) (omega (arith, last (closed c))) in omega (arith, s .pre .1 .store .short)
 
   pub same-length-3 : lts.Need-same-length-3 (calls t) (at of-items t) items.Post Inv-loop μ-loop
-  same-length-3 c = kept (item-at (c .before .before .before .before))
+  same-length-3 c = c .before .before .link .kept .0 ∙ kept (item-at (item-closed c))
 
   pub same-length-4 : lts.Need-same-length-4 (calls t) (at of-items t) items.Post Inv-loop μ-loop
-  same-length-4 c = kept-names (item-at (c .before .before .before .before))
+  same-length-4 c = kept-names (item-at (item-closed c))
 
   pub returns-3 : lts.Need-returns-3 (calls t) (at of-items t) items.Post Inv-loop μ-loop
   returns-3 c =
-      let r = c .before .before .before .before in
+      let r = item-closed c in
       let v = item-at r in
       let u = loop v .loop .inv in
-      let x = c .before .before .skip2 in
+      let x = closed c .before .before .skip2 in
       record {
-        took = upto-done u (gone r) (x .result) (x .ensures) (opening (opened v)) (last c) (start v .pre .1 .inside) (byte-closing (bracketOf (start v .args .of)));
-        added = done-names u (gone r) (x .result) (x .ensures) (opening (opened v)) (last c) (told v .1);
+        took = upto-done u (gone r) (x .result) (x .ensures) (opening (opened v)) (last (closed c)) (alone v) (c .before .before .link .ensures) (start v .pre .1 .inside) (byte-closing (bracketOf (start v .args .of)));
+        added = done-names u (gone r) (x .result) (x .ensures) (opening (opened v)) (last (closed c)) (told v .1);
       }
 
   pub same-length-5 : lts.Need-same-length-5 (calls t) (at of-items t) items.Post Inv-loop μ-loop
@@ -237,26 +261,51 @@ module _ (t : ℕ) where
         added = bad-names u (gone r) (x .result) (x .ensures) (opening (opened v)) no-end no-comma (told v .1);
       }
 
-  pub add-skip : lts.Need-add-skip (calls t) (at of-items t) items.Post Inv-loop μ-loop
-  add-skip c = let i = inside (start (item-at (c .before .before .before .before .before)) .args .text .now) (c .before .before .before .skip2 .result) (omega arith) in omega (arith, start (item-at (c .before .before .before .before .before)) .pre .1 .store .short)
+  -- the item's row gets its parent and its next sibling
+  pub link-requires-2 : lts.Need-link-requires-2 (calls t) (at of-items t) items.Post Inv-loop μ-loop
+  link-requires-2 c κs =
+      let r = c .before .before .before .before .before .before in
+      let v = item-at r in
+      omega (arith, loop v .loop .inv .few, start v .pre .1 .few, gone r .few)
 
   -- where a comma stands after an item
   abbrev Comma : Type 0
-  Comma = lts.After-skip3 (calls t) (at of-items t) items.Post Inv-loop μ-loop
+  Comma = lts.Else3 (calls t) (at of-items t) items.Post Inv-loop μ-loop
 
-  no-end : (c : Comma) → let s = start (item-at (c .before .before .before .before .before .before)) in byteAt (s .args .text .now) (c .before .before .before .before .skip2 .result) ≡ z s → ⊥
-  no-end c q = c .before .before .if2 .left (c .before .before .before .peek2 .ensures .0 ∙ q ∙ sym (shut (item-at (c .before .before .before .before .before .before))))
+  abbrev item-before : Comma → Read
+  item-before c = c .before .before .before .before .before
+
+  no-end : (c : Comma) → let s = start (item-at (item-before c)) in byteAt (s .args .text .now) (c .before .before .before .skip2 .result) ≡ z s → ⊥
+  no-end c q = c .before .if2 .left (c .before .before .peek2 .ensures .0 ∙ q ∙ sym (shut (item-at (item-before c))))
+
+  there : (c : Comma) → byteAt (start (item-at (item-before c)) .args .text .now) (c .before .before .before .skip2 .result) ≡ 44
+  there c = omega (arith, c .if3 .left, c .before .before .peek2 .ensures .0)
+
+  pub add-skip : lts.Need-add-skip (calls t) (at of-items t) items.Post Inv-loop μ-loop
+  add-skip c =
+      let m = c .before .before .before .before in
+      let s = start (item-at (item-before m)) in
+      let i = inside (s .args .text .now) (m .before .before .before .skip2 .result) (omega arith) in omega (arith, s .pre .1 .store .short)
+
+  -- the place where the next item starts
+  abbrev Next-item : Type 0
+  Next-item = lts.After-skip3 (calls t) (at of-items t) items.Post Inv-loop μ-loop
+
+  abbrev comma : Next-item → Comma
+  comma c = c .before .before .before .before .before
 
   pub loop-less : lts.Need-loop-less (calls t) (at of-items t) items.Post Inv-loop μ-loop
   loop-less c =
-      let r = c .before .before .before .before .before .before in
-      let x = c .before .before .before .before .skip2 in
-      let m = more-later (loop (item-at r) .loop .inv) (gone r) (x .result) (x .ensures) (no-end c) (omega arith) (c .skip3 .result) (c .skip3 .ensures) in
+      let r = item-before (comma c) in
+      let x = comma c .before .before .before .skip2 in
+      let m = more-later (loop (item-at r) .loop .inv) (gone r) (x .result) (x .ensures) (no-end (comma c)) (there (comma c)) (c .skip3 .result) (c .skip3 .ensures) in
       omega arith
 
   pub loop-again : lts.Need-loop-again (calls t) (at of-items t) items.Post Inv-loop μ-loop
   loop-again c =
-      let r = c .before .before .before .before .before .before in
+      let r = item-before (comma c) in
       let v = item-at r in
-      let x = c .before .before .before .before .skip2 in
-      upto-more (loop v .loop .inv) (gone r) (x .result) (x .ensures) (no-end c) (omega arith) (c .skip3 .result) (c .skip3 .ensures) (told v .1) (further r)
+      let x = comma c .before .before .before .skip2 in
+      let u = loop v .loop .inv in
+      upto-more u (gone r) (x .result) (x .ensures) (no-end (comma c)) (there (comma c)) (c .skip3 .result) (c .skip3 .ensures) (alone v)
+      (c .before .before .before .link2 .ensures) (told v .1) (further r)
