@@ -4,28 +4,28 @@
  *
  * A caller's duties
  *
- *   pointers  Each is good for as many elements as its length says: bytes for `text`, `language` and `out`, 32-bit words for `table`, three
- *             64-bit words for `answer`. It is aligned for its type and not null, also where the length is 0.
+ *   pointers  Each is good for as many elements as its length says: bytes for `text`, `piece`, `language` and `out`, 32-bit words for `table`, nine of
+ *             them for `state`, three 64-bit words for `answer`. It is aligned for its type and not null, also where the length is 0.
  *   lengths   Count elements, not bytes: a table of one row has table_len 8. No text needs a NUL at its end; a NUL inside is a byte like any other.
- *   overlap   What is written (`table`, `out`, `answer`) shares no byte with any other buffer. `text` and `language` are only read: the language
- *             may lie inside the text.
+ *   overlap   What is written (`table`, `out`, `state`, `answer`) shares no byte with any other buffer. `text`, `piece` and `language` are only read: the
+ *             language may lie inside the text.
  *   threads   While a call runs, no other thread writes what it reads, or uses what it writes.
  *   stack     There is as much as the constants below say, which is less for a short text. What a signal handler takes of the same stack comes on top.
  *
  * Nothing else is asked. Any bytes and any lengths are answered, and nothing need be tested beforehand: a text that is too long, a table or an output
- * that is too small (of length 0 too) is a refusal like any other. What was lent as `text` isn't trusted, and isn't changed.
+ * that is too small (of length 0 too) is a refusal like any other. What was lent as `text` or `piece` isn't trusted, and isn't changed.
  *
  * What a call does
  *
- *   It ends and leaves one answer, which hangs on the bytes read and on the lengths alone. No memory is allocated, nothing is kept after the call and
- *   there is no state between calls, so calls from several threads, with buffers of their own, don't touch each other. How long a call takes is not
- *   promised.
+ *   It ends and leaves one answer, which hangs on the bytes read and on the lengths alone, for reading in pieces on its nine words too; only the start of
+ *   reading in pieces has no answer. No memory is allocated, nothing else is kept after the call and there is no other state between calls, so calls from
+ *   several threads, with buffers of their own, don't touch each other. How long a call takes is not promised.
  *
  *   answer[0]   0, or the refusal's number
- *   answer[1]   the row count, or the refusal's second number
- *   answer[2]   the bytes written by localizing; 0 after reading, after judging and after any refusal
+ *   answer[1]   the row count, or the refusal's second number; of reading in pieces what is said below
+ *   answer[2]   the bytes written by localizing; 0 after reading, whole or in pieces, after judging and after any refusal
  *
- *   All three words are always written, and so is every word of the table and every byte of the output:
+ *   All three words are always written, and so is every word of the table, every byte of the output and every word of the state:
  *   after a refusal     all of the table and all of the output is zero;
  *   after acceptance    the table begins with answer[1] rows of eight words, the output with answer[2] bytes; the rest of both is zero.
  */
@@ -51,9 +51,12 @@ extern "C" {
 #define BEZINKOL_TABLE_WORDS (BEZINKOL_ROW_WORDS * BEZINKOL_MAX_VALUES)
 #define BEZINKOL_ANSWER_WORDS 3
 
+/* The words that reading in pieces keeps from call to call. */
+#define BEZINKOL_PIECES_WORDS 9
+
 /* The bytes of stack that a call needs, for any text and for one of at most BEZINKOL_SHORT_BYTES bytes. By the frames of the machine code for x86-64 of this
- * kit (rattle-kit-5b) no call takes more than 287 KiB for reading and judging and 340 KiB for localizing, and for a short text no more than 31, 44 and 58
- * KiB: what is said here is more by 33 KiB or more, for short texts by 9, 12 and 6. tests/c counts them again (frames.py), measures calls at the limits (stack.c), and
+ * kit (rattle-kit-5b) no call takes more than 289 KiB for reading and judging and 340 KiB for localizing, and for a short text no more than 33, 44 and 58
+ * KiB: what is said here is more by 31 KiB or more, for short texts by 7, 12 and 6; reading in pieces takes 512 bytes. tests/c counts them again (frames.py), measures calls at the limits (stack.c), and
  * fails where it is more than is said here; another kit may write other machine code. */
 #define BEZINKOL_READ_STACK 327680
 #define BEZINKOL_JUDGE_STACK 327680
@@ -62,6 +65,7 @@ extern "C" {
 #define BEZINKOL_READ_STACK_4K 40960
 #define BEZINKOL_JUDGE_STACK_4K 57344
 #define BEZINKOL_LOCALIZE_STACK_4K 65536
+#define BEZINKOL_PIECES_STACK 1024
 
 /* The words of a row. There is one row a value, parents before children, in the order of the text; row 0 is the root. Places count bytes from 0, from the
  * start of the text that was read (of the output, after localizing); ends are exclusive. The root and the elements of arrays have the name 0, 0.
@@ -96,12 +100,12 @@ enum {
 };
 
 /* The refusal sheet: what answer[0] says, and what answer[1] then is. There are no other numbers: 34 is the program's own.
- * Reading gives 1 to 7, judging 11 to 14 too, localizing all. Which one comes first where several things are wrong: docs/REFUSALS.md. A name says its
- * refusal's case in the sources (`Value`, `Inner`), with a word more where that alone would say too little.
+ * Reading gives 1 to 7, judging 11 to 14 too, localizing all, reading in pieces 1, 2, 3, 5 and 6. Which one comes first where several things are wrong:
+ * docs/REFUSALS.md. A name says its refusal's case in the sources (`Value`, `Inner`), with a word more where that alone would say too little.
  * Of 22 to 26, answer[1] is a place in what was lent as `text`: the opening quote of the patch's key that is at fault, as it is written there. Of several
  * keys that break the condition this is the smallest in byte order, with JSON's escapes undone, and ~0 and ~1 not. */
 enum {
-    BEZINKOL_OK = 0,                 /* accepted; the row count */
+    BEZINKOL_OK = 0,                 /* accepted; the row count. Of a piece: go on */
     BEZINKOL_TOO_LONG = 1,           /* text over 1,048,576 bytes; 0 */
     BEZINKOL_GRAMMAR = 2,            /* not RFC 8259; the first byte that can't continue, or the text's length */
     BEZINKOL_CHARACTER = 3,          /* bad UTF-8, a lone surrogate, a noncharacter; its first byte */
@@ -134,6 +138,24 @@ void bezinkol_judge(const uint8_t *text, size_t text_len, uint32_t *table, size_
  * the card text; the localized card has no more. */
 void bezinkol_localize(const uint8_t *text, size_t text_len, const uint8_t *language, size_t language_len, uint8_t *out, size_t out_len,
                        uint32_t *table, size_t table_len, uint64_t answer[BEZINKOL_ANSWER_WORDS]);
+
+/* Reads a text that comes in pieces of any length, as from a wire, and keeps none of it: `start` begins a text, `take` is given its bytes piece by piece,
+ * `end` is told that there are no more. Beside the duties above:
+ *
+ *   answer    Of a piece: 0, 0, 0 is "go on". A refusal comes with the first byte after which it is certain whatever follows, and has its place in the
+ *             whole text; the caller may hang up. Of the end: 0, the number of values, 0, or a refusal. However the text is cut, the answers agree.
+ *             An empty piece changes no word that a `start`, `take` or `end` left. Nor does any `take` or `end` after a refusal or the end, which gives
+ *             the same answer again; only a `start` begins anew.
+ *   numbers   1, 2, 3, 5 and 6. The byte behind the last that a text may have gives 1, unless a refusal was certain before it. 4 and 7 are never given,
+ *             since names aren't compared and there is no table: a text that is accepted here may still be refused by bezinkol_read, with 4 or 7.
+ *   text      It leaves no rows and no byte of the text. What is to be judged later the caller has to keep, and lends as a whole.
+ *   state     Nine words that the caller keeps, aligned, and that no other thread uses while a call runs. They need not be cleared, since `start` writes
+ *             all of them. There is no pointer in them: memcpy makes a copy, and each goes on by itself. Words that no `start`, `take` or `end` left
+ *             mean some state too (docs/RULES.md, 9.6), and a call with them ends and answers; but what it then says is about no text.
+ *   stack     BEZINKOL_PIECES_STACK bytes, whatever the piece. */
+void bezinkol_pieces_start(uint32_t state[BEZINKOL_PIECES_WORDS]);
+void bezinkol_pieces_take(uint32_t state[BEZINKOL_PIECES_WORDS], const uint8_t *piece, size_t piece_len, uint64_t answer[BEZINKOL_ANSWER_WORDS]);
+void bezinkol_pieces_end(uint32_t state[BEZINKOL_PIECES_WORDS], uint64_t answer[BEZINKOL_ANSWER_WORDS]);
 
 #ifdef __cplusplus
 }

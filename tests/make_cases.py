@@ -7,19 +7,20 @@ With `--check` it only compares.
 import os
 import sys
 
+import make_feeding
 import make_judging
 import make_localizing
 import make_program
 import make_reading
 from store import ROOT, lines_of
 
-SERVICES = {"reading": make_reading, "judging": make_judging, "localizing": make_localizing, "program": make_program}
+SERVICES = {"reading": make_reading, "judging": make_judging, "localizing": make_localizing, "program": make_program, "feeding": make_feeding}
 LIMIT = 1550000  # the program's input buffer is larger by fifty thousand bytes
 
 # the numbers of the sheet that each service can answer, and those that can stand second in 28
 SHEET = {
     "reading": range(8), "judging": [*range(8), *range(11, 15)], "localizing": [*range(8), *range(11, 15), *range(21, 29)],
-    "program": [0, *range(2, 8), *range(11, 15), 34]}
+    "program": [0, *range(2, 8), *range(11, 15), 34], "feeding": [0, 1, 2, 3, 5, 6]}
 INSIDE = (5, 11, 12, 13, 14)
 
 

@@ -7,10 +7,12 @@ import sys
 from store import ROOT
 
 import intake
+from pieces import told
 from reading import MOST_WORDS
 from rulings import MUST
 
 ROW = re.compile(r"^\| (read|judge|localize) \| (.*) \| (.*) \|$", re.M)
+IN_PIECES = re.compile(r"^\| pieces \| (.*) \| (.*) \| (.*) \|$", re.M)
 PIECE = re.compile(r"(?:([\d,]+) × )?`([^`]*)`")
 LENT = re.compile(r", (?:(table) of (\d+) words|(output) of (\d+) bytes|(language) `([^`]*)`)$")
 
@@ -36,6 +38,10 @@ def case_of(said):
     return text, words, len(text) if room is None else room, language
 
 
+def counted(number, name):
+    return f"{number} {name}" + "s" * (number != 1)
+
+
 def answer_of(service, text, words, room, language):
     """An answer in the page's words."""
     if service == "localize":
@@ -43,14 +49,25 @@ def answer_of(service, text, words, room, language):
     else:
         number, second, _ = getattr(intake, service)(text, words)
     if number == 0:
-        return bytes(output[:written]) if service == "localize" else f"{second} row" + "s" * (second != 1)
+        return bytes(output[:written]) if service == "localize" else counted(second, "row")
     return f"{number} at {second}" if 2 <= number <= 14 and number != 7 or 22 <= number <= 26 else f"{number}, {second}"
 
 
+def answer_in_pieces(text):
+    """What reading in pieces answers, and after how many bytes, in the page's words."""
+    number, second, after = told(text)
+    answer = f"{number} at {second}" if number > 1 else f"1, {second}" if number else counted(second, "value")
+    return f"{answer}, after {counted(after, 'byte') if after else 'the end'}"
+
+
 def examples(page):
-    """Each example: its service, its case, and the answer that the page gives."""
+    """Each example: its service, its text, the answer, and the one that the page gives."""
     for service, said, wanted in ROW.findall(page):
-        yield service, case_of(said), bytes_of(wanted.strip("`")) if wanted.startswith("`") else wanted
+        case = case_of(said)
+        yield service, case[0], answer_of(service, *case), bytes_of(wanted.strip("`")) if wanted.startswith("`") else wanted
+    for said, wanted, after in IN_PIECES.findall(page):
+        text = case_of(said)[0]
+        yield "pieces", text, answer_in_pieces(text), f"{wanted}, after {after}"
 
 
 def missing(page):
@@ -68,12 +85,11 @@ def main():
     for name in missing(page):
         faults += 1
         print(f"{name} is nowhere")
-    for service, case, wanted in examples(page):
-        answer = answer_of(service, *case)
+    for service, text, answer, wanted in examples(page):
         count += 1
         if answer != wanted:
             faults += 1
-            print(f"{service} {case[0][:200]!r}: the page says {wanted}, answered {answer}")
+            print(f"{service} {text[:200]!r}: the page says {wanted}, answered {answer}")
     print(f"rules: {count} examples, {faults} faults")
     return 1 if faults or not count else 0
 

@@ -10,6 +10,7 @@ import sys
 
 ROOT = os.path.dirname(os.path.dirname(os.path.abspath(__file__)))
 sys.path.insert(0, os.path.join(ROOT, "tests", "second"))
+import pieces
 from judging import judge
 from localizing import told
 from program import WORDS, said
@@ -18,12 +19,12 @@ from reading import MOST_WORDS, Refused, read, tree
 FAR = 24  # a run, or a part of the base text, at least so long is written shorter
 LONG = 300  # of a text that is so long, or whose base text is, any part may be a copy
 SHOWN = 400  # a shorter localized card is in the answer itself
-SERVICES = ("reading", "judging", "localizing", "program")
+SERVICES = ("reading", "judging", "localizing", "program", "feeding")
 SHORT = 4096  # a text with fewer bytes has at most 2,048 values: so many rows are WORDS
 
 # A call: the service, the words of the lent table and the text; localizing has the bytes of the lent output and the language too. The program has a table
-# of WORDS words, and is given nothing but an input.
-Case = collections.namedtuple("Case", "service words text room language", defaults=(0, b""))
+# of WORDS words, and is given nothing but an input. Feeding is reading in pieces: it has no table, and lengths of pieces.
+Case = collections.namedtuple("Case", "service words text room language sizes", defaults=(0, b"", ()))
 
 # A case as it is stored: its number from 1 on, the call, the line with what is wanted, and the lines of the base text (or "") and of the case.
 Stored = collections.namedtuple("Stored", "number case wanted base line")
@@ -165,6 +166,8 @@ def line_of(case, base=b""):
         return "%%%02x" % ord(text[0]) + text[1:] if text[:1] in ("!", "@") else text or "%*0,1;"
     if case.service == "localizing":
         return f"{case.words} {case.room} {noted(case.language).replace(' ', '%20')} {text}"
+    if case.service == "feeding":
+        return f"{','.join(map(str, case.sizes))} {text}"
     return f"{case.words} {text}"
 
 
@@ -176,6 +179,8 @@ def case_of(service, line, base=b""):
     if service == "program":
         return Case(service, WORDS, unpacked(line, base))
     words, text = line.split(" ", 1)
+    if service == "feeding":
+        return Case(service, 0, unpacked(text, base), sizes=tuple(map(int, words.split(","))))
     return Case(service, int(words), unpacked(text, base))
 
 
@@ -183,12 +188,23 @@ def told_of(case):
     """What the second implementation answers: (number, second, written, the place inside 28, table, output)."""
     if case.service == "localizing":
         return told(case.text, case.language, case.words, case.room)
+    if case.service == "feeding":
+        return *pieces.told(case.text)[:2], 0, 0, [], b""
     number, second, table = {"reading": read, "judging": judge, "program": said}[case.service](case.text, case.words)
     return number, second, 0, 0, table, b""
 
 
+def fed(case):
+    """The line of reading in pieces: the answer, how many bytes have come with the piece that brings it, first of the whole as one piece, and that it stays."""
+    number, second, after = pieces.told(case.text)
+    came = [min(-(-after // size) * size, len(case.text)) for size in (len(case.text) or 1, *case.sizes)]
+    return " ".join(map(str, (number, second, *came, 1)))
+
+
 def answer_of(case):
     """The same as the line that is stored."""
+    if case.service == "feeding":
+        return fed(case)
     number, second, written, inner, table, output = told_of(case)
     if case.service != "localizing":
         return f"{number} {second} {sum_of(table)}"

@@ -1,7 +1,8 @@
 """Runs the wrong programs: each must-fail edit of the code below `cases_run` is applied to a copy, and the copy's program, unproved, must miss a case that
 tests/second/duds.py has against it: python3 tests/try_duds.py [CRATE/EDIT ..]
 
-It takes some minutes and isn't part of tests/run. Edits of definitions make no program, and those of `bezinkol` are in no program of the kit.
+It takes some minutes and isn't part of tests/run. The reader in pieces is in no program of the kit, so the copy has one for it. Edits of definitions make no
+program, and those of `bezinkol` are in none.
 """
 import glob
 import os
@@ -14,10 +15,49 @@ import tempfile
 from store import ROOT, Case, answer_of, line_of
 
 from duds import DUDS, UNSEEN
+from pieces import Pieces
+from rulings import END
 
 CALLED = {"read": "reading", "judge": "judging", "localize": "localizing", "program": "program"}
-CRATES = ("laws", "unicode", "json", "answers", "formats", "pointers", "patch", "card", "desk")
+CRATES = ("laws", "unicode", "json", "pieces", "answers", "formats", "pointers", "patch", "card", "desk")
 WORDS = 600  # of a table: the interpreter takes so many steps and no more
+
+# A line of its input is a piece, `.` the end, and an empty one a start; for each it writes what is answered.
+IN_PIECES = """use pieces::reader::end;
+use pieces::reader::said;
+use pieces::reader::start;
+use pieces::reader::take;
+use wire::Held;
+
+fn call(held: Held, line: &[u8]) -> Held {
+    if line.len() == 0 {
+        return start();
+    }
+    if line[0] == b'.' {
+        return end(held);
+    }
+    take(held, line)
+}
+
+fn main() {
+    let mut input = io::buffer();
+    let size = io::read_full(0, &mut input);
+    let mut held = start();
+    let mut from = 0;
+    let mut at = 0;
+    while at < size {
+        if input[at] == b'\\n' {
+            held = call(held, &input[from..at]);
+            from = at + 1;
+            io::print_decimal(1, said(held).number);
+            io::write_all(1, b" ");
+            io::print_decimal(1, said(held).second);
+            io::write_all(1, b"\\n");
+        }
+        at = at + 1;
+    }
+}
+"""
 
 
 def code_edits():
@@ -34,15 +74,18 @@ def code_edits():
 
 def cases_against(edit):
     for edits, case, _ in DUDS:
-        if edit in edits.split():
+        if edit in edits.split() and case["service"] == "pieces":
+            yield Case("pieces", 0, case["calls"])
+        elif edit in edits.split():
             extra = (case["room"], case["language"]) if case["service"] == "localize" else ()
             words = case["words"] if case["service"] == "program" else min(case["words"], WORDS)
             yield Case(CALLED[case["service"]], words, case["text"], *extra)
 
 
 def batches(cases):
-    """The cases by runs: an input of the program takes many of the interpreter's steps, and has a run of its own."""
-    yield [case for case in cases if case.service != "program"]
+    """The cases by runs: an input of the program takes many of the interpreter's steps, and has a run of its own; reading in pieces has its own program."""
+    yield [case for case in cases if case.service == "pieces"]
+    yield [case for case in cases if case.service not in ("program", "pieces")]
     yield from ([case] for case in cases if case.service == "program")
 
 
@@ -51,11 +94,24 @@ def write(path, text):
         file.write(text)
 
 
+def in_pieces(calls):
+    """The lines of some calls, and the answers."""
+    reader, lines, answers = Pieces(), "\n", "0 0\n"
+    for call in calls:
+        lines += ".\n" if call == END else call.decode("latin-1") + "\n"
+        answers += "%d %d\n" % (reader.end() if call == END else reader.take(call))
+    return lines, answers
+
+
 def run(room, cases):
-    """Runs the copy's program on some cases."""
-    write(os.path.join(room, "crates", "cases_run", "stdin"), "".join(f"@{case.service}\n{line_of(case)}\n" for case in cases))
-    write(os.path.join(room, "crates", "cases_run", "stdout"), "".join(answer_of(case) + "\n" for case in cases))
-    return subprocess.run(["rt", "try", "cases_run"], cwd=room, stdin=subprocess.DEVNULL, capture_output=True, check=False)
+    """Runs a program of the copy on some cases."""
+    if cases and cases[0].service == "pieces":
+        name, said = "in_pieces", [in_pieces(case.text) for case in cases]
+    else:
+        name, said = "cases_run", [(f"@{case.service}\n{line_of(case)}\n", answer_of(case) + "\n") for case in cases]
+    write(os.path.join(room, "crates", name, "stdin"), "".join(lines for lines, _ in said))
+    write(os.path.join(room, "crates", name, "stdout"), "".join(answers for _, answers in said))
+    return subprocess.run(["rt", "try", name], cwd=room, stdin=subprocess.DEVNULL, capture_output=True, check=False)
 
 
 def told(room, edit, path, pairs):
@@ -77,6 +133,10 @@ def main(wanted):
     with tempfile.TemporaryDirectory() as room:
         shutil.copytree(os.path.join(ROOT, "crates"), os.path.join(room, "crates"))
         shutil.copy(os.path.join(ROOT, "crates.txt"), room)
+        os.makedirs(os.path.join(room, "crates", "in_pieces", "src"))
+        write(os.path.join(room, "crates", "in_pieces", "src", "main.rt"), IN_PIECES)
+        with open(os.path.join(room, "crates.txt"), "a", encoding="utf-8") as file:
+            file.write("in_pieces: wire pieces io\n")
         tried = [one for one in code_edits() if one[0] not in UNSEEN and (not wanted or one[0] in wanted)]
         for cases in batches([case for edit, _, _ in tried for case in cases_against(edit)]):
             if run(room, cases).returncode:

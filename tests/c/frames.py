@@ -117,6 +117,11 @@ def main(archive, header):
             print(f"tests/c: bezinkol_{service} can take {most} bytes of stack for {which} by its frames; the header says {said}")
             if said < most:
                 raise SystemExit("tests/c: that is more than the header says")
+    said = int(re.search(r"BEZINKOL_PIECES_STACK (\d+)", text)[1])
+    most = max(8 + deepest("bezinkol_pieces_" + call, frames, {}) for call in ("start", "take", "end"))
+    print(f"tests/c: reading in pieces can take {most} bytes of stack by its frames; the header says {said}")
+    if said < most:
+        raise SystemExit("tests/c: that is more than the header says")
 
 
 main(*sys.argv[1:])

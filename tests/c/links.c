@@ -3,6 +3,7 @@
  * With `read` it reads texts of its own first: some whose rows a person has counted, and some made by chance, up to the limits. Then it makes the calls of
  * the stored cases, and of each that accepts it looks at the rows that are left. */
 #include "cases.h"
+#include "chance.h"
 
 static const struct text {
     const char *text;
@@ -88,37 +89,6 @@ static int read_own(const char *text, size_t size, size_t rows) {
     free(lent_text);
     if (answer[0] || (rows && answer[1] != rows)) return wrong("a text of the test is refused, or has other rows", (size_t)answer[1]);
     return check(table, BEZINKOL_TABLE_WORDS, answer[1]);
-}
-
-static uint64_t state = 9;
-
-static uint32_t dice(uint32_t below) {
-    state = state * 6364136223846793005u + 1442695040888963407u;
-    return (uint32_t)(state >> 33) % below;
-}
-
-/* Writes a text of so many values by chance; before each of them a container ends one time in `ends`, and maybe another: the fewer end, the deeper it
- * gets. Returns its length. */
-static size_t by_chance(char *out, size_t values, uint32_t ends) {
-    static const char *const leaves[] = {"0", "null", "\"\"", "[]", "{}", "-1.5"};
-    char close[BEZINKOL_MAX_DEPTH];
-    size_t size = 0, depth = 0;
-    int first = 1;
-    out[size++] = '[', close[depth++] = ']';
-    for (size_t i = 1; i < values; i++) {
-        while (depth > 1 && dice(ends) == 0) out[size++] = close[--depth], first = 0;
-        if (!first) out[size++] = ',';
-        if (close[depth - 1] == '}') size += (size_t)sprintf(out + size, "\"%zu\":", i);
-        first = depth < BEZINKOL_MAX_DEPTH && dice(2);
-        if (first) {
-            int object = (int)dice(2);
-            out[size++] = object ? '{' : '[', close[depth++] = object ? '}' : ']';
-        } else {
-            size += (size_t)sprintf(out + size, "%s", leaves[dice(depth < BEZINKOL_MAX_DEPTH ? 6 : 3)]);
-        }
-    }
-    while (depth) out[size++] = close[--depth];
-    return size;
 }
 
 static int own_texts(void) {

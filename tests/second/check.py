@@ -3,9 +3,10 @@ import sys
 
 import intake
 from duds import ASKED, DUDS
+from pieces import Pieces
 from program import said
 from reading import ROW_WORDS
-from rulings import LINKED, OK, RULINGS, SPECIMENS, whole
+from rulings import END, LINKED, OK, RULINGS, SPECIMENS, whole
 
 
 def answer(case):
@@ -13,6 +14,9 @@ def answer(case):
     if case["service"] == "localize":
         number, second, written, table, output = intake.localize(case["text"], case["language"], case["words"], case["room"])
         return number, second, table, output[:written] if number == 0 else output
+    if case["service"] == "pieces":
+        reader = Pieces()
+        return *[reader.end() if call == END else reader.take(call) for call in case["calls"]][-1], [], b""
     number, second, table = (said if case["service"] == "program" else getattr(intake, case["service"]))(case["text"], case["words"])
     return number, second, table, b""
 

@@ -3,9 +3,11 @@
 `OTHER` stands for other rows, other bytes or another sum, with the same first two numbers. An edit that no call shows is in UNSEEN, with the reason.
 tests/docs.py sees that every must-fail edit is here.
 """
-from rulings import OK, RULINGS, SPECIMENS, judge, localize, program, read, whole
+from reading import MOST_BYTES
+from rulings import END, OK, RULINGS, SPECIMENS, judge, localize, pieces, program, read, whole
 
 OTHER = "other contents"
+GO_ON = (0, 0)  # what a piece answers while nothing is certain
 GIVEN = b'"name":{"full":"A","components":[{"kind":"given","value":"A"}]}'
 
 
@@ -137,6 +139,29 @@ DUDS = [
     ("pointers/escaped_tilde_alone", localize(patch(rb'"\u007e1":2', b',"/":1'), b'{..,"/":2}'), b'{..,"/":1,"/":2}'),
     ("pointers/tilde_cut_off", localize(patch(rb'"aaaaaaaa~0":1,"aaaaaaaa~1":1,"aaaaaaaa\u007e0/x":1'), (24, 66)), (26, 96)),
     ("patch/slash_at_the_end", localize(patch(TOGETHER + rb',"w\/r":1', b',"w":{}'), b'{..,"w":{' + b",".join(b'"%c":1' % c for c in b"abcdefghijklmnopqr") + b"}}"), (26, 209)),
+    # reading in pieces: when a refusal is certain, and which
+    ("wire/surrogate_bytes_awaited", pieces(b'"\xed\xa0', wanted=(3, 1)), GO_ON),
+    ("wire/low_awaited", pieces(rb'"\uD800\u0', wanted=(3, 1)), GO_ON),
+    ("wire/high_refused_at_once", pieces(rb'"\uD800', wanted=GO_ON), (3, 1)),
+    ("wire/half_escape_is_3", pieces(rb'"\uDC0x', wanted=(2, 6)), (3, 1)),
+    ("wire/e0_with_90", pieces(b'"\xe0\x90\x80"', END, wanted=(3, 1)), (0, 1)),
+    ("wire/number_never_ends", pieces(b"1e5", END, wanted=(0, 1)), (2, 3)),
+    ("wire/six_for_five", pieces(b"[" * 65, wanted=(5, 64)), (6, 64)),
+    ("wire/one_byte_more", pieces(b" " * MOST_BYTES, b" ", wanted=(1, 0)), GO_ON),
+    ("wire/limit_measured", pieces(b"x" + b" " * MOST_BYTES, wanted=(2, 0)), (1, 0)),
+    ("wire/names_measured", pieces(b'{"a":1,"a":2}', END, wanted=(0, 3)), (4, 7)),
+    # and what is kept between two calls
+    ("wire/second_end_otherwise", pieces(b"1", END, END, wanted=(0, 1)), (2, 1)),
+    ("wire/answer_forgotten", pieces(b"1", END, END, wanted=(0, 1)), GO_ON),
+    ("wire/end_leaves_open", pieces(b"1", END, b"x", wanted=(0, 1)), (2, 1)),
+    ("wire/refusal_changed", pieces(b"x", b"1", wanted=(2, 0)), (1, 0)),
+    ("wire/odd_words_accepted", pieces(b"[x", END, wanted=(2, 1)), (0, 1)),
+    ("wire/odd_words_are_7", pieces(b"[x", END, wanted=(2, 1)), (7, 1)),
+    ("wire/bracket_turned", pieces(b"[", b"]", END, wanted=(0, 1)), (2, 1)),
+    ("pieces/piece_ends_text", pieces(b"[1", b"2]", END, wanted=(0, 2)), (2, 2)),
+    ("pieces/run_inside_escape", pieces(rb'{"a\nb":1}', END, wanted=(0, 2)), (2, 10)),
+    ("pieces/outermost_bit_lost", pieces(b'{"a":' + b"[" * 63 + b"]" * 63 + b"}", END, wanted=(0, 64)), (2, 131)),
+    ("bezinkol/halves_swapped", pieces(b'{"a"', b":1}", END, wanted=(0, 2)), (2, 6)),
     # the program
     ("desk/buffer_one_more", program(b" " * 65537, (34, 0)), (2, 65537)),
     ("desk/long_text_cut desk/cut_by_definition", program(b"{..}" + b" " * 65494, (34, 0)), OK),

@@ -8,6 +8,7 @@ from reading import MOST_DEPTH, MOST_WORDS
 
 MUST = b'"@type":"Card","version":"1.0","uid":"u1"'
 OK = "accepted"
+END = "the end"
 
 
 def whole(text):
@@ -36,6 +37,11 @@ def localize(text, wanted, **more):
 def program(text, wanted):
     """The program's line for an input; the table is its own."""
     return case("program", text, wanted, words=WORDS)
+
+
+def pieces(*calls, wanted):
+    """Reading in pieces: what is given piece by piece, or END, and what the last call answers. Wanted is (number, second), "go on" (0, 0)."""
+    return {**case("pieces", b"".join(call for call in calls if call != END), wanted, words=0), "calls": calls}
 
 
 def grown(first, last):

@@ -1,17 +1,19 @@
 -- From a call of the C functions to the demands (specs/Called.antt):
 --     each-call      one call leaves what the definitions say
 --     called         services that keep the contracts meet the demands
---     one-outcome    two outcomes that a contract allows are equal
+--     one-outcome    two outcomes that a contract allows are equal, and so of the reader in pieces `one-kept`
 -- Assumes nothing.
 use mathlib.Core.Path.{_≡_, sym, fun-ext, subst, _∙_}
 use Rattle.text.specs.Limits.{base}
 use Rattle.text.specs.Sheet.{numbers}
 use Rattle.text.specs.declared.Paper.{Paper}
-use Rattle.contact.specs.Services.{leaves, served}
+use Rattle.wire.specs.Promise.{Kept, Wire}
+use Rattle.wire.specs.Service.{wired}
+use Rattle.contact.specs.Services.{Call, Left, leaves, served}
 use Rattle.contact.specs.Demands.{Demands}
 use Rattle.contact.proofs.Demands.{base-demands}
-use Rattle.bezinkol.specs.Answer.{answerWords}
-use Rattle.bezinkol.specs.Called.{Called, EachCall, OneOutcome}
+use Rattle.bezinkol.specs.Answer.{answerWords, Keeps}
+use Rattle.bezinkol.specs.Called.{Called, EachCall, OneOutcome, OneKept}
 
 -- the three words tell the answer
 same-paper : (p q : Paper) → answerWords p ≡ answerWords q → p ≡ q
@@ -24,11 +26,21 @@ same-paper p q e =
 pub each-call : EachCall
 each-call c answer table output s = let paper = same-paper answer (served base c .answer) (s .answered) in λ i. leaves (paper i) (s .rows i) (s .bytes i)
 
+-- a call of the reader in pieces
+each-kept : (k l : Kept) → Keeps l (answerWords (k .answer)) (k .words) → k ≡ l
+each-kept k l s = let paper = same-paper (k .answer) (l .answer) (s .answered) in λ i. record { words = s .kept i; answer = paper i }
+
 -- call by call they leave what `served` does, so they are the services of which the demands are shown
 pub called : Called
-called serve keeps =
-    let same : serve ≡ served base = fun-ext (λ c. each-call c (serve c .answer) (serve c .table) (serve c .output) (keeps c)) in
-    subst (Demands base) (sym same) base-demands
+called serve wire keeps =
+    let same : serve ≡ served base = fun-ext (λ c. each-call c (serve c .answer) (serve c .table) (serve c .output) (keeps .serves c)) in
+    let taken : wire .take ≡ wired base .take = fun-ext (λ words. fun-ext (λ piece. each-kept (wire .take words piece) (wired base .take words piece) (keeps .takes words piece))) in
+    let ended : wire .end ≡ wired base .end = fun-ext (λ words. each-kept (wire .end words) (wired base .end words) (keeps .ends words)) in
+    let alike : wire ≡ wired base = λ i. record { start = keeps .starts i; take = taken i; end = ended i } in
+    subst (λ (w : Wire). Demands base serve w) (sym alike) (subst (λ (s : Call → Left). Demands base s (wired base)) (sym same) base-demands)
 
 pub one-outcome : OneOutcome
 one-outcome c a b x y o q s r = (s .answered ∙ sym (r .answered), s .rows ∙ sym (r .rows), s .bytes ∙ sym (r .bytes))
+
+pub one-kept : OneKept
+one-kept k a b w v s r = (s .answered ∙ sym (r .answered), s .kept ∙ sym (r .kept))

@@ -1,22 +1,27 @@
--- From a call of the C functions to the demands: what is shown of services by the contracts of `bezinkol_read`, `bezinkol_judge` and `bezinkol_localize`
--- alone. proofs/Called.antt proves the three statements. Nothing is asked of a call: a text from C is any list of bytes, and a table and an output have any
--- length. Assumes nothing: these are definitions.
+-- From a call of the C functions to the demands: what is shown of services by the contracts of `bezinkol_read`, `bezinkol_judge` and `bezinkol_localize`, and
+-- of a reader in pieces by those of its three functions, alone. proofs/Called.antt proves the statements. Nothing is asked of a call: a text from C is any list
+-- of bytes, a table and an output have any length, and the words of a reader in pieces are any. Assumes nothing: these are definitions.
 use mathlib.Core.Path.{_≡_}
 use Prim.Native.Nat.{ℕ}
 use mathlib.Core.List.{List}
 use Rattle.text.specs.Limits.{base}
 use Rattle.text.specs.declared.Paper.{Paper}
+use Rattle.wire.specs.Promise.{Kept, Wire}
+use Rattle.wire.specs.Service.{wired}
 use Rattle.contact.specs.Services.{Call, Left, leaves, served}
 use Rattle.contact.specs.Demands.{Demands}
-use Rattle.bezinkol.specs.Answer.{answerWords, Serves}
+use Rattle.bezinkol.specs.Answer.{answerWords, Serves, Keeps}
 
 -- what each call leaves is what the contract of its C function allows
-abbrev pub KeepsContracts : (Call → Left) → Type 0
-KeepsContracts serve = (c : Call) → Serves c (answerWords (serve c .answer)) (serve c .table) (serve c .output)
+pub record KeepsContracts (serve : Call → Left) (wire : Wire) : Type 0 where
+  pub serves : (c : Call) → Serves c (answerWords (serve c .answer)) (serve c .table) (serve c .output)
+  pub starts : wire .start ≡ wired base .start
+  pub takes : (words piece : List ℕ) → Keeps (wired base .take words piece) (answerWords (wire .take words piece .answer)) (wire .take words piece .words)
+  pub ends : (words : List ℕ) → Keeps (wired base .end words) (answerWords (wire .end words .answer)) (wire .end words .words)
 
--- any services that keep the contracts meet the three demands, with the limits of docs/RULES.md, 3.1
+-- any services that keep the contracts meet the demands, with the limits of docs/RULES.md, 3.1
 abbrev pub Called : Type 0
-Called = (serve : Call → Left) → KeepsContracts serve → Demands base serve
+Called = (serve : Call → Left) (wire : Wire) → KeepsContracts serve wire → Demands base serve wire
 
 -- The same of one call, whatever others leave: it leaves what the definitions say, of which the demands hold (`base-demands`, crate contact). So nothing
 -- hangs on calls that C can't make, as of a list with numbers past 255.
@@ -26,3 +31,7 @@ EachCall = (c : Call) (answer : Paper) (table output : List ℕ) → Serves c (a
 -- two outcomes that the contract of a C function allows are equal: the three words, the table and the output
 abbrev pub OneOutcome : Type 0
 OneOutcome = (c : Call) (a b x y o q : List ℕ) → Serves c a x o → Serves c b y q → (a ≡ b) × (x ≡ y) × (o ≡ q)
+
+-- the same of a call of the reader in pieces: the three words of the answer and the nine of the state
+abbrev pub OneKept : Type 0
+OneKept = (k : Kept) (a b w v : List ℕ) → Keeps k a w → Keeps k b v → (a ≡ b) × (w ≡ v)

@@ -4,6 +4,7 @@
 //   CASE    in the form that the service's module says; a line is written for it
 // and texts are in the notation of `lines`.
 mod buffers;
+mod feeding;
 mod lines;
 mod localizing;
 mod program;
@@ -18,6 +19,7 @@ enum Service {
     Judging,
     Localizing,
     Program,
+    Feeding,
     Unknown,
 }
 
@@ -32,6 +34,7 @@ fn named(name: &[u8]) -> Service {
         b'j' => Service::Judging,
         b'l' => Service::Localizing,
         b'p' => Service::Program,
+        b'f' => Service::Feeding,
         _ => Service::Unknown,
     }
 }
@@ -50,6 +53,7 @@ fn case_of(
         Service::Judging => reading::case_of(true, line, base, text, table),
         Service::Localizing => localizing::case_of(line, base, text, out, table),
         Service::Program => program::case_of(line, base, text, table),
+        Service::Feeding => feeding::case_of(line, base, text),
         Service::Unknown => {
             io::write_all(1, b"no service\n");
         }

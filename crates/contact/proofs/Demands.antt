@@ -1,13 +1,15 @@
--- The three demands hold (specs/Demands.antt): `demands`, and with the limits of docs/RULES.md, 3.1, `base-demands`.
+-- The demands hold (specs/Demands.antt): `demands`, and with the limits of docs/RULES.md, 3.1, `base-demands`.
 --     Sheet         the refusals and the lines of the sheet
 --     Reading       demand 2
 --     Localizing    demand 3
 --     AnyOrder      judging and localizing, of the entries of a PatchObject in another order
+--     Pieces        the measure of reading in pieces
 -- Assumes nothing.
 pub mod Sheet
 pub mod Reading
 pub mod Localizing
 pub mod AnyOrder
+pub mod Pieces
 use Prim.Native.Nat.{ℕ, _-_, _*_, _≤_}
 use native.Mathlib.Nat.{sub-zero}
 use native.Mathlib.Omega.{arith}
@@ -30,6 +32,8 @@ use Rattle.text.proofs.Spelling.Codes.{utf8-table}
 use Rattle.text.proofs.NewNames.{spelled-name}
 use Rattle.text.proofs.Rows.{row-filled, one-value}
 use Rattle.text.proofs.Promise.{tree-length, whole-good}
+use Rattle.wire.specs.Service.{wired}
+use Rattle.wire.proofs.Promise.{in-pieces}
 use Rattle.contact.specs.Verdict.{Judged, passed, failed, judgedOf, sheetOfJudged, tableOfJudged, paperOfVerdict}
 use Rattle.contact.specs.Localize.{Outcome, done, denied, localizedOf, sheetOfOutcome, tableOfOutcome, outputOfOutcome, answerOfOutcome, paperOfLocalized}
 use Rattle.contact.specs.Places.{keyPlace}
@@ -49,6 +53,7 @@ use Rattle.contact.proofs.Patching.Readback.{passed-text}
 use Rattle.contact.proofs.Demands.Sheet.{OnLine, on-line, text-line, card-line, local-line}
 use Rattle.contact.proofs.Demands.Reading.{card-passed, passed-card, read-passes, read-rows, read-describes, read-words, read-long, read-fault, read-short, judge-unread, judge-passes, judge-rows, judge-offends}
 use Rattle.contact.proofs.Demands.AnyOrder.{order-number, order-served, order-allowed}
+use Rattle.contact.proofs.Demands.Pieces.{pieces-as-read, pieces-rows}
 use Rattle.contact.proofs.Demands.Localizing.{of-doc, localize-own, localize-patched, localize-accepted, localize-would, localize-refused, localize-key, refused-answer, localize-again, localize-room, localize-inner}
 
 -- ---- demand 1
@@ -104,9 +109,9 @@ module _ (L : Limits) (unique : L .unique ≡ true) where
   all-ends (judge t words) = judge-ends t words
   all-ends (localize t lang words room) = localize-ends t lang words room
 
-  -- ---- all three
+  -- ---- all of them
 
-  pub demands : Demands L (served L)
+  pub demands : Demands L (served L) (wired L)
   unfolding served
   demands = record {
     every-call = record {
@@ -158,8 +163,13 @@ module _ (L : Limits) (unique : L .unique ≡ true) where
       judged-again = λ t lang words room f c. localize-again L unique words room t lang f (card-passed L words t f c);
       inner = λ t lang words room. localize-inner L unique words room t lang;
     };
+    reading-in-pieces = record {
+      as-read = λ t words. pieces-as-read L t words;
+      rows-aside = λ t words. pieces-rows L t words;
+      in-pieces = in-pieces L;
+    };
   }
 
 -- with the limits of docs/RULES.md, 3.1
-pub base-demands : Demands base (served base)
+pub base-demands : Demands base (served base) (wired base)
 base-demands = demands base refl

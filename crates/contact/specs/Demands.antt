@@ -1,5 +1,6 @@
--- The three demands, sentence by sentence, of what services answer and leave: `Demands`. `serve` says what each call leaves. proofs/Demands.antt proves
--- them of `served` (specs/Services.antt) for all limits that refuse repeated names, and for those of docs/RULES.md, 3.1.
+-- The three demands, sentence by sentence, of what services answer and leave: `Demands`. `serve` says what each call leaves, `wire` what the reader in pieces
+-- does with the words that its caller keeps. proofs/Demands.antt proves them of `served` (specs/Services.antt) and of `wired` (crate wire, specs/Service.antt) for all
+-- limits that refuse repeated names, and for those of docs/RULES.md, 3.1.
 --
 -- A service is called with whatever bytes, words and lengths there are, and that its code ends is part of its proof. No public function has a
 -- `requires`, so nothing is tested beforehand: the contracts give the answer, the table and the output of `served` for every call, and so the
@@ -20,7 +21,7 @@ use Rattle.text.specs.Text.{bytes, Codes}
 use Rattle.text.specs.Tree.{Forest, size, treeRows}
 use Rattle.text.specs.Seats.{Head, Seat, top, Sits}
 use Rattle.text.specs.Standing.{RowAt}
-use Rattle.text.specs.Sheet.{numbers}
+use Rattle.text.specs.Sheet.{numbers, paper}
 use Rattle.text.specs.declared.Paper.{Paper}
 use Rattle.text.specs.Utf8.{utf8, Utf8}
 use Rattle.text.specs.Whole.{Reads}
@@ -32,6 +33,8 @@ use Rattle.text.specs.Fault.{FirstFault, RowsShort}
 use Rattle.text.specs.Promised.{Filled}
 use Rattle.text.specs.Writing.{written, spelled, SpelledName}
 use Rattle.text.specs.declared.Reading.{Reading}
+use Rattle.wire.specs.Measure.{measure}
+use Rattle.wire.specs.Promise.{Wire, InPieces}
 use Rattle.contact.specs.Pointer.{Pointer, pointerOf, find}
 use Rattle.contact.specs.PointerText.{PointerText}
 use Rattle.contact.specs.Patch.{Entry}
@@ -260,10 +263,22 @@ pub record Localizing (L : Limits) (serve : Call → Left) : Type 0 where
   pub inner : (t : List ℕ) (lang : Name) (words room number : ℕ) → serve (localize t lang words room) .answer ≡ numbers 28 number 0
       → (number ≡ 5) ⊎ Within 11 14 number
 
--- ---- all three
+-- ---- reading in pieces (02, Req 10): demands 1 and 2 of a reader that keeps no text
 
--- the three demands, under the limits L, of services that leave what `serve` says
-pub record Demands (L : Limits) (serve : Call → Left) : Type 0 where
+pub record ReadingInPieces (L : Limits) (serve : Call → Left) (wire : Wire) : Type 0 where
+  -- Its measure (`measure`) is whole reading without 1, 4 and 7: where reading gives none of these it says the same, refusal or number of values; ..
+  pub as-read : (t : List ℕ) (words : ℕ) → (a : Paper) → serve (read t words) .answer ≡ a → (a .number ≡ 1 → ⊥) → (a .number ≡ 4 → ⊥) → (a .number ≡ 7 → ⊥)
+      → paper (measure L t) ≡ a
+  -- .. where reading gives 7, it accepts as many values as there are rows needed
+  pub rows-aside : (t : List ℕ) (words n : ℕ) → serve (read t words) .answer ≡ numbers 7 n 0 → paper (measure L t) ≡ numbers 0 n 0
+  -- what a piece and the end answer, by that measure: crate wire, specs/Promise.antt
+  pub in-pieces : InPieces L wire
+
+-- ---- all of them
+
+-- the demands, under the limits L, of services that leave what `serve` says, and of a reader in pieces
+pub record Demands (L : Limits) (serve : Call → Left) (wire : Wire) : Type 0 where
   pub every-call : EveryCall L serve
   pub reading-and-judging : ReadingAndJudging L serve
   pub localizing : Localizing L serve
+  pub reading-in-pieces : ReadingInPieces L serve wire

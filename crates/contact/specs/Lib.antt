@@ -27,6 +27,6 @@ pub mod Entries
 pub mod Conditions
 pub mod Likeness
 pub mod Patching
--- The services as a caller sees them, and the three demands. The specimens stand in a crate of their own.
+-- The services as a caller sees them, and the three demands, of reading in pieces too (crate wire). The specimens stand in a crate of their own.
 pub mod Services
 pub mod Demands

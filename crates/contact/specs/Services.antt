@@ -1,5 +1,5 @@
--- The three services as a caller sees them: what a call lends, and what it leaves: the three numbers of the answer, the whole table and the whole output.
--- The contracts of `read`, `judge` and `localize` are equations; `served` gathers their right sides under one name. Assumes nothing: these are
+-- The three services on a whole text as a caller sees them: what a call lends, and what it leaves: the three numbers of the answer, the whole table and the
+-- whole output. The contracts of `read`, `judge` and `localize` are equations; `served` gathers their right sides under one name. Assumes nothing: these are
 -- definitions. The rules: docs/RULES.md, 7.
 use Prim.Native.Nat.{ℕ}
 use mathlib.Core.List.{List, []}

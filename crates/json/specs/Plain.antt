@@ -1,11 +1,14 @@
--- Bytes of a string that stand for themselves, several at a time. Assumes nothing: these are definitions.
+-- Bytes of a string that stand for themselves, several at a time, and runs of whole characters. Assumes nothing: these are definitions.
 use Prim.Native.Nat.{ℕ, zero, suc, _+_, _-_, _*_, _/_, _%_, _≤_, _<_}
 use mathlib.Core.Path.{_≡_}
 use mathlib.Core.Bool.{Bool, true, false}
 use mathlib.Core.List.{List}
 use lib.ListN.{length, getD}
 use Rattle.text.specs.Text.{byteAt}
+use Rattle.text.specs.Chars.{stepAt, Chars}
 use Rattle.text.specs.Strings.{stringEnd}
+use Rattle.text.specs.declared.Step.the-variants.{Char}
+use Rattle.json.specs.declared.strings.Stop.{Stop}
 use Rattle.json.specs.declared.strings.Stepped.{Stepped}
 use Rattle.json.specs.declared.strings.Stepped.the-variants.{On, Done}
 
@@ -66,12 +69,17 @@ pub record AlikeRun (P : ℕ → Type 0) (s : List ℕ) (a : ℕ) (t : List ℕ)
   pub run : AlikeTo P s a t b k
   pub ends : byteAt s (a + k) ≡ byteAt t (b + k) → P (byteAt s (a + k)) → ⊥
 
--- a string ends from the later place on where it ends from the earlier one on
-pub record PlainTo (t : List ℕ) (from to : ℕ) : Type 0 where
-  pub later : from ≤ to
-  pub ends : stringEnd t to ≡ stringEnd t from
+-- whole characters stand from a place inside a string up to another, and no further one
+pub record CharsEnd (t : List ℕ) (from to : ℕ) : Type 0 where
+  pub chars : Chars t from to
+  pub ends : (code len : ℕ) → stepAt t to ≡ Char code len → ⊥
 
--- what a stretch of a string says of it: a later place from which on it ends the same, or its end
+-- how far the whole characters from a place on stand, and how the string ends from there on
+pub record Stops (t : List ℕ) (from : ℕ) (s : Stop) : Type 0 where
+  pub chars : CharsEnd t from (s .at)
+  pub token : s .token ≡ stringEnd t from
+
+-- what a stretch of a string says of it: characters up to a later place, or all there are
 abbrev pub Stretched : List ℕ → (from : ℕ) → Stepped → Type 0
-Stretched t from (On to) = (from < length t) × ((from < to) × (stringEnd t to ≡ stringEnd t from))
-Stretched t from (Done token) = token ≡ stringEnd t from
+Stretched t from (On to) = (from < length t) × ((from < to) × Chars t from to)
+Stretched t from (Done s) = Stops t from s

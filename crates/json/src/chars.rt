@@ -49,7 +49,7 @@ const RETURN_CODE: u32 = b'\r' as u32;
 const TAB_CODE: u32 = b'\t' as u32;
 
 // The value of a hexadecimal digit, or 16.
-fn digit(b: u16) -> u32
+pub fn digit(b: u16) -> u32
     ensures { λ r. ⌜ r ≡ digitOf b ⌝ }
 {
     match b {
@@ -92,7 +92,7 @@ fn hex4(text: &[u8], at: usize) -> Hex
 }
 
 // What the letter of a short escape stands for, or 0. No `match`: that becomes a jump through a table, which costs more than these tests.
-fn letter(b: u16) -> u32
+pub fn letter(b: u16) -> u32
     ensures { λ r. ⌜ r ≡ letterOf b ⌝ }
 {
     if b < SMALL_B {

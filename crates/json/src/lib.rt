@@ -3,7 +3,7 @@
 //   bytes       the byte at a place
 //   chars       one step inside a string
 //   plain       bytes that stand for themselves, eight at a time
-//   strings     where a string ends
+//   strings     where a string ends, and where its whole characters do
 //   decode      a string's decoded bytes, one at a time
 //   names       names compared decoded
 //   quoted      names told by the places of their quotes, compared up to their closing ones
@@ -17,7 +17,7 @@
 //   values      values, arrays and objects
 //   read        whole texts
 pub mod bytes;
-mod chars;
+pub mod chars;
 mod containers;
 pub mod decode;
 pub mod limits;
@@ -30,6 +30,6 @@ pub mod read;
 mod repeated;
 pub mod rows;
 mod sort;
-mod strings;
-mod tokens;
+pub mod strings;
+pub mod tokens;
 mod values;

@@ -8,7 +8,8 @@ use crate::bytes::peek;
 ghost use mathlib.Core.Path.{_≡_};
 ghost use Prim.Native.Nat.{_+_, _-_, _*_, _<_, _≤_};
 ghost use lib.ListN.{length};
-ghost use Rattle.json.specs.Plain.{packedAt, Plain, Own, Class, Told, Bytes, AlikeBytes, MarkedBytes, AlikeTo, AlikeRun, PlainTo};
+ghost use Rattle.text.specs.Chars.{Chars};
+ghost use Rattle.json.specs.Plain.{packedAt, Plain, Own, Class, Told, Bytes, AlikeBytes, MarkedBytes, AlikeTo, AlikeRun};
 
 // A number with a byte put below it.
 fn above(low: u8, high: u64) -> u64
@@ -85,7 +86,7 @@ fn alike_bytes(own: bool, v: u64, w: u64) -> usize
 // A place that plain bytes lead to from a place inside a string; fewer than eight of them may follow. A byte above 127 ends them at once, so that a space
 // between words of another script costs no eight bytes.
 pub(crate) fn plain_end(text: &[u8], from: usize) -> usize
-    ensures { λ r. ⌜ PlainTo (now (text .entry)) from r ⌝ }
+    ensures { λ r. ⌜ Chars (now (text .entry)) from r ⌝ }
 {
     if 0x7F < peek(text, from) {
         return from;

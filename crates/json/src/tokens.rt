@@ -35,13 +35,15 @@ ghost use Rattle.text.specs.Text.{byteAt};
 ghost use Rattle.text.specs.Tokens as tokens;
 ghost use Rattle.json.specs.Readers.{moreBy};
 
-// Does white space stand at a place?
-fn space_at(text: &[u8], at: usize) -> bool
-    ensures { λ r. ⌜ r ≡ tokens.isSpace (byteAt (now (text .entry)) at) ⌝ }
+// Is a byte white space?
+pub fn is_space(b: u16) -> bool
+    ensures { λ r. ⌜ r ≡ tokens.isSpace b ⌝ }
 {
-    let b = peek(text, at);
     if b == SPACE {
         return true;
+    }
+    if SPACE < b {
+        return false;
     }
     if b == TAB {
         return true;
@@ -50,6 +52,13 @@ fn space_at(text: &[u8], at: usize) -> bool
         return true;
     }
     b == RETURN
+}
+
+// Does white space stand at a place?
+fn space_at(text: &[u8], at: usize) -> bool
+    ensures { λ r. ⌜ r ≡ tokens.isSpace (byteAt (now (text .entry)) at) ⌝ }
+{
+    is_space(peek(text, at))
 }
 
 // Does a digit stand at a place?
@@ -64,7 +73,7 @@ fn digit_at(text: &[u8], at: usize) -> bool
 }
 
 // The place after the white space from a place on.
-pub(crate) fn skip(text: &[u8], from: usize) -> usize
+pub fn skip(text: &[u8], from: usize) -> usize
     ensures { λ r. ⌜ r ≡ tokens.skip (now (text .entry)) from ⌝ }
 {
     let mut at = from;
@@ -75,7 +84,7 @@ pub(crate) fn skip(text: &[u8], from: usize) -> usize
 }
 
 // The place after the digits from a place on.
-fn digits_end(text: &[u8], from: usize) -> usize
+pub fn digits_end(text: &[u8], from: usize) -> usize
     ensures { λ r. ⌜ r ≡ tokens.digitsEnd (now (text .entry)) from ⌝ }
 {
     let mut at = from;

@@ -2,6 +2,7 @@
 -- Every test is on one number, the byte at a place or 256 at and past the end.
 -- Assumes nothing: these are definitions.
 use Prim.Native.Nat.{ℕ, _+_, _-_, _*_, _%_}
+use mathlib.Core.Path.{_≡_}
 use mathlib.Core.List.{List}
 use mathlib.Core.Bool.{cond}
 use lib.Dec.{ltb, eqb}
@@ -150,3 +151,10 @@ stepBy t i b =
 -- what stands at i
 abbrev pub stepAt : List ℕ → ℕ → Step
 stepAt t i = stepBy t i (byteAt t i)
+
+-- ---- runs of characters
+
+-- whole characters stand from a place inside a string up to another
+pub data Chars (t : List ℕ) : (from to : ℕ) → Type 0 where
+  stay : {i : ℕ} → Chars t i i
+  more : {i j code len : ℕ} → stepAt t i ≡ Char code len → Chars t (i + len) j → Chars t i j
