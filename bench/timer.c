@@ -5,7 +5,7 @@
 
 /* A request, followed by the bytes of the text and of the language. */
 struct request {
-    uint32_t service; /* 0 read, 1 judge, 2 localize, 3 read in pieces */
+    uint32_t service; /* 0 read, 1 judge, 2 localize, 3 read in pieces, 4 pack, 5 unpack what the text packs to */
     uint32_t samples; /* the least of so many is given */
     uint32_t calls;   /* so many calls make a sample */
     uint32_t size, named, room, words;
@@ -86,11 +86,44 @@ static void read_pieces(const struct request *r, uint64_t *answer) {
 #endif
 }
 
+#define PACK 4
+#define UNPACK 5
+
+#ifdef STORE
+static uint8_t packed[BEZINKOL_MAX_PACKED];
+static size_t packed_size;
+#endif
+
+/* Packs the text, or unpacks its packing. A library from before request 12 can't be asked. */
+static void store(const struct request *r, uint64_t *answer) {
+#ifdef STORE
+    if (r->service == PACK) bezinkol_pack(text, r->size, out, r->room, table, r->words, answer);
+    else bezinkol_unpack(packed, packed_size, out, r->room, answer);
+#else
+    (void)r, (void)answer;
+    end(2);
+#endif
+}
+
+/* Makes the packing that is to be unpacked, and lends an output of just the bytes that are needed. */
+static void lend_store(struct request *r) {
+#ifdef STORE
+    uint64_t answer[BEZINKOL_ANSWER_WORDS];
+    bezinkol_pack(text, r->size, packed, sizeof packed, table, r->words, answer);
+    packed_size = answer[2];
+#endif
+    uint64_t said[BEZINKOL_ANSWER_WORDS];
+    r->room = 0;
+    store(r, said);
+    if (said[0] == BEZINKOL_SHORT_STORE) r->room = (uint32_t)said[1];
+}
+
 static void call(const struct request *r, uint64_t *answer) {
     if (r->service == 0) bezinkol_read(text, r->size, table, r->words, answer);
     else if (r->service == 1) bezinkol_judge(text, r->size, table, r->words, answer);
     else if (r->service == 2) bezinkol_localize(text, r->size, language, r->named, out, r->room, table, r->words, answer);
-    else read_pieces(r, answer);
+    else if (r->service < PACK) read_pieces(r, answer);
+    else store(r, answer);
 }
 
 static void time_request(const struct request *r, struct reply *to) {
@@ -103,7 +136,7 @@ static void time_request(const struct request *r, struct reply *to) {
     }
     to->rows = to->out = 0;
     for (uint32_t i = 0; i < r->words; i++) to->rows = to->rows * 65599 + table[i];
-    for (uint32_t i = 0; r->service == 2 && i < r->room; i++) to->out = to->out * 65599 + out[i];
+    for (uint32_t i = 0; (r->service == 2 || r->service >= PACK) && i < r->room; i++) to->out = to->out * 65599 + out[i];
 }
 
 static void serve(void) {
@@ -114,6 +147,7 @@ static void serve(void) {
         if (r.size > sizeof text || r.named > sizeof language || r.room > sizeof out || r.words > sizeof table / sizeof *table) end(2);
         move(0, 0, text, r.size);
         move(0, 0, language, r.named);
+        if (r.service >= PACK) lend_store(&r);
         time_request(&r, &to);
         move(1, 1, &to, sizeof to);
     }

@@ -4,16 +4,16 @@
  *
  * A caller's duties
  *
- *   pointers  Each is good for as many elements as its length says: bytes for `text`, `piece`, `language` and `out`, 32-bit words for `table`, nine of
- *             them for `state`, three 64-bit words for `answer`. It is aligned for its type and not null, also where the length is 0.
+ *   pointers  Each is good for as many elements as its length says: bytes for `text`, `piece`, `packed`, `language` and `out`, 32-bit words for `table`,
+ *             nine of them for `state`, three 64-bit words for `answer`. It is aligned for its type and not null, also where the length is 0.
  *   lengths   Count elements, not bytes: a table of one row has table_len 8. No text needs a NUL at its end; a NUL inside is a byte like any other.
- *   overlap   What is written (`table`, `out`, `state`, `answer`) shares no byte with any other buffer. `text`, `piece` and `language` are only read: the
- *             language may lie inside the text.
+ *   overlap   What is written (`table`, `out`, `state`, `answer`) shares no byte with any other buffer. `text`, `piece`, `packed` and `language` are only
+ *             read: the language may lie inside the text.
  *   threads   While a call runs, no other thread writes what it reads, or uses what it writes.
  *   stack     There is as much as the constants below say, which is less for a short text. What a signal handler takes of the same stack comes on top.
  *
  * Nothing else is asked. Any bytes and any lengths are answered, and nothing need be tested beforehand: a text that is too long, a table or an output
- * that is too small (of length 0 too) is a refusal like any other. What was lent as `text` or `piece` isn't trusted, and isn't changed.
+ * that is too small (of length 0 too) is a refusal like any other. What was lent as `text`, `piece` or `packed` isn't trusted, and isn't changed.
  *
  * What a call does
  *
@@ -22,8 +22,8 @@
  *   several threads, with buffers of their own, don't touch each other. How long a call takes is not promised.
  *
  *   answer[0]   0, or the refusal's number
- *   answer[1]   the row count, or the refusal's second number; of reading in pieces what is said below
- *   answer[2]   the bytes written by localizing; 0 after reading, whole or in pieces, after judging and after any refusal
+ *   answer[1]   the row count (of unpacking, which has no table, the number of values), or the refusal's second number; of reading in pieces what is said below
+ *   answer[2]   the bytes written by localizing, packing and unpacking; 0 after reading, whole or in pieces, after judging and after any refusal
  *
  *   All three words are always written, and so is every word of the table, every byte of the output and every word of the state:
  *   after a refusal     all of the table and all of the output is zero;
@@ -51,13 +51,20 @@ extern "C" {
 #define BEZINKOL_TABLE_WORDS (BEZINKOL_ROW_WORDS * BEZINKOL_MAX_VALUES)
 #define BEZINKOL_ANSWER_WORDS 3
 
+/* The most bytes that a packing has, and six times as many: with so long an output 52 isn't given, by packing and by unpacking. For a packing of n bytes an
+ * output of 6 * n is enough. */
+#define BEZINKOL_MAX_PACKED 65538
+#define BEZINKOL_MAX_UNPACKED (6 * BEZINKOL_MAX_PACKED)
+
 /* The words that reading in pieces keeps from call to call. */
 #define BEZINKOL_PIECES_WORDS 9
 
 /* The bytes of stack that a call needs, for any text and for one of at most BEZINKOL_SHORT_BYTES bytes. By the frames of the machine code for x86-64 of this
  * kit (rattle-kit-5b) no call takes more than 289 KiB for reading and judging and 340 KiB for localizing, and for a short text no more than 33, 44 and 58
- * KiB: what is said here is more by 31 KiB or more, for short texts by 7, 12 and 6; reading in pieces takes 512 bytes. tests/c counts them again (frames.py), measures calls at the limits (stack.c), and
- * fails where it is more than is said here; another kit may write other machine code. */
+ * KiB: what is said here is more by 31 KiB or more, for short texts by 7, 12 and 6; reading in pieces takes 512 bytes. Packing takes what reading does,
+ * unpacking 90 KiB, and 15 for a packing of at most BEZINKOL_SHORT_BYTES bytes: what is said here is more by 38 and 9.
+ * tests/c counts them again (frames.py), measures calls at the limits (stack.c), and fails where it is more than is said here; another kit may write other
+ * machine code. */
 #define BEZINKOL_READ_STACK 327680
 #define BEZINKOL_JUDGE_STACK 327680
 #define BEZINKOL_LOCALIZE_STACK 393216
@@ -66,6 +73,10 @@ extern "C" {
 #define BEZINKOL_JUDGE_STACK_4K 57344
 #define BEZINKOL_LOCALIZE_STACK_4K 65536
 #define BEZINKOL_PIECES_STACK 1024
+#define BEZINKOL_PACK_STACK 327680
+#define BEZINKOL_PACK_STACK_4K 40960
+#define BEZINKOL_UNPACK_STACK 131072
+#define BEZINKOL_UNPACK_STACK_4K 24576
 
 /* The words of a row. There is one row a value, parents before children, in the order of the text; row 0 is the root. Places count bytes from 0, from the
  * start of the text that was read (of the output, after localizing); ends are exclusive. The root and the elements of arrays have the name 0, 0.
@@ -100,8 +111,8 @@ enum {
 };
 
 /* The refusal sheet: what answer[0] says, and what answer[1] then is. There are no other numbers: 34 is the program's own.
- * Reading gives 1 to 7, judging 11 to 14 too, localizing all, reading in pieces 1, 2, 3, 5 and 6. Which one comes first where several things are wrong:
- * docs/REFUSALS.md. A name says its refusal's case in the sources (`Value`, `Inner`), with a word more where that alone would say too little.
+ * Reading gives 1 to 7, judging 11 to 14 too, localizing 21 to 28 too, reading in pieces 1, 2, 3, 5 and 6, packing 1 to 7, 51 and 52, unpacking 52 and 53.
+ * Which one comes first where several things are wrong: docs/REFUSALS.md. A name says its refusal's case in the sources (`Value`, `Inner`), with a word more where that alone would say too little.
  * Of 22 to 26, answer[1] is a place in what was lent as `text`: the opening quote of the patch's key that is at fault, as it is written there. Of several
  * keys that break the condition this is the smallest in byte order, with JSON's escapes undone, and ~0 and ~1 not. */
 enum {
@@ -124,7 +135,10 @@ enum {
     BEZINKOL_IN_ARRAY = 25,          /* a pointer goes inside an array */
     BEZINKOL_NO_OBJECT = 26,         /* a part before the last doesn't lead to an object that exists */
     BEZINKOL_SHORT_OUTPUT = 27,      /* output shorter than needed; the bytes needed */
-    BEZINKOL_INNER_REFUSAL = 28      /* the localized card would itself be refused; that refusal's number, 5 or 11 to 14, without its place */
+    BEZINKOL_INNER_REFUSAL = 28,     /* the localized card would itself be refused; that refusal's number, 5 or 11 to 14, without its place */
+    BEZINKOL_TOO_WIDE = 51,          /* a content of the packing would be over 65,535 bytes; 0 */
+    BEZINKOL_SHORT_STORE = 52,       /* output shorter than packing or unpacking needs; the bytes needed */
+    BEZINKOL_NOT_PACKED = 53         /* no text packs to these bytes; 0 */
 };
 
 /* Reads a text into rows: any JSON text of RFC 8259 that keeps RFC 7493's rules for strings and names, within the limits. */
@@ -156,6 +170,22 @@ void bezinkol_localize(const uint8_t *text, size_t text_len, const uint8_t *lang
 void bezinkol_pieces_start(uint32_t state[BEZINKOL_PIECES_WORDS]);
 void bezinkol_pieces_take(uint32_t state[BEZINKOL_PIECES_WORDS], const uint8_t *piece, size_t piece_len, uint64_t answer[BEZINKOL_ANSWER_WORDS]);
 void bezinkol_pieces_end(uint32_t state[BEZINKOL_PIECES_WORDS], uint64_t answer[BEZINKOL_ANSWER_WORDS]);
+
+/* Packs a text for the store, any that bezinkol_read accepts, and leaves its rows, whose places are in `text`, in the table.
+ *
+ * A packing is one field: a byte with the tag, two with the length of the content, the high one first, and the content. Tags 1 to 7 are the kinds of rows, and
+ * tag 8 is a member's name, which stands before its value. The content of a string or a name is its characters in UTF-8, without escapes; that of a number its
+ * digits as they are written; that of an array or object its fields, in their order; null, false and true have none. `{"a":[1]}` packs to
+ * 07 00 0B 08 00 01 61 06 00 04 04 00 01 31.
+ *
+ * Refused is first what reading refuses, then content of over 65,535 bytes (51), then an output that is too short (52, with the bytes needed). Two texts have
+ * the same packing just where they have the same value: members in the same order, strings the same once decoded, numbers the same as they are written. */
+void bezinkol_pack(const uint8_t *text, size_t text_len, uint8_t *out, size_t out_len, uint32_t *table, size_t table_len,
+                   uint64_t answer[BEZINKOL_ANSWER_WORDS]);
+
+/* Unpacks what bezinkol_pack wrote, and nothing else: any other bytes are 53, and then an output that is too short is 52, with the bytes needed. It writes the
+ * compact text, without white space, in which only what must be is escaped; bezinkol_pack packs that to the same bytes again. */
+void bezinkol_unpack(const uint8_t *packed, size_t packed_len, uint8_t *out, size_t out_len, uint64_t answer[BEZINKOL_ANSWER_WORDS]);
 
 #ifdef __cplusplus
 }

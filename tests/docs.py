@@ -9,6 +9,7 @@ from store import ROOT
 
 import intake
 from duds import edits
+from packing import pack, unpack
 from program import line
 from reading import MOST_WORDS, ROW_WORDS
 from rulings import whole
@@ -30,15 +31,18 @@ def text_of(card):
 
 
 def asked(number, card):
-    """The answer to a line of the sheet: the program for its own number, localizing from 21 on, reading or judging else."""
+    """The answer to a line of the sheet: the program for its own number, packing and unpacking from 51 on, localizing from 21 on, reading or judging else."""
     blank = re.match(r"([\d,]+) spaces", card)
     if blank:
         return intake.read(b" " * int(blank[1].replace(",", "")), MOST_WORDS)[:2]
-    text = text_of(card.split(" asked ")[0].split(" with ")[0])
+    text = text_of(re.split(" asked | with | packed| unpacked", card)[0])
     if number == 34:
         return line(text)
+    room = re.search(r"with (\d+) bytes", card)
+    if number > 50:
+        lent = int(room[1]) if room else 6 * len(text)
+        return (unpack(text, lent) if number == 53 else pack(text, MOST_WORDS, lent))[:2]
     if number > 20:
-        room = re.search(r"with (\d+) bytes", card)
         return intake.localize(text, b"de", MOST_WORDS, int(room[1]) if room else len(text))[:2]
     rows = re.search(r"with (\d+) rows", card)
     return (intake.read if number == 6 else intake.judge)(text, ROW_WORDS * int(rows[1]) if rows else MOST_WORDS)[:2]
@@ -150,7 +154,7 @@ def main():
         print(line)
     print(f"docs: {len(cases)} cards, {len(faults)} faults; {len(names)} names that nothing declares; "
         f"{len(edits())} must-fail edits, {len(missing)} without a case")
-    return 1 if faults or names or missing or len(cases) != 27 else 0
+    return 1 if faults or names or missing or len(cases) != 30 else 0
 
 
 if __name__ == "__main__":

@@ -10,25 +10,29 @@ import sys
 import make_feeding
 import make_judging
 import make_localizing
+import make_packing
 import make_program
 import make_reading
 from store import ROOT, lines_of
 
-SERVICES = {"reading": make_reading, "judging": make_judging, "localizing": make_localizing, "program": make_program, "feeding": make_feeding}
-LIMIT = 1550000  # the program's input buffer is larger by fifty thousand bytes
+SERVICES = {
+    "reading": make_reading.groups, "judging": make_judging.groups, "localizing": make_localizing.groups, "program": make_program.groups,
+    "feeding": make_feeding.groups, "packing": make_packing.groups, "unpacking": make_packing.unpacked}
+LIMIT = 1850000  # the program's input buffer is larger by fifty thousand bytes
 
 # the numbers of the sheet that each service can answer, and those that can stand second in 28
 SHEET = {
     "reading": range(8), "judging": [*range(8), *range(11, 15)], "localizing": [*range(8), *range(11, 15), *range(21, 29)],
-    "program": [0, *range(2, 8), *range(11, 15), 34], "feeding": [0, 1, 2, 3, 5, 6]}
+    "program": [0, *range(2, 8), *range(11, 15), 34], "feeding": [0, 1, 2, 3, 5, 6], "packing": [*range(8), 51, 52],
+    "unpacking": [0, 52, 53]}
 INSIDE = (5, 11, 12, 13, 14)
 
 
 def joined():
     """All lines, and all answers."""
     lines, answers = [], []
-    for name, service in SERVICES.items():
-        some, said = lines_of(service.groups())
+    for name, groups in SERVICES.items():
+        some, said = lines_of(groups())
         assert not any(line.startswith("@") for line in some), name
         assert sum(not line.startswith("!") for line in some) == len(said), name
         numbers = {tuple(map(int, line.split()[:2])) for line in said}

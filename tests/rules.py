@@ -7,11 +7,12 @@ import sys
 from store import ROOT
 
 import intake
+import packing
 from pieces import told
-from reading import MOST_WORDS
+from reading import MOST_BYTES, MOST_WORDS
 from rulings import MUST
 
-ROW = re.compile(r"^\| (read|judge|localize) \| (.*) \| (.*) \|$", re.M)
+ROW = re.compile(r"^\| (read|judge|localize|pack|unpack) \| (.*) \| (.*) \|$", re.M)
 IN_PIECES = re.compile(r"^\| pieces \| (.*) \| (.*) \| (.*) \|$", re.M)
 PIECE = re.compile(r"(?:([\d,]+) × )?`([^`]*)`")
 LENT = re.compile(r", (?:(table) of (\d+) words|(output) of (\d+) bytes|(language) `([^`]*)`)$")
@@ -25,9 +26,9 @@ def bytes_of(piece):
     return re.sub(rb"<([0-9A-F]{2})>", lambda found: bytes([int(found[1], 16)]), text)
 
 
-def case_of(said):
-    """The text of an input, and what is lent with it."""
-    words, room, language = MOST_WORDS, None, b"de"
+def case_of(said, most=None):
+    """The text of an input, and what is lent with it: an output of `most` bytes, or one as long as the text, unless it says so."""
+    words, room, language = MOST_WORDS, most, b"de"
     lent = LENT.search(said)
     if lent:
         said = said[:lent.start()]
@@ -40,6 +41,18 @@ def case_of(said):
 
 def counted(number, name):
     return f"{number} {name}" + "s" * (number != 1)
+
+
+def answer_in_store(service, whole, text, words, room):
+    """What packing or unpacking answers, in the page's words: of an acceptance the whole that is written, or both counts."""
+    if service == "pack":
+        number, second, written, _, output = packing.pack(text, words, room)
+    else:
+        number, second, written, output = packing.unpack(text, room)
+    if number:
+        return f"{number} at {second}" if 2 <= number <= 6 else f"{number}, {second}"
+    counts = f"{counted(second, 'row' if service == 'pack' else 'value')}, {counted(written, 'byte')}"
+    return bytes(output[:written]) if whole else counts
 
 
 def answer_of(service, text, words, room, language):
@@ -63,8 +76,14 @@ def answer_in_pieces(text):
 def examples(page):
     """Each example: its service, its text, the answer, and the one that the page gives."""
     for service, said, wanted in ROW.findall(page):
-        case = case_of(said)
-        yield service, case[0], answer_of(service, *case), bytes_of(wanted.strip("`")) if wanted.startswith("`") else wanted
+        whole = wanted.startswith("`")
+        if service in ("pack", "unpack"):
+            case = case_of(said, MOST_BYTES)
+            answer = answer_in_store(service, whole, *case[:3])
+        else:
+            case = case_of(said)
+            answer = answer_of(service, *case)
+        yield service, case[0], answer, bytes_of(wanted.strip("`")) if whole else wanted
     for said, wanted, after in IN_PIECES.findall(page):
         text = case_of(said)[0]
         yield "pieces", text, answer_in_pieces(text), f"{wanted}, after {after}"

@@ -10,6 +10,7 @@ import sys
 
 ROOT = os.path.dirname(os.path.dirname(os.path.abspath(__file__)))
 sys.path.insert(0, os.path.join(ROOT, "tests", "second"))
+import packing
 import pieces
 from judging import judge
 from localizing import told
@@ -19,11 +20,12 @@ from reading import MOST_WORDS, Refused, read, tree
 FAR = 24  # a run, or a part of the base text, at least so long is written shorter
 LONG = 300  # of a text that is so long, or whose base text is, any part may be a copy
 SHOWN = 400  # a shorter localized card is in the answer itself
-SERVICES = ("reading", "judging", "localizing", "program", "feeding")
+SERVICES = ("reading", "judging", "localizing", "program", "feeding", "packing", "unpacking")
 SHORT = 4096  # a text with fewer bytes has at most 2,048 values: so many rows are WORDS
 
 # A call: the service, the words of the lent table and the text; localizing has the bytes of the lent output and the language too. The program has a table
-# of WORDS words, and is given nothing but an input. Feeding is reading in pieces: it has no table, and lengths of pieces.
+# of WORDS words, and is given nothing but an input. Feeding is reading in pieces: it has no table, and lengths of pieces. Packing has an output too; unpacking
+# has no table, and its text is a packing.
 Case = collections.namedtuple("Case", "service words text room language sizes", defaults=(0, b"", ()))
 
 # A case as it is stored: its number from 1 on, the call, the line with what is wanted, and the lines of the base text (or "") and of the case.
@@ -168,6 +170,10 @@ def line_of(case, base=b""):
         return f"{case.words} {case.room} {noted(case.language).replace(' ', '%20')} {text}"
     if case.service == "feeding":
         return f"{','.join(map(str, case.sizes))} {text}"
+    if case.service == "packing":
+        return f"{case.words} {case.room} {text}"
+    if case.service == "unpacking":
+        return f"{case.room} {text}"
     return f"{case.words} {text}"
 
 
@@ -176,11 +182,16 @@ def case_of(service, line, base=b""):
     if service == "localizing":
         words, room, language, text = line.split(" ", 3)
         return Case(service, int(words), unpacked(text, base), int(room), unpacked(language))
+    if service == "packing":
+        words, room, text = line.split(" ", 2)
+        return Case(service, int(words), unpacked(text, base), int(room))
     if service == "program":
         return Case(service, WORDS, unpacked(line, base))
     words, text = line.split(" ", 1)
     if service == "feeding":
         return Case(service, 0, unpacked(text, base), sizes=tuple(map(int, words.split(","))))
+    if service == "unpacking":
+        return Case(service, 0, unpacked(text, base), int(words))
     return Case(service, int(words), unpacked(text, base))
 
 
@@ -190,6 +201,12 @@ def told_of(case):
         return told(case.text, case.language, case.words, case.room)
     if case.service == "feeding":
         return *pieces.told(case.text)[:2], 0, 0, [], b""
+    if case.service == "packing":
+        number, second, written, table, output = packing.pack(case.text, case.words, case.room)
+        return number, second, written, 0, table, output
+    if case.service == "unpacking":
+        number, second, written, output = packing.unpack(case.text, case.room)
+        return number, second, written, 0, [], output
     number, second, table = {"reading": read, "judging": judge, "program": said}[case.service](case.text, case.words)
     return number, second, 0, 0, table, b""
 
@@ -206,6 +223,10 @@ def answer_of(case):
     if case.service == "feeding":
         return fed(case)
     number, second, written, inner, table, output = told_of(case)
+    if case.service == "packing":
+        return f"{number} {second} {written} {sum_of(table)} {sum_of(output)}"
+    if case.service == "unpacking":
+        return f"{number} {second} {written} {sum_of(output)}"
     if case.service != "localizing":
         return f"{number} {second} {sum_of(table)}"
     shown = " " + output[:written].decode("latin-1") if 0 < written < SHOWN else ""

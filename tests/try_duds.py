@@ -18,9 +18,10 @@ from duds import DUDS, UNSEEN
 from pieces import Pieces
 from rulings import END
 
-CALLED = {"read": "reading", "judge": "judging", "localize": "localizing", "program": "program"}
-CRATES = ("laws", "unicode", "json", "pieces", "answers", "formats", "pointers", "patch", "card", "desk")
+CALLED = {"read": "reading", "judge": "judging", "localize": "localizing", "program": "program", "pack": "packing", "unpack": "unpacking"}
+CRATES = ("laws", "unicode", "json", "pieces", "answers", "formats", "pointers", "output", "patch", "fields", "vault", "card", "desk")
 WORDS = 600  # of a table: the interpreter takes so many steps and no more
+LONG = 10000
 
 # A line of its input is a piece, `.` the end, and an empty one a start; for each it writes what is answered.
 IN_PIECES = """use pieces::reader::end;
@@ -77,16 +78,18 @@ def cases_against(edit):
         if edit in edits.split() and case["service"] == "pieces":
             yield Case("pieces", 0, case["calls"])
         elif edit in edits.split():
-            extra = (case["room"], case["language"]) if case["service"] == "localize" else ()
+            extra = (case["room"], case["language"]) if case["service"] == "localize" else (case["room"],) if "pack" in case["service"] else ()
             words = case["words"] if case["service"] == "program" else min(case["words"], WORDS)
             yield Case(CALLED[case["service"]], words, case["text"], *extra)
 
 
 def batches(cases):
-    """The cases by runs: an input of the program takes many of the interpreter's steps, and has a run of its own; reading in pieces has its own program."""
+    """The cases by runs: an input of the program, or a long text, takes many of the interpreter's steps, and has a run of its own; reading in pieces has its own
+    program."""
+    alone = [case for case in cases if case.service == "program" or case.service == "packing" and len(case.text) > LONG]
     yield [case for case in cases if case.service == "pieces"]
-    yield [case for case in cases if case.service not in ("program", "pieces")]
-    yield from ([case] for case in cases if case.service == "program")
+    yield [case for case in cases if case.service != "pieces" and case not in alone]
+    yield from ([case] for case in alone)
 
 
 def write(path, text):

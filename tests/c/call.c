@@ -1,4 +1,4 @@
-/* Runs a service on its stored cases and writes what crates/cases_run writes, but for the place inside 28: call read|judge|localize <CASES */
+/* Runs a service on its stored cases and writes what crates/cases_run writes, but for the place inside 28: call read|judge|localize|pack|unpack <CASES */
 #include "cases.h"
 
 static void show(uint64_t number) { printf("%llu", (unsigned long long)number); }
@@ -12,10 +12,11 @@ static void show_more(uint64_t number) {
 static void report(const struct call *c) {
     show(c->answer[0]);
     show_more(c->answer[1]);
-    if (c->service == 'l') show_more(c->answer[2]);
-    show_more(sum_of_words(c->table, c->words));
-    if (c->service == 'l') show_more(sum_of_bytes(c->out, c->room));
-    if (c->answer[2] && c->answer[2] < 400) {
+    int writes = c->service != 'r' && c->service != 'j';
+    if (writes) show_more(c->answer[2]);
+    if (c->service != 'u') show_more(sum_of_words(c->table, c->words));
+    if (writes) show_more(sum_of_bytes(c->out, c->room));
+    if (c->service == 'l' && c->answer[2] && c->answer[2] < 400) {
         putchar(' ');
         fwrite(c->out, 1, c->answer[2], stdout);
     }
@@ -27,7 +28,7 @@ int main(int count, char **given) {
     for (const char *line; (line = next_line());) {
         struct call c = call_of(*given[1], line);
         make(&c);
-        if (c.service != 'l' && c.answer[2]) return 1;
+        if ((c.service == 'r' || c.service == 'j') && c.answer[2]) return 1;
         report(&c);
         give_back(&c);
     }

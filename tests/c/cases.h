@@ -98,24 +98,22 @@ static inline const char *next_line(void) {
     return NULL;
 }
 
-/* A call: what is lent, and the answer. `out` and `language` are for localizing alone. */
+/* A call: what is lent, and the answer. `language` is for localizing alone; for that, packing and unpacking there is an `out`; unpacking has no table. */
 struct call {
-    char service; /* the first letter of read, judge, localize */
+    char service; /* the first letter of read, judge, localize, pack, unpack */
     uint8_t *text, *language, *out;
     size_t size, named, room, words;
     uint32_t *table;
     uint64_t answer[BEZINKOL_ANSWER_WORDS];
 };
 
-/* The call of a case: the words of the table, for localizing the bytes of the output and the language, and the text. */
+/* The call of a case: the words of the table, for services with an output its bytes, for localizing the language, and the text. */
 static inline struct call call_of(char service, const char *line) {
     static uint8_t text[ROOM], language[ROOM];
     struct call c = {.service = service, .answer = {9, 9, 9}};
-    c.words = number(&line);
-    if (service == 'l') {
-        c.room = number(&line);
-        c.named = unpack(&line, ' ', language);
-    }
+    if (service != 'u') c.words = number(&line);
+    if (service == 'l' || service == 'p' || service == 'u') c.room = number(&line);
+    if (service == 'l') c.named = unpack(&line, ' ', language);
     c.size = unpack(&line, 0, text);
     c.text = lent(text, c.size), c.language = lent(language, c.named);
     c.out = lent(NULL, c.room), c.table = lent(NULL, c.words * sizeof *c.table);
@@ -125,6 +123,8 @@ static inline struct call call_of(char service, const char *line) {
 static inline void make(struct call *c) {
     if (c->service == 'r') bezinkol_read(c->text, c->size, c->table, c->words, c->answer);
     else if (c->service == 'j') bezinkol_judge(c->text, c->size, c->table, c->words, c->answer);
+    else if (c->service == 'p') bezinkol_pack(c->text, c->size, c->out, c->room, c->table, c->words, c->answer);
+    else if (c->service == 'u') bezinkol_unpack(c->text, c->size, c->out, c->room, c->answer);
     else bezinkol_localize(c->text, c->size, c->language, c->named, c->out, c->room, c->table, c->words, c->answer);
 }
 

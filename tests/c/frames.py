@@ -11,16 +11,18 @@ import subprocess
 import sys
 
 # How often a function that calls itself, also through others, can be open at once. Depth 64 is 64 containers and a value in the last; all but sorting
-# go from a value to one inside it, also the walk of a pointer, however many parts its key has. Sorting halves at most 32,768 rows or places down to one.
+# go from a value to one inside it, also the walk of a pointer, however many parts its key has. Sorting halves at most 32,768 rows or places down to one, of
+# a packing at most 10,923 names.
 OPEN = {"json::values::read_value": 65, "json::values::read_container": 64, "card::walk::breach_at": 65,
-    "patch::writing::copy_value": 65, "patch::writing::put_value": 65, "patch::sort::sort": 16, "json::sort::sort": 16}
+    "patch::writing::copy_value": 65, "patch::writing::put_value": 65, "patch::sort::sort": 16, "json::sort::sort": 16,
+    "vault::pack::put_value": 65, "vault::values::put_value": 65, "fields::sort::sort": 15}
 # These never call themselves: they are written so that their arrays are in no other frame. The texts, names and entries that they would do it for are
 # refused before.
 ONCE = {"json::read::read_long", "json::sort::sort_names", "json::sort::sort_many", "patch::compose::compose", "patch::compose::compose_more",
-    "patch::compose::compose_many"}
-# And these only a text of more than BEZINKOL_SHORT_BYTES bytes reaches, which has more than 1,024 names or more than 640 entries: they are left out of the
-# figure for short texts.
-LONG = {"json::read::read_long", "json::sort::sort_many", "patch::compose::compose_more", "patch::compose::compose_many"}
+    "patch::compose::compose_many", "fields::walk::survey_some", "fields::walk::survey_most"}
+# And these only a text of more than BEZINKOL_SHORT_BYTES bytes reaches, which has more than 1,024 names or more than 640 entries, or a packing of more
+# than 6,144 bytes: they are left out of the figure for short texts.
+LONG = {"json::read::read_long", "json::sort::sort_many", "patch::compose::compose_more", "patch::compose::compose_many", "fields::walk::survey_most"}
 OBJDUMP = os.environ.get("OBJDUMP", "objdump")
 PROBE = 0x1000  # a large frame is taken by pages; where that is a loop, its size is in r11
 
@@ -111,7 +113,7 @@ def main(archive, header):
         raise SystemExit(f"tests/c: the archive has no {sorted(LONG - set(frames))}")
     for constant, which, some in (("STACK", "any text", frames), ("STACK_4K", "a short text", without(LONG, frames))):
         known = {}
-        for service in ("read", "judge", "localize"):
+        for service in ("read", "judge", "localize", "pack", "unpack"):
             said = int(re.search(rf"BEZINKOL_{service.upper()}_{constant} (\d+)", text)[1])
             most = 8 + deepest("bezinkol_" + service, some, known)
             print(f"tests/c: bezinkol_{service} can take {most} bytes of stack for {which} by its frames; the header says {said}")

@@ -1,4 +1,4 @@
-/* Holds the parents and the next siblings of rows to what the other words say: links read|judge|localize <CASES
+/* Holds the parents and the next siblings of rows to what the other words say: links read|judge|localize|pack <CASES
  *
  * With `read` it reads texts of its own first: some whose rows a person has counted, and some made by chance, up to the limits. Then it makes the calls of
  * the stored cases, and of each that accepts it looks at the rows that are left. */

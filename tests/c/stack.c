@@ -1,4 +1,4 @@
-/* Measures the most stack that a service takes: stack read|judge|localize <CASES. Fails where that is more than the header says, of any text or of a short one.
+/* Measures the most stack that a service takes: stack read|judge|localize|pack|unpack <CASES. Fails where that is more than the header says, of any text or of a short one.
  *
  * Each call runs on a thread whose stack was filled with a pattern beforehand; the lowest place that lost its pattern is how deep the calls went. Short texts
  * have a stack of their own. The calls are those of the stored cases and, first, those below, which nest as deep as the limits let them and end in the
@@ -39,6 +39,24 @@ static const char *const cards[] = {
     "16384 90000 de " CARD OBJECTS LANGUAGE("\"y/a%*122,2;/n00000\":true,\"y/a%*122,2;/n07919\":true%#300,140,7919;"),
     "16384 90000 de " CARD OBJECTS LANGUAGE("\"m\":null,\"n00000\":true%#2100,14,7919;"),
     "262144 400000 de " CARD LISTS "," OBJECTS ",\"z\":" MOST LANGUAGE("\"m\":null,\"z/n00000\":true%#100,16,7919;"), NULL};
+
+/* Cases of packing: the words of the table, the bytes of the output and a text. */
+static const char *const packed[] = {
+    "16384 400 [%*63,1;" PAIR "]%*63,1;", "16384 0 [%*63,1;" PAIR "]%*63,1;", "16384 900 {\"a\":%*315,5;" PAIR "}%*63,1;", "16384 70000 " DEEP(SOME),
+    "16384 70000 " DEEP(MORE), "262144 70000 " DEEP(MOST), NULL};
+
+/* Cases of unpacking are all stored: tests/make_packing.py has those of the greatest depth. */
+static const char *const none[] = {NULL};
+
+static const char *const *own_cases(char service) { return service == 'l' ? cards : service == 'p' ? packed : service == 'u' ? none : texts; }
+
+/* What the header says, of any text and of a short one. */
+static const struct said {
+    char service;
+    size_t any, brief;
+} says[] = {{'r', BEZINKOL_READ_STACK, BEZINKOL_READ_STACK_4K}, {'j', BEZINKOL_JUDGE_STACK, BEZINKOL_JUDGE_STACK_4K},
+    {'l', BEZINKOL_LOCALIZE_STACK, BEZINKOL_LOCALIZE_STACK_4K}, {'p', BEZINKOL_PACK_STACK, BEZINKOL_PACK_STACK_4K},
+    {'u', BEZINKOL_UNPACK_STACK, BEZINKOL_UNPACK_STACK_4K}};
 
 static struct call call;
 
@@ -85,13 +103,13 @@ int main(int count, char **given) {
         if (!(kinds[i].stack = aligned_alloc(4096, STACK))) abort();
         memset(kinds[i].stack, PATTERN, STACK);
     }
-    for (const char *const *line = service == 'l' ? cards : texts; *line; line++) {
+    for (const char *const *line = own_cases(service); *line; line++) {
         call_on(service, *line);
-        if (call.answer[0] == BEZINKOL_GRAMMAR) abort(); /* then it isn't the text that was meant */
+        if (call.answer[0] == BEZINKOL_GRAMMAR || call.answer[0] == BEZINKOL_NOT_PACKED) abort(); /* then it isn't the text that was meant */
     }
     for (const char *line; (line = next_line());) call_on(service, line);
     size_t brief = used(&kinds[0]), any = used(&kinds[1]) > brief ? used(&kinds[1]) : brief;
-    size_t said = service == 'r' ? BEZINKOL_READ_STACK : service == 'j' ? BEZINKOL_JUDGE_STACK : BEZINKOL_LOCALIZE_STACK;
-    size_t said_brief = service == 'r' ? BEZINKOL_READ_STACK_4K : service == 'j' ? BEZINKOL_JUDGE_STACK_4K : BEZINKOL_LOCALIZE_STACK_4K;
-    return compare(given[1], "any text", any, said) + compare(given[1], "short texts", brief, said_brief);
+    const struct said *said = says;
+    while (said->service != service) said++;
+    return compare(given[1], "any text", any, said->any) + compare(given[1], "short texts", brief, said->brief);
 }

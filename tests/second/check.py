@@ -3,6 +3,7 @@ import sys
 
 import intake
 from duds import ASKED, DUDS
+from packing import pack, unpack
 from pieces import Pieces
 from program import said
 from reading import ROW_WORDS
@@ -14,6 +15,12 @@ def answer(case):
     if case["service"] == "localize":
         number, second, written, table, output = intake.localize(case["text"], case["language"], case["words"], case["room"])
         return number, second, table, output[:written] if number == 0 else output
+    if case["service"] == "pack":
+        number, second, written, table, output = pack(case["text"], case["words"], case["room"])
+        return number, second, table, output[:written] if number == 0 else output
+    if case["service"] == "unpack":
+        number, second, written, output = unpack(case["text"], case["room"])
+        return number, second, [], output[:written] if number == 0 else output
     if case["service"] == "pieces":
         reader = Pieces()
         return *[reader.end() if call == END else reader.take(call) for call in case["calls"]][-1], [], b""

@@ -4,9 +4,10 @@
 tests/docs.py sees that every must-fail edit is here.
 """
 from reading import MOST_BYTES
-from rulings import END, OK, RULINGS, SPECIMENS, judge, localize, pieces, program, read, whole
+from rulings import END, OK, RULINGS, SPECIMENS, judge, localize, pack, pieces, program, read, unpack, whole
 
 OTHER = "other contents"
+NOT_PACKED = (53, 0)
 GO_ON = (0, 0)  # what a piece answers while nothing is certain
 GIVEN = b'"name":{"full":"A","components":[{"kind":"given","value":"A"}]}'
 
@@ -16,10 +17,17 @@ def named(names, more=b""):
     return b"{" + b",".join(b'"%c":0' % name for name in names) + more + b"}"
 
 
+def stored(*names):
+    """An object of such names, each with null, packed."""
+    inside = b"".join(b"\x08\x00%c%s\x01\x00\x00" % (len(name), name) for name in names)
+    return b"\x07\x00%c%s" % (len(inside), inside)
+
+
 def patch(entries, own=b""):
     return b"{.." + own + b',"localizations":{"de":{' + entries + b"}}}"
 
 
+DEEP = b"".join(b"\x06" + bytes([0, 3 * (64 - at)]) for at in range(65))  # packed: an array too deep
 TOGETHER = b",".join(b'"w/%c":1' % c for c in b"abcdefghijklmnopq")  # so many that they are sorted behind what their keys begin with
 
 DUDS = [
@@ -162,6 +170,33 @@ DUDS = [
     ("pieces/run_inside_escape", pieces(rb'{"a\nb":1}', END, wanted=(0, 2)), (2, 10)),
     ("pieces/outermost_bit_lost", pieces(b'{"a":' + b"[" * 63 + b"]" * 63 + b"}", END, wanted=(0, 64)), (2, 131)),
     ("bezinkol/halves_swapped", pieces(b'{"a"', b":1}", END, wanted=(0, 2)), (2, 6)),
+    # packing: the form of a field, and what a content is
+    ("packing/low_byte_first vault/low_byte_first", pack(b'"a"', b"\x05\x00\x01a"), b"\x05\x01\x00a"),
+    ("packing/low_byte_first", unpack(b"\x05\x00\x01a", b'"a"'), NOT_PACKED),
+    ("packing/name_after_value", pack(b'{"a":""}', b"\x07\x00\x07\x08\x00\x01a\x05\x00\x00"), b"\x07\x00\x07\x05\x00\x00\x08\x00\x01a"),
+    ("packing/name_after_value", unpack(b"\x07\x00\x07\x05\x00\x00\x08\x00\x01a", NOT_PACKED), b'{"a":""}'),
+    ("packing/strings_undecoded vault/escapes_kept", pack(rb'"\u0061"', b"\x05\x00\x01a"), b"\x05\x00\x06\\u0061"),
+    ("packing/strings_undecoded", pack(rb'{"\n":1}', b"\x07\x00\x08\x08\x00\x01\n\x04\x00\x011"), b"\x07\x00\x09\x08\x00\x02\\n\x04\x00\x011"),
+    ("packing/one_byte_wider packing/short_before_51", pack(b'"' + b"a" * 65536 + b'"', (51, 0), room=0), (52, 65539)),
+    ("packing/name_after_value", pack(b'{"a":1}', b"\x07\x00\x08\x08\x00\x01a\x04\x00\x011"), b"\x07\x00\x08\x04\x00\x011\x08\x00\x01a"),
+    ("packing/needed_unsaid", pack(b"null", (52, 3), room=2), (52, 0)),
+    ("packing/refuses_all", pack(b"null", b"\x01\x00\x00"), (51, 0)),
+    # unpacking: just what packing writes, and 01's escapes
+    ("packing/refuses_all", unpack(b"\x01\x00\x00", b"null"), NOT_PACKED),
+    ("packing/bytes_left_over", unpack(b"\x01\x00\x00\x00", NOT_PACKED), b"null"),
+    ("packing/bytes_left_over vault/trailing_byte_taken", unpack(b"\x01\x00\x00\x01\x00\x00", NOT_PACKED), b"null"),
+    ("packing/bytes_left_over", unpack(b"\x06\x00\x04\x01\x00\x00\x00", NOT_PACKED), b"[null]"),
+    ("packing/name_twice", unpack(stored(b"a", b"a"), NOT_PACKED), b'{"a":null,"a":null}'),
+    ("fields/neighbours_in_packing", unpack(stored(*(b"%c" % name for name in b"abcdefghia")), NOT_PACKED), OK),
+    ("fields/arrays_passed_over", unpack(b"\x06\x00\x11" + stored(b"a", b"a"), NOT_PACKED), b'[{"a":null,"a":null}]'),
+    ("packing/null_with_content", unpack(b"\x01\x00\x01\x00", NOT_PACKED), b"null"),
+    ("packing/surrogates_taken", unpack(b"\x05\x00\x03\xed\xa0\x80", NOT_PACKED), b'"\xed\xa0\x80"'),
+    ("packing/surrogates_taken", unpack(b"\x05\x00\x03\xef\xbf\xbe", NOT_PACKED), b'"\xef\xbf\xbe"'),
+    ("packing/depth_unasked", unpack(DEEP, NOT_PACKED), b"[" * 65 + b"]" * 65),
+    ("packing/short_before_53", unpack(b"\x05\x00\x01\x80", NOT_PACKED, room=0), (52, 1)),
+    ("packing/values_miscounted", unpack(b"\x06\x00\x03\x01\x00\x00", b"[null]"), OTHER),
+    ("packing/strings_unescaped", unpack(b'\x05\x00\x01"', rb'"\""'), b'"""'),
+    ("packing/strings_unescaped", unpack(b"\x05\x00\x01\x1f", rb'"\u001f"'), b'"\x1f"'),
     # the program
     ("desk/buffer_one_more", program(b" " * 65537, (34, 0)), (2, 65537)),
     ("desk/long_text_cut desk/cut_by_definition", program(b"{..}" + b" " * 65494, (34, 0)), OK),
@@ -170,6 +205,7 @@ DUDS = [
 ]
 
 UNSEEN = {
+    "packing/text_too_long": "a packing has at most 65,538 bytes, and its compact text at most six times as many: never over the limit",
     "contact/type_not_chosen": "no line of the table hangs on `@type`",
     "bezinkol/output_unsaid": "an edit of what a contract says, not of a program",
 }

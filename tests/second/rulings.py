@@ -1,6 +1,6 @@
 """The inputs of the rulings (AMB-01 to AMB-52, and those on the key at fault) and the specimens of the rules paper, each with the answer that we take.
 
-`{..` at the start of a text stands for `{` and the three mandatory members. Wanted is OK, (number, second) or the bytes of the localized card.
+`{..` at the start of a text stands for `{` and the three mandatory members. Wanted is OK, (number, second) or the bytes that are written.
 The table has a row for each value that a text may have, the output is as long as the text, the language is `de`, unless stated.
 """
 from program import WORDS
@@ -42,6 +42,16 @@ def program(text, wanted):
 def pieces(*calls, wanted):
     """Reading in pieces: what is given piece by piece, or END, and what the last call answers. Wanted is (number, second), "go on" (0, 0)."""
     return {**case("pieces", b"".join(call for call in calls if call != END), wanted, words=0), "calls": calls}
+
+
+def pack(text, wanted, room=None, **more):
+    """Packing; the output has room for any packing of the text, unless stated. Wanted may be the packing."""
+    return case("pack", text, wanted, room=min(4 * len(text), 65538) if room is None else room, **more)
+
+
+def unpack(packed, wanted, room=None):
+    """Unpacking; there is no table, and the output has room for the compact text, unless stated."""
+    return case("unpack", packed, wanted, words=0, room=6 * len(packed) if room is None else room)
 
 
 def grown(first, last):

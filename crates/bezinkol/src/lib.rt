@@ -2,6 +2,8 @@
 use answers::paper::localized_on_paper;
 use answers::paper::verdict_on_paper;
 use answers::sheet::on_paper;
+use answers::store::packing_on_paper;
+use answers::store::unpacking_on_paper;
 use card::judge::judge;
 use card::localize::localize;
 use json::read::read;
@@ -10,6 +12,8 @@ use pieces::reader::said;
 use pieces::reader::start;
 use pieces::reader::take;
 use text::Paper;
+use vault::pack::pack;
+use vault::unpack::unpack;
 use wire::Held;
 ghost use mathlib.Core.Path.{_≡_};
 ghost use mathlib.Core.List.{[]};
@@ -19,7 +23,7 @@ ghost use Rattle.contact.specs.Services as services;
 ghost use Rattle.text.specs.Limits.{base};
 ghost use Rattle.wire.specs.Held.{wordsOf, heldIn};
 ghost use Rattle.wire.specs.Service.{wired};
-ghost use Rattle.bezinkol.specs.Answer.{answerWords, Serves, Keeps};
+ghost use Rattle.bezinkol.specs.Answer.{answerWords, Serves, Keeps, Stores, Restores};
 
 // The three numbers of an answer, in their order.
 fn put_answer(p: Paper, answer: &mut [u64; 3])
@@ -136,4 +140,27 @@ pub extern "C" fn bezinkol_pieces_end(state: &mut [u32; WORDS], answer: &mut [u6
     let h = end(held_in(state));
     put_answer(said(h), answer);
     put_held(h, state);
+}
+
+// Packs a text for the store.
+#[no_mangle]
+pub extern "C" fn bezinkol_pack(
+    text: &[u8],
+    out: &mut [u8],
+    table: &mut [u32],
+    answer: &mut [u64; 3],
+)
+    ensures { λ _. ⌜ Stores (now (text .entry)) (length (now (table .entry))) (length (now (out .entry))) (now (answer .exit)) (now (table .exit)) (now (out .exit)) ⌝ }
+{
+    let a = pack(text, out, table);
+    put_answer(packing_on_paper(a), answer);
+}
+
+// Unpacks what was packed.
+#[no_mangle]
+pub extern "C" fn bezinkol_unpack(packed: &[u8], out: &mut [u8], answer: &mut [u64; 3])
+    ensures { λ _. ⌜ Restores (now (packed .entry)) (length (now (out .entry))) (now (answer .exit)) (now (out .exit)) ⌝ }
+{
+    let a = unpack(packed, out);
+    put_answer(unpacking_on_paper(a), answer);
 }

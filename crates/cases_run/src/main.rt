@@ -9,9 +9,10 @@ mod lines;
 mod localizing;
 mod program;
 mod reading;
+mod storing;
 
 // All lines, with some room.
-const INPUT: usize = 1600000;
+const INPUT: usize = 1900000;
 
 // What the cases are for; `Unknown` before the first name and after one that is none of these.
 enum Service {
@@ -20,7 +21,19 @@ enum Service {
     Localizing,
     Program,
     Feeding,
+    Packing,
+    Unpacking,
     Unknown,
+}
+
+// The service of a name that begins with a p: `packing`, or `program`.
+fn named_with_p(name: &[u8]) -> Service {
+    if 1 < name.len() {
+        if name[1] == b'a' {
+            return Service::Packing;
+        }
+    }
+    Service::Program
 }
 
 // The service of a name, by its first letter.
@@ -33,8 +46,9 @@ fn named(name: &[u8]) -> Service {
         b'r' => Service::Reading,
         b'j' => Service::Judging,
         b'l' => Service::Localizing,
-        b'p' => Service::Program,
+        b'p' => named_with_p(name),
         b'f' => Service::Feeding,
+        b'u' => Service::Unpacking,
         _ => Service::Unknown,
     }
 }
@@ -54,6 +68,8 @@ fn case_of(
         Service::Localizing => localizing::case_of(line, base, text, out, table),
         Service::Program => program::case_of(line, base, text, table),
         Service::Feeding => feeding::case_of(line, base, text),
+        Service::Packing => storing::pack_case(line, base, text, out, table),
+        Service::Unpacking => storing::unpack_case(line, base, text, out),
         Service::Unknown => {
             io::write_all(1, b"no service\n");
         }

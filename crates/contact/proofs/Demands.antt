@@ -4,12 +4,14 @@
 --     Localizing    demand 3
 --     AnyOrder      judging and localizing, of the entries of a PatchObject in another order
 --     Pieces        the measure of reading in pieces
+--     Store         packing and unpacking beside reading
 -- Assumes nothing.
 pub mod Sheet
 pub mod Reading
 pub mod Localizing
 pub mod AnyOrder
 pub mod Pieces
+pub mod Store
 use Prim.Native.Nat.{ℕ, _-_, _*_, _≤_}
 use native.Mathlib.Nat.{sub-zero}
 use native.Mathlib.Omega.{arith}
@@ -26,6 +28,7 @@ use Rattle.text.specs.declared.Paper.{Paper}
 use Rattle.text.specs.Sheet.{numbers}
 use Rattle.text.specs.Whole.{wholeOf, sheetOf, tableOf}
 use Rattle.text.specs.Doc.{Name, docOf}
+use Rattle.text.proofs.Lines.{text-line, refused-ends, accepted-ends}
 use Rattle.text.proofs.Laws.{letters}
 use Rattle.text.proofs.Outcomes.{same-outcome}
 use Rattle.text.proofs.Spelling.Codes.{utf8-table}
@@ -34,11 +37,14 @@ use Rattle.text.proofs.Rows.{row-filled, one-value}
 use Rattle.text.proofs.Promise.{tree-length, whole-good}
 use Rattle.wire.specs.Service.{wired}
 use Rattle.wire.proofs.Promise.{in-pieces}
+use Rattle.packing.specs.Services.{vaulted}
+use Rattle.packing.proofs.Promise.{stores-cards}
+use Rattle.packing.proofs.Determined.{one-vault}
 use Rattle.contact.specs.Verdict.{Judged, passed, failed, judgedOf, sheetOfJudged, tableOfJudged, paperOfVerdict}
 use Rattle.contact.specs.Localize.{Outcome, done, denied, localizedOf, sheetOfOutcome, tableOfOutcome, outputOfOutcome, answerOfOutcome, paperOfLocalized}
 use Rattle.contact.specs.Places.{keyPlace}
 use Rattle.contact.specs.Services.{Call, read, judge, localize, wordsOf, roomOf, leaves, served}
-use Rattle.contact.specs.Demands.{Lines, Ends, acceptance, refusal, Demands}
+use Rattle.contact.specs.Demands.{Ends, Demands}
 use Rattle.contact.proofs.Judging.{judging, read-documents}
 use Rattle.contact.proofs.Judging.Signatures.{as-signed}
 use Rattle.contact.proofs.Judging.Shown.{value-seen}
@@ -50,22 +56,14 @@ use Rattle.contact.proofs.Patching.Refused.{accepted-iff}
 use Rattle.contact.proofs.Patching.Places.{key-places, key-of-place}
 use Rattle.contact.proofs.Patching.Contract.{one-outcome, output-fits}
 use Rattle.contact.proofs.Patching.Readback.{passed-text}
-use Rattle.contact.proofs.Demands.Sheet.{OnLine, on-line, text-line, card-line, local-line}
+use Rattle.contact.proofs.Demands.Sheet.{card-line, local-line}
 use Rattle.contact.proofs.Demands.Reading.{card-passed, passed-card, read-passes, read-rows, read-describes, read-words, read-long, read-fault, read-short, judge-unread, judge-passes, judge-rows, judge-offends}
 use Rattle.contact.proofs.Demands.AnyOrder.{order-number, order-served, order-allowed}
 use Rattle.contact.proofs.Demands.Pieces.{pieces-as-read, pieces-rows}
+use Rattle.contact.proofs.Demands.Store.{store-unread, store-own, store-rows, store-read}
 use Rattle.contact.proofs.Demands.Localizing.{of-doc, localize-own, localize-patched, localize-accepted, localize-would, localize-refused, localize-key, refused-answer, localize-again, localize-room, localize-inner}
 
 -- ---- demand 1
-
--- a refusal leaves zero alone
-refused-ends : (c : Call) {p : Paper} → OnLine (Lines c) p → Ends c (leaves p (filled (wordsOf c) []) (filled (roomOf c) []))
-refused-ends c (on-line n second l) = rw (sub-zero (wordsOf c), sub-zero (roomOf c)) (refusal l)
-
--- acceptance leaves what is written, and zero behind it
-accepted-ends : (c : Call) (rows bytes : List ℕ) (count : ℕ) → length rows ≡ rowWords * count → length rows ≤ wordsOf c → length bytes ≤ roomOf c
-    → Ends c (leaves (numbers 0 count (length bytes)) (filled (wordsOf c) rows) (filled (roomOf c) bytes))
-accepted-ends c rows bytes count e l k = acceptance rows bytes count (wordsOf c - length rows) (roomOf c - length bytes) e (omega arith) (omega arith)
 
 module _ (L : Limits) (unique : L .unique ≡ true) where
   -- rows that have room
@@ -77,18 +75,18 @@ module _ (L : Limits) (unique : L .unique ≡ true) where
   read-ends t words = go (wholeOf L words t) refl
     where
       go : (R : Read) → wholeOf L words t ≡ R → Ends (read t words) (leaves (sheetOf R) (tableOf words R) [])
-      go (bad r) e = refused-ends (read t words) (text-line r)
-      go (good f to) e = accepted-ends (read t words) (treeRows f) [] (size f) (tree-length f) (rows-fit words f (whole-good L words t f to e .room)) (omega arith)
+      go (bad r) e = refused-ends words 0 (text-line r)
+      go (good f to) e = accepted-ends words 0 (treeRows f) [] (size f) (tree-length f) (rows-fit words f (whole-good L words t f to e .room)) (omega arith)
 
   judge-ends : (t : List ℕ) (words : ℕ) → Ends (judge t words) (served L (judge t words))
   unfolding served sheetOfJudged paperOfVerdict tableOfJudged
   judge-ends t words = go (judgedOf L words t) refl
     where
       go : (j : Judged) → judgedOf L words t ≡ j → Ends (judge t words) (leaves (sheetOfJudged j) (tableOfJudged words j) [])
-      go (failed r) e = refused-ends (judge t words) (card-line r)
+      go (failed r) e = refused-ends words 0 (card-line r)
       go (passed f) e =
           let (to, whole, keeps) = judging .accepted L words t f .0 e in
-          accepted-ends (judge t words) (treeRows f) [] (size f) (tree-length f) (rows-fit words f (whole-good L words t f to whole .room)) (omega arith)
+          accepted-ends words 0 (treeRows f) [] (size f) (tree-length f) (rows-fit words f (whole-good L words t f to whole .room)) (omega arith)
 
   localize-ends : (t : List ℕ) (lang : Name) (words room : ℕ) → Ends (localize t lang words room) (served L (localize t lang words room))
   unfolding served sheetOfOutcome paperOfLocalized answerOfOutcome tableOfOutcome outputOfOutcome
@@ -96,12 +94,12 @@ module _ (L : Limits) (unique : L .unique ≡ true) where
     where
       go : (o : Outcome) → localizedOf L words room t lang ≡ o
           → Ends (localize t lang words room) (leaves (sheetOfOutcome o) (tableOfOutcome words o) (outputOfOutcome room o))
-      go (denied r) e = refused-ends (localize t lang words room) (local-line r)
+      go (denied r) e = refused-ends words room (local-line r)
       go (done text g) e =
           let (f, pass) = passed-text L words room unique t lang (done text g) e (λ r z. let n : _≡_ {A = ℕ} 0 1 = cc in omega arith) in
           let a = accepted-iff L words room (keyPlace t f lang) (docOf t f) lang text g .0 (of-doc L unique words room t lang f pass (done text g) e) in
           let c = passed-card L words text g (a .accepted .reads) in
-          accepted-ends (localize t lang words room) (treeRows g) text (size g) (tree-length g) (rows-fit words g (c .readable .enough))
+          accepted-ends words room (treeRows g) text (size g) (tree-length g) (rows-fit words g (c .readable .enough))
           (output-fits L words room (keyPlace t f lang) (docOf t f) lang text g (of-doc L unique words room t lang f pass (done text g) e))
 
   all-ends : (c : Call) → Ends c (served L c)
@@ -111,7 +109,7 @@ module _ (L : Limits) (unique : L .unique ≡ true) where
 
   -- ---- all of them
 
-  pub demands : Demands L (served L) (wired L)
+  pub demands : Demands L (served L) (wired L) (vaulted L)
   unfolding served
   demands = record {
     every-call = record {
@@ -168,8 +166,16 @@ module _ (L : Limits) (unique : L .unique ≡ true) where
       rows-aside = λ t words. pieces-rows L t words;
       in-pieces = in-pieces L;
     };
+    packing-for-the-store = record {
+      unread = store-unread L;
+      else-own = store-own L;
+      rows = store-rows L unique;
+      read-back = store-read L unique;
+      stores = stores-cards L unique;
+      one-vault = one-vault L unique;
+    };
   }
 
 -- with the limits of docs/RULES.md, 3.1
-pub base-demands : Demands base (served base) (wired base)
+pub base-demands : Demands base (served base) (wired base) (vaulted base)
 base-demands = demands base refl

@@ -1,27 +1,28 @@
 -- The three demands, sentence by sentence, of what services answer and leave: `Demands`. `serve` says what each call leaves, `wire` what the reader in pieces
--- does with the words that its caller keeps. proofs/Demands.antt proves them of `served` (specs/Services.antt) and of `wired` (crate wire, specs/Service.antt) for all
--- limits that refuse repeated names, and for those of docs/RULES.md, 3.1.
+-- does with the words that its caller keeps, `vault` what packing and unpacking leave. proofs/Demands.antt proves them of `served` (specs/Services.antt), of `wired`
+-- (crate wire, specs/Service.antt) and of `vaulted` (crate packing, specs/Services.antt) for all limits that refuse repeated names, and for those of docs/RULES.md,
+-- 3.1.
 --
 -- A service is called with whatever bytes, words and lengths there are, and that its code ends is part of its proof. No public function has a
 -- `requires`, so nothing is tested beforehand: the contracts give the answer, the table and the output of `served` for every call, and so the
 -- demands hold of any services that keep the contracts (crate bezinkol, specs/Called.antt).
 -- Assumes nothing: these are definitions.
-use Prim.Native.Nat.{ℕ, _+_, _*_, _≤_, _<_}
+use Prim.Native.Nat.{ℕ, _*_, _≤_, _<_}
 use Prim.Native.String.{String}
 use mathlib.Core.Path.{_≡_}
 use mathlib.Core.Bool.{true}
 use mathlib.Core.Logic.{_⊎_, _↔_}
-use mathlib.Core.List.{List, [], _++_}
+use mathlib.Core.List.{List, []}
 use mathlib.Core.Option.{some}
-use lib.ListN.{length, replicate}
+use lib.ListN.{length}
 use Rattle.laws.specs.Lists.{filled}
 use Rattle.laws.specs.Order.{before, Earlier}
 use Rattle.text.specs.Limits.{Limits, rowWords}
-use Rattle.text.specs.Text.{bytes, Codes}
+use Rattle.text.specs.Text.{Bytes, bytes, Codes}
 use Rattle.text.specs.Tree.{Forest, size, treeRows}
 use Rattle.text.specs.Seats.{Head, Seat, top, Sits}
 use Rattle.text.specs.Standing.{RowAt}
-use Rattle.text.specs.Sheet.{numbers, paper}
+use Rattle.text.specs.Sheet.{numbers, paper, Within, EndsBy}
 use Rattle.text.specs.declared.Paper.{Paper}
 use Rattle.text.specs.Utf8.{utf8, Utf8}
 use Rattle.text.specs.Whole.{Reads}
@@ -35,6 +36,8 @@ use Rattle.text.specs.Writing.{written, spelled, SpelledName}
 use Rattle.text.specs.declared.Reading.{Reading}
 use Rattle.wire.specs.Measure.{measure}
 use Rattle.wire.specs.Promise.{Wire, InPieces}
+use Rattle.packing.specs.Services.{Vault}
+use Rattle.packing.specs.Promise.{Accepted, writtenIn, StoresCards, OneVault}
 use Rattle.contact.specs.Pointer.{Pointer, pointerOf, find}
 use Rattle.contact.specs.PointerText.{PointerText}
 use Rattle.contact.specs.Patch.{Entry}
@@ -59,25 +62,15 @@ Passes serve c = serve c .answer .number ≡ 0
 
 -- ---- demand 1: every call ends, and leaves nothing else
 
--- from low up to high
-abbrev pub Within : (low high n : ℕ) → Type 0
-Within low high n = (low ≤ n) × (n ≤ high)
-
 -- the lines of the sheet that a service refuses by
 abbrev pub Lines : Call → ℕ → Type 0
 Lines (read text words) n = Within 1 7 n
 Lines (judge text words) n = Within 1 7 n ⊎ Within 11 14 n
 Lines (localize text language words room) n = Within 1 7 n ⊎ Within 11 14 n ⊎ Within 21 28 n
 
--- how a call ends
-pub data Ends (c : Call) : Left → Type 0 where
-  -- with acceptance: the row count and the length of what is written; so many rows stand in the table and so many bytes in the output, and zero behind them
-  acceptance : (rows bytes : List ℕ) (count spare rest : ℕ) → length rows ≡ rowWords * count
-      → length rows + spare ≡ wordsOf c → length bytes + rest ≡ roomOf c
-      → Ends c (leaves (record { number = 0; second = count; written = length bytes }) (rows ++ replicate spare 0) (bytes ++ replicate rest 0))
-  -- or with one numbered refusal of the sheet, and nothing written: every word and every byte that was lent is zero
-  refusal : {number second : ℕ} → Lines c number
-      → Ends c (leaves (record { number = number; second = second; written = 0 }) (replicate (wordsOf c) 0) (replicate (roomOf c) 0))
+-- how a call ends: with acceptance, or with one numbered refusal of the sheet; after a refusal all that was lent is zero, after acceptance all that is unused
+abbrev pub Ends : Call → Left → Type 0
+Ends c = EndsBy (Lines c) (wordsOf c) (roomOf c)
 
 -- demand 1, of every call
 pub record EveryCall (L : Limits) (serve : Call → Left) : Type 0 where
@@ -274,11 +267,31 @@ pub record ReadingInPieces (L : Limits) (serve : Call → Left) (wire : Wire) : 
   -- what a piece and the end answer, by that measure: crate wire, specs/Promise.antt
   pub in-pieces : InPieces L wire
 
+-- ---- packed cards (02, Req 12): demands 1 and 2 of packing and unpacking
+
+pub record PackingForTheStore (L : Limits) (serve : Call → Left) (vault : Vault) : Type 0 where
+  -- what the service reading refuses is refused as it does; ..
+  pub unread : (t : List ℕ) (words room : ℕ) → ¬ Passes serve (read t words) → vault .pack t words room .answer ≡ serve (read t words) .answer
+  -- .. and what it accepts is not refused by its numbers
+  pub else-own : (t : List ℕ) (words room : ℕ) → Passes serve (read t words) → Within 1 7 (vault .pack t words room .answer .number) → ⊥
+  -- what is packed was read: the row count and the table are those which reading leaves
+  pub rows : (t : List ℕ) (words room : ℕ) → Accepted (vault .pack t words room)
+      → (serve (read t words) .answer ≡ numbers 0 (vault .pack t words room .answer .second) 0) × (vault .pack t words room .table ≡ serve (read t words) .table)
+  -- what is unpacked is a text that reading accepts, given rows enough, and has as many values as unpacking says
+  pub read-back : (p : List ℕ) → Bytes p → (room : ℕ) → Accepted (vault .unpack p room) → (words : ℕ)
+      → rowWords * vault .unpack p room .answer .second ≤ words
+      → serve (read (writtenIn (vault .unpack p room)) words) .answer ≡ numbers 0 (vault .unpack p room .answer .second) 0
+  -- what the two answer and leave, by the format and by values: crate packing, specs/Promise.antt
+  pub stores : StoresCards L vault
+  -- and nothing else is left open: any two vaults of which that holds answer and leave the same
+  pub one-vault : OneVault L
+
 -- ---- all of them
 
--- the demands, under the limits L, of services that leave what `serve` says, and of a reader in pieces
-pub record Demands (L : Limits) (serve : Call → Left) (wire : Wire) : Type 0 where
+-- the demands, under the limits L, of services that leave what `serve` says, of a reader in pieces, and of a vault
+pub record Demands (L : Limits) (serve : Call → Left) (wire : Wire) (vault : Vault) : Type 0 where
   pub every-call : EveryCall L serve
   pub reading-and-judging : ReadingAndJudging L serve
   pub localizing : Localizing L serve
   pub reading-in-pieces : ReadingInPieces L serve wire
+  pub packing-for-the-store : PackingForTheStore L serve vault

@@ -4,7 +4,7 @@
 use Prim.Native.Nat.{ℕ}
 use mathlib.Core.List.{List, []}
 use Rattle.text.specs.Limits.{Limits}
-use Rattle.text.specs.declared.Paper.{Paper}
+pub use Rattle.text.specs.Sheet.{Left, leaves}
 use Rattle.text.specs.Whole.{wholeOf, sheetOf, tableOf}
 use Rattle.text.specs.Doc.{Name}
 use Rattle.contact.specs.Verdict.{judgedOf, sheetOfJudged, tableOfJudged}
@@ -26,16 +26,6 @@ abbrev pub roomOf : Call → ℕ
 roomOf (read text words) = 0
 roomOf (judge text words) = 0
 roomOf (localize text language words room) = room
-
--- what a call leaves
-pub record Left : Type 0 where
-  pub answer : Paper
-  pub table : List ℕ
-  pub output : List ℕ
-
--- the three under one name
-abbrev pub leaves : Paper → (table output : List ℕ) → Left
-leaves answer table output = record { answer = answer; table = table; output = output }
 
 -- what a call leaves, by the definitions of the three services
 unfoldable pub served : Limits → Call → Left

@@ -14,7 +14,7 @@ use lib.Seq.{take-all}
 use borrow.Author.Tests.{lt-ltb, le-ltb}
 use Rattle.text.specs.Limits.{base}
 use Rattle.text.specs.declared.Paper.{Paper}
-use Rattle.text.specs.Sheet.{numbers}
+use Rattle.text.specs.Sheet.{numbers, acceptance, refusal}
 use Rattle.text.specs.Tree.{Forest}
 use Rattle.text.specs.Doc.{Doc}
 use Rattle.text.specs.Grammar.{JsonText}
@@ -26,7 +26,7 @@ use Rattle.contact.specs.Schema.{Ty}
 use Rattle.contact.specs.Breaches.{Under, BreaksLine}
 use Rattle.contact.specs.Judging.{CardText}
 use Rattle.contact.specs.Services.{Left, read, judge, served}
-use Rattle.contact.specs.Demands.{Lines, Ends, acceptance, refusal, ReadingAndJudging}
+use Rattle.contact.specs.Demands.{Lines, Ends, ReadingAndJudging}
 use Rattle.contact.proofs.Demands.{base-demands}
 use Rattle.contact.proofs.Demands.Sheet.{same-number, same-second}
 use Rattle.desk.specs.Line.{buffer, wordsLent, lineOf, ofInput}

@@ -42,9 +42,9 @@ pub(crate) const SMALL_A: u16 = b'a' as u16;
 
 pub(crate) const SMALL_B: u16 = b'b' as u16;
 
-pub(crate) const SMALL_E: u16 = b'e' as u16;
+pub const SMALL_E: u16 = b'e' as u16;
 
-pub(crate) const LARGE_E: u16 = b'E' as u16;
+pub const LARGE_E: u16 = b'E' as u16;
 
 pub(crate) const SMALL_F: u16 = b'f' as u16;
 

@@ -29,6 +29,7 @@ use unicode::tail;
 ghost use mathlib.Core.Path.{_≡_};
 ghost use Prim.Native.Nat.{_+_, _<_, _≤_};
 ghost use lib.ListN.{length};
+ghost use Rattle.text.specs.Text.{byteAt};
 ghost use Rattle.text.specs.Chars.{digitOf, digitAt, hex4At, letterOf, tailAt, rawAt, pairAt, unitAt, escapeAt, stepAt};
 
 // The code points that short escapes stand for.
@@ -156,6 +157,17 @@ fn raw(text: &[u8], at: usize, b: u16) -> Step
         return checked(at, code4(b, x, y, z), 4);
     }
     Step::Bad3(at)
+}
+
+// The raw character of several bytes at a place; 3 where none stands, past the end too.
+pub fn raw_at(text: &[u8], at: usize) -> Step
+    ensures { λ r. ⌜ r ≡ rawAt (now (text .entry)) at (byteAt (now (text .entry)) at) ⌝ }
+{
+    let b = peek(text, at);
+    if b == OVER {
+        return Step::Bad3(at);
+    }
+    raw(text, at, b)
 }
 
 // The escape at `at` of a high surrogate: a low one has to follow at once.

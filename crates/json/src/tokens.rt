@@ -115,7 +115,7 @@ fn literal(text: &[u8], lit: &[u8], from: usize) -> Token
 }
 
 // One digit or more.
-fn digits(text: &[u8], at: usize) -> Token
+pub fn digits(text: &[u8], at: usize) -> Token
     ensures { λ r. ⌜ r ≡ tokens.digitsAt (now (text .entry)) at ⌝ }
 {
     if digit_at(text, at) {
@@ -125,14 +125,14 @@ fn digits(text: &[u8], at: usize) -> Token
 }
 
 // The place after a minus, if there is one.
-fn minus_end(text: &[u8], at: usize) -> usize
+pub fn minus_end(text: &[u8], at: usize) -> usize
     ensures { λ r. ⌜ r ≡ tokens.minusEnd (now (text .entry)) at ⌝ }
 {
     if peek(text, at) == MINUS { at + 1 } else { at }
 }
 
 // A number's whole part: a zero, or digits that start with no zero.
-fn int(text: &[u8], at: usize) -> Token
+pub fn int(text: &[u8], at: usize) -> Token
     ensures { λ r. ⌜ r ≡ tokens.intAt (now (text .entry)) at ⌝ }
 {
     if peek(text, at) == ZERO {
@@ -142,7 +142,7 @@ fn int(text: &[u8], at: usize) -> Token
 }
 
 // A number's fraction, if there is one.
-fn frac(text: &[u8], at: usize) -> Token
+pub fn frac(text: &[u8], at: usize) -> Token
     ensures { λ r. ⌜ r ≡ tokens.fracAt (now (text .entry)) at ⌝ }
 {
     if peek(text, at) == POINT {
@@ -152,7 +152,7 @@ fn frac(text: &[u8], at: usize) -> Token
 }
 
 // The place after a sign of the exponent, if there is one.
-fn sign_end(text: &[u8], at: usize) -> usize
+pub fn sign_end(text: &[u8], at: usize) -> usize
     ensures { λ r. ⌜ r ≡ tokens.signEnd (now (text .entry)) at ⌝ }
 {
     let b = peek(text, at);

@@ -1,6 +1,5 @@
--- Bytes put into an output: runs of bytes, values as they are, and members as the entries of a patch leave them. Assumes nothing.
-pub mod Bytes
-pub mod Runs
+-- Bytes put into an output: names, values as they are, and members as the entries of a patch leave them. Assumes nothing.
+pub mod Labels
 pub mod Spelled
 pub mod Walks
 pub mod Copies

@@ -8,7 +8,7 @@ use Rattle.text.specs.Grammar.{opening, closing}
 use Rattle.text.specs.Doc.{labelAt, docOf}
 use Rattle.text.specs.Writing.{comma, written}
 use Rattle.json.specs.Rows.{nameStartIn, nameEndIn}
-use Rattle.patch.specs.Written.{Wrote}
+use Rattle.output.specs.Written.{Wrote}
 use Rattle.json.specs.Lookup.{KnownAt}
 
 -- ---- what is inside an array (6) or an object (7)

@@ -23,7 +23,7 @@ use Rattle.contact.specs.Places.{quoteOf, keyPlace}
 use Rattle.contact.specs.Localize.{Outcome, denied, start, patchAt, patchedDoc, byRoom}
 use Rattle.contact.specs.declared.LocalRefusal.{LocalRefusal}
 use Rattle.contact.specs.declared.LocalRefusal.the-variants.{NoLanguage, Short}
-use Rattle.patch.specs.Written.{full}
+use Rattle.output.specs.Written.{full}
 use Rattle.patch.specs.Entries.{mostEntries, width}
 use Rattle.patch.specs.Children.{Held}
 use Rattle.patch.specs.Conditions.{ListedPlaces, conditionOf, keyFault, walkFault}

@@ -5,7 +5,7 @@ pub mod Neighbours
 pub mod Conditions
 pub mod Marks
 pub mod Runs
-pub mod Written
+pub mod Spelled
 pub mod Copied
 pub mod Patched
 pub mod Drafts

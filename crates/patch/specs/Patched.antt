@@ -22,7 +22,7 @@ use Rattle.contact.specs.Localize.{start, patchedDoc}
 use Rattle.pointers.specs.Pointers.{strip}
 use Rattle.patch.specs.Entries.{Listed, stripped}
 use Rattle.patch.specs.Runs.{InOrder, nextHint}
-use Rattle.patch.specs.Written.{Wrote}
+use Rattle.output.specs.Written.{Wrote}
 use Rattle.json.specs.Lookup.{KnownAt}
 use Rattle.json.specs.Cursors.{rest, cursor}
 use Rattle.patch.specs.Children.{keyBytes}

@@ -5,7 +5,7 @@
 //   conditions  which of 22 to 26 a patch breaks first, and by which key
 //   marks       what is marked of entries while they are walked
 //   runs        where a name parts a run of sorted entries
-//   output      bytes, runs of a text and names, counted always and stored where they fit
+//   names       names as a text has them, or newly spelled
 //   writing     values written as they are, or as the entries of a patch leave them
 //   compose     the localized card, written or refused
 mod children;
@@ -13,7 +13,7 @@ pub mod compose;
 mod conditions;
 mod entries;
 mod marks;
-mod output;
+mod names;
 mod runs;
 mod sort;
 mod writing;

@@ -2,6 +2,7 @@
 pub mod Walks
 pub mod Tails
 pub mod Sequences
+pub mod Lines
 pub mod Laws
 pub mod Standing
 pub mod Fewer

@@ -10,6 +10,7 @@ use lib.ListN.{length, take, drop, take-append-drop}
 use lib.Seq.{length-take-le, take-take}
 use borrow.Author.Tests.{le-leb, lt-leb}
 use Rattle.laws.specs.Each.{none, more}
+use Rattle.text.specs.Text.{Bytes}
 use Rattle.text.specs.Limits.{Limits}
 use Rattle.text.specs.Sheet.{refused, paper}
 use Rattle.text.specs.declared.Paper.{Paper}
@@ -17,7 +18,7 @@ use Rattle.text.specs.declared.Refusal.{Refusal}
 use Rattle.text.specs.declared.Refusal.the-variants.{TooLong}
 use Rattle.text.specs.declared.Reading.{Reading}
 use Rattle.text.specs.declared.Reading.the-variants.{Rows, Refused}
-use Rattle.wire.specs.Measure.{Bytes, measure, Certain, Shortest}
+use Rattle.wire.specs.Measure.{measure, Certain, Shortest}
 use Rattle.wire.specs.Machine.{State, going, over, start, feed, finish, feeds, taken, cutOff, piece}
 use Rattle.wire.specs.Promise.{Open, Says, go-on, certain, too-long}
 use Rattle.wire.specs.Service.{answerOf}

@@ -11,6 +11,7 @@ use lib.ListN.{length}
 use lib.Dec.{ltb}
 use borrow.Author.Tests.{lt-ltb, le-ltb, eq-eqb, ne-eqb}
 use Rattle.laws.specs.Each.{none, more}
+use Rattle.text.specs.Text.{Bytes}
 use Rattle.text.specs.Limits.{Limits}
 use Rattle.text.specs.Chars.{digitOf, tailOf, letterOf}
 use Rattle.text.specs.Tokens.{kindBy}
@@ -18,7 +19,6 @@ use Rattle.text.specs.Tree.{Bracket, square, curly}
 use Rattle.text.specs.declared.Refusal.{Refusal}
 use Rattle.text.specs.declared.Refusal.the-variants.{Grammar, Character}
 use Rattle.text.specs.declared.Reading.the-variants.{Rows, Refused}
-use Rattle.wire.specs.Measure.{Bytes}
 use Rattle.wire.specs.Figures.{Figure, Minus, Nought, Whole, Point, Fraction, Exponent, Sign, Digits, expTurn, fracTurn, turnOf}
 use Rattle.wire.specs.Inners.{sound, checked, unitMove, hexMove, tailMove, move3, move4, paired, moveOf}
 use Rattle.wire.specs.declared.Inner.{Inner}

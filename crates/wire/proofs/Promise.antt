@@ -6,6 +6,7 @@ use Prim.Native.Nat.{ℕ, _+_}
 use native.Mathlib.Omega.{arith}
 use lib.ListN.{length}
 use Rattle.laws.specs.Each.{none}
+use Rattle.text.specs.Text.{Bytes}
 use Rattle.text.specs.Limits.{Limits}
 use Rattle.text.specs.Sheet.{refused, paper}
 use Rattle.text.specs.declared.Paper.{Paper}
@@ -13,7 +14,7 @@ use Rattle.text.specs.declared.Refusal.{Refusal}
 use Rattle.text.specs.declared.Refusal.the-variants.{TooLong, Grammar, Character, Repeated, Deep, Many, Small}
 use Rattle.text.specs.declared.Reading.{Reading}
 use Rattle.text.specs.declared.Reading.the-variants.{Rows, Refused}
-use Rattle.wire.specs.Measure.{Bytes, measure}
+use Rattle.wire.specs.Measure.{measure}
 use Rattle.wire.specs.Machine.{State, going, over, start, feed, finish, piece}
 use Rattle.wire.specs.Held.{stateOf, heldOf, wordsOf, heldIn}
 use Rattle.wire.specs.Promise.{After, nothing, goOn, Says, Answers, acceptance, refusal, Final, InPieces}

@@ -10,13 +10,13 @@ use lib.Dec.{ltb}
 use borrow.Author.Tests.{lt-ltb, le-ltb}
 use Rattle.laws.proofs.Branches.{if-less, if-equal, if-most, if-true}
 use Rattle.laws.specs.Each.{none, more}
+use Rattle.text.specs.Text.{Bytes}
 use Rattle.text.specs.Limits.{Limits}
 use Rattle.text.specs.Chars.{digitOf, tailOf, letterOf}
 use Rattle.text.specs.Tokens.{isSpace, kindBy}
 use Rattle.text.specs.Grammar.{closing}
 use Rattle.text.specs.Tree.{Bracket, square, curly}
 use Rattle.text.specs.declared.Reading.the-variants.{Rows, Refused}
-use Rattle.wire.specs.Measure.{Bytes}
 use Rattle.wire.specs.Figures.{Turn, Goes, Ends, Stuck, turnOf}
 use Rattle.wire.specs.Inners.{sound, checked, unitMove, hexMove, tailMove, move3, move4, leadMove, paired, moveOf}
 use Rattle.wire.specs.declared.Inner.{Inner}

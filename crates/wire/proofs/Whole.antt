@@ -13,7 +13,7 @@ use borrow.Author.Tests.{lt-ltb, le-ltb, ne-eqb}
 use Rattle.laws.proofs.Splits.{first-there, beyond, within}
 use Rattle.laws.specs.Each.{none, more}
 use Rattle.text.specs.Limits.{Limits}
-use Rattle.text.specs.Text.{byteAt}
+use Rattle.text.specs.Text.{Bytes, byteAt}
 use Rattle.text.specs.Chars.{digitOf, tailOf, letterOf}
 use Rattle.text.specs.Tokens.{skip, kindBy}
 use Rattle.text.specs.Tree.{Bracket, square, curly, Forest, size}
@@ -23,7 +23,7 @@ use Rattle.text.specs.declared.Refusal.{Refusal}
 use Rattle.text.specs.declared.Refusal.the-variants.{Grammar, Character}
 use Rattle.text.specs.declared.Reading.{Reading}
 use Rattle.text.specs.declared.Reading.the-variants.{Rows, Refused}
-use Rattle.wire.specs.Measure.{Bytes, lenient, readingOf, measure, Certain}
+use Rattle.wire.specs.Measure.{lenient, readingOf, measure, Certain}
 use Rattle.wire.specs.Figures.{Figure, Minus, Nought, Whole, Point, Fraction, Exponent, Sign, Digits, expTurn, fracTurn, turnOf}
 use Rattle.wire.specs.Inners.{moveOf}
 use Rattle.wire.specs.declared.Inner.{Inner}

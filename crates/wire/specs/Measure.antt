@@ -5,18 +5,14 @@ use mathlib.Core.Path.{_≡_}
 use mathlib.Core.Bool.{false}
 use mathlib.Core.List.{List, _++_}
 use lib.ListN.{length, take}
-use Rattle.laws.specs.Each.{Each}
 use Rattle.text.specs.Limits.{Limits}
+use Rattle.text.specs.Text.{Bytes}
 use Rattle.text.specs.Tree.{size}
 use Rattle.text.specs.Reader.{Read, good, bad}
 use Rattle.text.specs.Whole.{readOf}
 use Rattle.text.specs.declared.Refusal.{Refusal}
 use Rattle.text.specs.declared.Reading.{Reading}
 use Rattle.text.specs.declared.Reading.the-variants.{Rows, Refused}
-
--- each of them is a byte
-abbrev pub Bytes : List ℕ → Type 0
-Bytes q = Each (λ b. b < 256) q
 
 -- no. 1 aside: the text may have as many bytes as it has; no. 4 aside: names aren't compared; no. 7 isn't asked by `readOf`
 abbrev pub lenient : Limits → List ℕ → Limits

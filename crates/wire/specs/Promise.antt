@@ -5,12 +5,13 @@ use mathlib.Core.Path.{_≡_}
 use mathlib.Core.Logic.{_⊎_}
 use mathlib.Core.List.{List, [], _++_}
 use lib.ListN.{length, take}
+use Rattle.text.specs.Text.{Bytes}
 use Rattle.text.specs.Limits.{Limits}
 use Rattle.text.specs.Sheet.{numbers, refused, paper}
 use Rattle.text.specs.declared.Paper.{Paper}
 use Rattle.text.specs.declared.Refusal.{Refusal}
 use Rattle.text.specs.declared.Refusal.the-variants.{TooLong}
-use Rattle.wire.specs.Measure.{Bytes, measure, Certain, Shortest}
+use Rattle.wire.specs.Measure.{measure, Certain, Shortest}
 
 -- what a call leaves of the words that the caller keeps, and what it answers
 pub record Kept : Type 0 where

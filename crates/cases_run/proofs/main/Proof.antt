@@ -8,7 +8,7 @@ use Rattle.cases_run.proofs.main.Statement.{statement}
 use Rattle.cases_run.proofs.main.Tie as tie
 
 slice-aggregate-read-full : tie.Need-slice-aggregate-read-full
-slice-aggregate-read-full c = sym (length-replicate {0} {A = ℕ} 1600000 0)
+slice-aggregate-read-full c = sym (length-replicate {0} {A = ℕ} 1900000 0)
 
 array-share-prefix-buf : tie.Need-array-share-prefix-buf
 array-share-prefix-buf c = c .before .read-full .ensures .0

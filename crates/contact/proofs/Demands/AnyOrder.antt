@@ -31,7 +31,8 @@ use Rattle.contact.specs.declared.Localized.{Localized}
 use Rattle.contact.specs.Patching.{OrderOnly}
 use Rattle.contact.specs.Judging.{CardText}
 use Rattle.contact.specs.Services.{judge, localize, served}
-use Rattle.contact.specs.Demands.{Within, Reordering, NamesKey, SameButPlace}
+use Rattle.text.specs.Sheet.{Within}
+use Rattle.contact.specs.Demands.{Reordering, NamesKey, SameButPlace}
 use Rattle.contact.proofs.Judging.{judging, read-documents, document-told, card-text, card-keeps}
 use Rattle.contact.proofs.Patching.Faults.{breaks-there, from-22, up-to-26}
 use Rattle.contact.proofs.Patching.Entering.{key-numbers}

@@ -10,7 +10,7 @@ use Rattle.text.specs.Whole.{tableOf}
 use Rattle.text.specs.Limits.{Limits}
 use Rattle.text.specs.Text.{bytes}
 use Rattle.text.specs.Tree.{Forest}
-use Rattle.text.specs.Sheet.{numbers}
+use Rattle.text.specs.Sheet.{numbers, Within}
 use Rattle.text.specs.Grammar.{rootOf}
 use Rattle.text.specs.Doc.{Name, Doc, Members, docOf}
 use Rattle.text.specs.Writing.{written}
@@ -23,7 +23,7 @@ use Rattle.contact.specs.Places.{KeyStands, keyPlace}
 use Rattle.contact.specs.Conditions.{PatchOf, LeftOutOf, SecondNumber, inside, BrokenCondition, Applicable, FirstBroken, Smallest}
 use Rattle.contact.specs.Services.{judge, localize, served}
 use Rattle.contact.specs.Judging.{CardText}
-use Rattle.contact.specs.Demands.{Passes, Within, WouldBe, Localization}
+use Rattle.contact.specs.Demands.{Passes, WouldBe, Localization}
 use Rattle.contact.specs.Contract.{Localizes}
 use Rattle.contact.specs.declared.CardRefusal.{CardRefusal}
 use Rattle.contact.specs.declared.LocalRefusal.{LocalRefusal}

@@ -1,8 +1,8 @@
 -- The measure of reading in pieces beside what reading answers: `pieces-as-read`, and where that is 7, `pieces-rows`. Assumes nothing.
-use mathlib.Core.Path.{_≡_, refl, sym, ap, _∙_}
+use mathlib.Core.Path.{_≡_, sym, ap, _∙_}
 use mathlib.Core.Bool.{Bool, true, false, cond}
 use mathlib.Core.List.{List}
-use Prim.Native.Nat.{ℕ, _*_, _≤_, _<_}
+use Prim.Native.Nat.{ℕ, _*_, _<_}
 use native.Mathlib.Decide.{decLe}
 use native.Mathlib.Omega.{arith}
 use lib.ListN.{length}
@@ -15,9 +15,9 @@ use Rattle.text.specs.Reader.{Read, good, bad}
 use Rattle.text.specs.Whole.{readOf, fitOf, wholeOf, sheetOf}
 use Rattle.text.specs.declared.Paper.{Paper}
 use Rattle.text.specs.declared.Refusal.{Refusal}
-use Rattle.text.specs.declared.Refusal.the-variants.{TooLong, Grammar, Character, Repeated, Deep, Many, Small}
+use Rattle.text.specs.declared.Refusal.the-variants.{TooLong, Small}
 use Rattle.text.proofs.Grammar.Accepted.{accepts}
-use Rattle.wire.specs.Measure.{lenient, readingOf, measure}
+use Rattle.wire.specs.Measure.{readingOf, measure}
 use Rattle.wire.proofs.Loosens.{Reads, as-measured, by-four, measured}
 use Rattle.contact.specs.Services.{served}
 use Rattle.contact.proofs.Demands.Reading.{read-short}

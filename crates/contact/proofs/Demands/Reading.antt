@@ -14,7 +14,7 @@ use Rattle.text.specs.Reader.{Read, good, bad}
 use Rattle.text.specs.Seats.{Head, Seat, top, Sits}
 use Rattle.text.specs.Standing.{RowAt}
 use Rattle.text.specs.declared.Paper.{Paper}
-use Rattle.text.specs.Sheet.{numbers, refused}
+use Rattle.text.specs.Sheet.{numbers, refused, Within}
 use Rattle.text.specs.Whole.{readOf, fitOf, wholeOf, sheetOf, tableOf}
 use Rattle.text.specs.Meaning.{Readable}
 use Rattle.text.specs.Promised.{Filled}
@@ -30,7 +30,7 @@ use Rattle.text.proofs.Rows.{row-at}
 use Rattle.contact.specs.Verdict.{refusedCard, Judged, passed, failed, judgedRead, judgedOf, sheetOfJudged, tableOfJudged, paperOfVerdict}
 use Rattle.contact.specs.Judging.{CardText, Offends, CardAnswer, unread, passes, offends}
 use Rattle.contact.specs.Services.{read, judge, leaves, served}
-use Rattle.contact.specs.Demands.{Passes, Within}
+use Rattle.contact.specs.Demands.{Passes}
 use Rattle.contact.proofs.Judging.{judging, card-text, card-keeps}
 use Rattle.contact.proofs.Demands.Sheet.{line-of, text-line, card-line, card-some, same-number, same-second}
 

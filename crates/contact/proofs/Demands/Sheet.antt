@@ -1,47 +1,24 @@
 -- The numbers of each refusal stand on the lines of the sheet that its service has. Assumes nothing.
 use Prim.Native.Nat.{ℕ, _<_}
 use native.Mathlib.Omega.{arith}
-use mathlib.Core.Path.{_≡_, refl, sym, ap, _∙_}
+use mathlib.Core.Path.{_≡_, refl, sym, _∙_}
 use mathlib.Core.Logic.{_⊎_, inl, inr, ⊎-elim}
-use Rattle.text.specs.declared.Paper.{Paper}
-use Rattle.text.specs.Sheet.{numbers, refused}
-use Rattle.text.specs.declared.Refusal.{Refusal}
-use Rattle.text.specs.declared.Refusal.the-variants.{TooLong, Grammar, Character, Repeated, Deep, Many, Small}
+use Rattle.text.specs.Sheet.{numbers, Within}
+pub use Rattle.text.proofs.Lines.{OnLine, on-line, wider, line-of, text-line, same-number, same-second}
 use Rattle.contact.specs.Verdict.{refusedFault, refusedCard}
 use Rattle.contact.specs.Localize.{refusedLocal}
 use Rattle.contact.specs.Conditions.{SecondNumber, no-language, bad-key, own-localizations, clash, in-array, no-object, needed, inside}
-use Rattle.contact.specs.Demands.{Within}
 use Rattle.contact.specs.declared.CardFault.the-variants.{Kind, Missing, Value, Rule}
 use Rattle.contact.specs.declared.CardRefusal.{CardRefusal}
 use Rattle.contact.specs.declared.CardRefusal.the-variants.{Text, Card}
 use Rattle.contact.specs.declared.LocalRefusal.{LocalRefusal}
 use Rattle.contact.specs.declared.LocalRefusal.the-variants.{Given, NoLanguage, BadKey, OwnLocalizations, Clash, InArray, NoObject, Short, Inner}
 
--- the numbers of a refusal, on one of these lines
-pub data OnLine (Line : ℕ → Type 0) : Paper → Type 0 where
-  on-line : (n second : ℕ) → Line n → OnLine Line (numbers n second 0)
-
-pub wider : {Line Wide : ℕ → Type 0} {p : Paper} → ((n : ℕ) → Line n → Wide n) → OnLine Line p → OnLine Wide p
-wider f (on-line n second l) = on-line n second (f n l)
-
-pub line-of : {Line : ℕ → Type 0} {p : Paper} → OnLine Line p → Line (p .number)
-line-of (on-line n second l) = l
-
 abbrev pub CardLine : ℕ → Type 0
 CardLine n = Within 1 7 n ⊎ Within 11 14 n
 
 abbrev pub LocalLine : ℕ → Type 0
 LocalLine n = Within 1 7 n ⊎ Within 11 14 n ⊎ Within 21 28 n
-
-pub text-line : (r : Refusal) → OnLine (Within 1 7) (refused r)
-unfolding refused
-text-line TooLong = on-line 1 0 (omega arith)
-text-line (Grammar p) = on-line 2 p (omega arith)
-text-line (Character p) = on-line 3 p (omega arith)
-text-line (Repeated p) = on-line 4 p (omega arith)
-text-line (Deep p) = on-line 5 p (omega arith)
-text-line (Many p) = on-line 6 p (omega arith)
-text-line (Small n) = on-line 7 n (omega arith)
 
 pub card-line : (r : CardRefusal) → OnLine CardLine (refusedCard r)
 unfolding refusedCard refusedFault
@@ -102,13 +79,6 @@ second-sheet in-array = refl
 second-sheet no-object = refl
 second-sheet needed = refl
 second-sheet inside = refl
-
--- the same numbers
-pub same-number : {p q : Paper} → p ≡ q → p .number ≡ q .number
-same-number e = ap (λ (a : Paper). a .number) e
-
-pub same-second : {p q : Paper} → p ≡ q → p .second ≡ q .second
-same-second e = ap (λ (a : Paper). a .second) e
 
 -- a refusal has one second number
 pub one-second : {r : LocalRefusal} {a b : ℕ} → SecondNumber r a → SecondNumber r b → a ≡ b

@@ -33,7 +33,7 @@ use Rattle.patch.specs.Children.{Held}
 use Rattle.patch.specs.Entries.{mostEntries, Collected}
 use Rattle.patch.specs.Tails.{tailOrder, BeginAlike}
 use Rattle.patch.specs.Runs.{LeadsAll, leads-none, leads-more, InOrder, asc-none, asc-more}
-use Rattle.patch.specs.Written.{full, Wrote}
+use Rattle.output.specs.Written.{full, Wrote}
 use Rattle.patch.specs.Conditions.{keyFault, walkFault, ListedPlaces, conditionOf, FirstKey}
 use Rattle.patch.specs.Patched.{Said, BaseAt}
 use Rattle.patch.specs.Drafts.{Draft, unlessBroken, unlessAstray, entriesDraft, Countable, fittingOf, Drafted, PutSorted, EntriesUpTo, PlacesOf, Makes}

@@ -18,12 +18,12 @@ use Rattle.contact.specs.Patch.{Entry, changeOf, added}
 use Rattle.patch.specs.Entries.{Listed, over, next, stripped}
 use Rattle.patch.specs.Marks.{met, ShortKeys}
 use Rattle.patch.specs.Runs.{InOrder, asc-more}
-use Rattle.patch.specs.Written.{full, Wrote}
+use Rattle.output.specs.Written.{full, Wrote}
 use Rattle.json.specs.Lookup.{KnownAt}
 use Rattle.patch.specs.Patched.{adds, pointerIn, entryOf, piece, since, Passed, Said, Settled}
 use Rattle.patch.specs.declared.writing.Pen.{Pen}
 use Rattle.patch.proofs.Listing.Marks.{around-all}
-use Rattle.patch.proofs.Putting.Bytes.{BytesLeft, left-on, left-as, left-last}
+use Rattle.output.proofs.Bytes.{BytesLeft, left-on, left-as, left-last}
 use Rattle.patch.proofs.Putting.Kept.{link, linked, added-linked, passed-none}
 use Rattle.patch.proofs.Putting.Meeting.{met-by, point-in, adds-there}
 

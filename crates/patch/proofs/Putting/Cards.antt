@@ -13,7 +13,7 @@ use Rattle.contact.specs.Pointer.{pointerOf}
 use Rattle.contact.specs.Patch.{Entry, entry, changeOf, entriesOf}
 use Rattle.pointers.specs.Pointers.{strip}
 use Rattle.patch.specs.Entries.{stripped}
-use Rattle.patch.specs.Written.{full, Wrote}
+use Rattle.output.specs.Written.{full, Wrote}
 
 pub stripped-all : (ms : Members) → stripped 0 ms ≡ entriesOf ms
 unfolding stripped strip

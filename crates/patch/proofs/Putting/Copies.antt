@@ -19,10 +19,10 @@ use Rattle.text.specs.Doc.{membersOf, labelAt, docOf}
 use Rattle.text.specs.Writing.{comma, written, writtenEntries, writtenMembers}
 use Rattle.text.proofs.Promise.{doc-scalar, doc-array, doc-object, members-first, members-none}
 use Rattle.json.specs.Rows.{belowIn}
-use Rattle.patch.specs.Written.{Wrote}
+use Rattle.output.specs.Written.{Wrote}
 use Rattle.json.specs.Lookup.{KnownAt}
 use Rattle.patch.specs.Copied.{openByte, closeByte, headOf, labelIn, Copied}
-use Rattle.patch.proofs.Putting.Bytes.{left-on, left-as, left-last}
+use Rattle.output.proofs.Bytes.{left-on, left-as, left-last}
 use Rattle.patch.proofs.Putting.Walks.{value-row, Walk, walk-here, walk-on, walk-end}
 
 -- the values inside it from here on, and its closing bracket

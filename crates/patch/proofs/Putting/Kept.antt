@@ -25,10 +25,10 @@ use Rattle.contact.specs.Patch.{Change, remove, set, Entry, entry, mine, under,
 use Rattle.pointers.specs.Pointers.{pointerOrder}
 use Rattle.patch.specs.Runs.{LeadsAll, leads-more, InOrder, asc-more}
 use Rattle.patch.specs.Patched.{based, basedAll, keptBy, stays, freshly, adds, piece, since, Passed}
-use Rattle.patch.specs.Written.{full, Wrote}
+use Rattle.output.specs.Written.{full, Wrote}
 use Rattle.patch.specs.Copied.{headOf}
 use Rattle.patch.specs.declared.writing.Pen.{Pen}
-use Rattle.patch.proofs.Putting.Bytes.{wrote-none, wrote-then}
+use Rattle.output.proofs.Bytes.{wrote-none, wrote-then}
 
 -- ---- one member ----
 

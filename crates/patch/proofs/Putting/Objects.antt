@@ -25,7 +25,7 @@ use Rattle.patch.specs.Conditions.{walkCode, Walked}
 use Rattle.patch.specs.Marks.{met, FilledWith, pointAt, Waiting, Marked, Unmet}
 use Rattle.patch.specs.Patched.{based, basedAll, isOut, BaseAt, stays, strayOf, Passed}
 use Rattle.patch.specs.declared.writing.Pen.{Pen}
-use Rattle.patch.proofs.Putting.Bytes.{BytesLeft}
+use Rattle.output.proofs.Bytes.{BytesLeft}
 use Rattle.patch.proofs.Putting.Walks.{value-row, walk-start, walk-here, walk-on}
 use Rattle.patch.proofs.Putting.Patches.{restBy, PatchWalk, patch-start, patch-turn}
 use Rattle.patch.proofs.Putting.Meeting.{waiting-marked, ahead-out, ahead-in, ahead-on}

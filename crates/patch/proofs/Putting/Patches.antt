@@ -24,13 +24,13 @@ use Rattle.contact.proofs.Patching.Untouched.{applied-nil}
 use Rattle.pointers.specs.Pointers.{strip}
 use Rattle.patch.specs.Entries.{Listed, stripped}
 use Rattle.patch.specs.Runs.{InOrder}
-use Rattle.patch.specs.Written.{Wrote}
+use Rattle.output.specs.Written.{Wrote}
 use Rattle.patch.specs.Patched.{Said, basedAll, isOut, OutAt, LeavesOut, BaseAt, keptBy, stays, pointerIn, isLast, isNothing, endsFirst, piece, since, Passed}
 use Rattle.pointers.specs.Parts.{GoesAt}
 use Rattle.pointers.specs.declared.keys.After.{After}
 use Rattle.pointers.specs.declared.keys.After.the-variants.{Nothing, At}
 use Rattle.patch.specs.declared.writing.Pen.{Pen}
-use Rattle.patch.proofs.Putting.Bytes.{BytesLeft, left-on, left-as, left-last}
+use Rattle.output.proofs.Bytes.{BytesLeft, left-on, left-as, left-last}
 use Rattle.patch.proofs.Putting.Walks.{value-row, Walk, walk-start, walk-here, walk-on, walk-end}
 use Rattle.patch.proofs.Listing.Members.{Middle, run-ends, Deep, deep-none, deep, deep-mine, deep-under, deep-ascending, Named}
 use Rattle.patch.proofs.Putting.Kept.{linked, kept-linked}

@@ -4,34 +4,17 @@
 use Prim.Native.Nat.{ℕ, zero, suc, _+_, _-_, _≤_, _<_}
 use mathlib.Core.Path.{_≡_, ap}
 use mathlib.Core.Bool.{true}
-use mathlib.Core.List.{List, [], _∷_, _++_}
+use mathlib.Core.List.{List, _∷_, _++_}
 use native.Mathlib.Omega.{arith}
-use borrow.Author.Tests.{ne-eqb, le-ltb}
 use Rattle.laws.specs.Lists.{partOf}
 use Rattle.laws.proofs.Places.{inside}
 use Rattle.laws.proofs.Parts.{part-here, part-more}
 use Rattle.text.specs.Text.{byteAt}
-use Rattle.text.specs.Writing.{spelledByte}
 use Rattle.json.specs.Plain.{Own}
+use Rattle.output.proofs.Own.{own-byte}
 use Rattle.pointers.specs.Parts.{leftAt, OwnTo}
 use Rattle.pointers.proofs.Laws.Own.{own-on}
-use Rattle.patch.specs.Written.{spelledRest}
-
--- such a byte is written as it is
-own-byte : (b : ℕ) → Own b → spelledByte b ≡ b ∷ []
-own-byte b o =
-    let low = o .plain .printable in
-    let not : (c : ℕ) → c < 32 → b ≡ c → ⊥ = λ c h e. omega arith in
-    rw (
-      ne-eqb b 34 (o .plain .no-quote),
-      ne-eqb b 92 (o .plain .no-slash),
-      ne-eqb b 8 (not 8 (omega arith)),
-      ne-eqb b 9 (not 9 (omega arith)),
-      ne-eqb b 10 (not 10 (omega arith)),
-      ne-eqb b 12 (not 12 (omega arith)),
-      ne-eqb b 13 (not 13 (omega arith)),
-      le-ltb b 32 low,
-    )
+use Rattle.patch.specs.Spelled.{spelledRest}
 
 -- k of them
 run-of : (key : List ℕ) (k i e : ℕ) → i + k ≡ e → ((j : ℕ) → i ≤ j → j < e → Own (byteAt key j))
@@ -40,7 +23,7 @@ run-of key zero i e at own = let here : i ≡ e = omega arith in rw (here, part-
 run-of key (suc k) i e at own =
     let o = own i (omega arith) (omega arith) in
     let last-in = inside key (i + k) (let small = own (i + k) (omega arith) (omega arith) .plain .ascii in omega arith) in
-    rw (own-on key i o, own-byte (byteAt key i) o, part-more key i e (omega arith) (omega arith))
+    rw (own-on key i o, own-byte (byteAt key i) (o .plain .printable) (o .plain .no-quote) (o .plain .no-slash), part-more key i e (omega arith) (omega arith))
     (ap (λ (l : List ℕ). byteAt key i ∷ l) (run-of key k (i + 1) e (omega arith) (λ j x y. own j (omega arith) y)))
 
 pub own-spelled : (key : List ℕ) {from to : ℕ} → OwnTo key from to → spelledRest (leftAt true key from) ≡ partOf key from to ++ spelledRest (leftAt true key to)

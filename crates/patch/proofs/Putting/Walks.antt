@@ -15,7 +15,7 @@ use Rattle.text.proofs.Promise.{first-row, inside, after, some-at, none-at}
 use Rattle.json.specs.Rows.{belowIn}
 use Rattle.json.specs.Lookup.{lastRow, KnownAt}
 use Rattle.json.proofs.Seeking.{inside-kinds, rest-kinds}
-use Rattle.patch.proofs.Putting.Bytes.{BytesLeft}
+use Rattle.output.proofs.Bytes.{BytesLeft}
 
 -- the words of its row
 pub value-row : {table : List ℕ} {row : ℕ} {g : Forest} → KnownAt table row g → RowAt table row (headAt g)

@@ -13,7 +13,7 @@ use Rattle.text.specs.Firsts.{insideAt}
 use Rattle.json.specs.Rows.{belowIn}
 use Rattle.json.specs.Lookup.{lastRow, KnownAt}
 use Rattle.patch.specs.Copied.{openByte}
-use Rattle.patch.proofs.Putting.Bytes.{left-all, wrote-then}
+use Rattle.output.proofs.Bytes.{left-all, wrote-then}
 use Rattle.json.proofs.Seeking.{row-after, row-inside}
 use Rattle.patch.proofs.Putting.Walks.{value-row, Passing, Walk, walk-start}
 use Rattle.patch.proofs.Putting.Copies.{insideOf, copied-scalar, copied-inside, copy-turn, copy-end}
@@ -22,8 +22,8 @@ use borrow.Fn.PlainCycle.{Measures, is, falls, and}
 use Rattle.patch.proofs.writing.copy_value.Reads as copy-value
 use Rattle.patch.proofs.writing.copy_value.Kinds as copy-value-kinds
 use Rattle.patch.proofs.writing.+copy_value.Lts-copy_value as lts
-use Rattle.patch.proofs.output.put_byte.Reads as put-byte-reads
-use Rattle.patch.proofs.output.put_run.Reads as put-run-reads
+use Rattle.output.proofs.put.put_byte.Reads as put-byte-reads
+use Rattle.output.proofs.put.put_run.Reads as put-run-reads
 use Rattle.patch.proofs.writing.close_of.Reads as close-of-reads
 use Rattle.patch.proofs.writing.open_of.Reads as open-of-reads
 use Rattle.patch.proofs.writing.put_head.Reads as put-head-reads

@@ -9,7 +9,7 @@ use Rattle.text.proofs.Promise.{doc-kind}
 use Rattle.contact.specs.Pointer.{pointerOf, firstPart}
 use Rattle.json.specs.Cursors.{rest, cursor}
 use Rattle.patch.specs.Children.{keyBytes}
-use Rattle.patch.proofs.Putting.Bytes.{wrote-then}
+use Rattle.output.proofs.Bytes.{wrote-then}
 use Rattle.patch.proofs.Putting.Walks.{value-row}
 use Rattle.patch.proofs.Putting.Kept.{change-null, change-set, passed-none, passed-some}
 use borrow.Author.Needs.{needs}

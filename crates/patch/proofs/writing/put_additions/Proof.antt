@@ -15,7 +15,7 @@ use Rattle.patch.specs.Marks.{MarkIn, Around, Marked}
 use Rattle.patch.specs.Patched.{Said, Settled}
 use Rattle.patch.specs.declared.writing.Pen.{Pen}
 use Rattle.patch.proofs.Listing.Marks.{around-start, around-next}
-use Rattle.patch.proofs.Putting.Bytes.{left-all}
+use Rattle.output.proofs.Bytes.{left-all}
 use Rattle.patch.proofs.Putting.Additions.{first-said, settled-met, Adding, adding-on, adding-end}
 use Rattle.patch.proofs.Putting.Meeting.{mark-same, walked-next}
 use Rattle.patch.proofs.writing.put_additions.Statement.{statement}

@@ -4,7 +4,7 @@ use denote.Ref.{now}
 use borrow.Author.Tests.{eq-eqb, ne-eqb}
 use Rattle.text.specs.Writing.{comma}
 use Rattle.patch.specs.Copied.{labelIn}
-use Rattle.patch.proofs.Putting.Bytes.{wrote-then}
+use Rattle.output.proofs.Bytes.{wrote-then}
 use borrow.Author.Needs.{needs}
 use Rattle.patch.proofs.writing.put_head.Statement.{statement}
 use Rattle.patch.proofs.writing.put_head.Tie as tie

@@ -19,7 +19,7 @@ use Rattle.patch.specs.Tails.{BeginAlike}
 use Rattle.patch.specs.Marks.{Waiting}
 use Rattle.patch.specs.Patched.{Said, BaseAt, Elsewhere}
 use Rattle.patch.proofs.Listing.Marks.{around-all, around-join}
-use Rattle.patch.proofs.Putting.Bytes.{left-all, wrote-then}
+use Rattle.output.proofs.Bytes.{left-all, wrote-then}
 use Rattle.json.proofs.Seeking.{row-after, row-inside}
 use Rattle.patch.proofs.Putting.Walks.{value-row, Passing, walk-here}
 use Rattle.patch.proofs.Putting.Kept.{based-object, based-members, based-other}
@@ -34,7 +34,7 @@ use Rattle.patch.proofs.writing.stray_of.Reads as stray-of-reads
 use Rattle.patch.proofs.writing.copy_value.Reads as copy-value-reads
 use Rattle.json.proofs.rows.kind.Reads as kind-reads
 use Rattle.patch.proofs.writing.put_additions.Reads as put-additions-reads
-use Rattle.patch.proofs.output.put_byte.Reads as put-byte-reads
+use Rattle.output.proofs.put.put_byte.Reads as put-byte-reads
 use Rattle.patch.proofs.writing.+put_inside+put_member+put_value.Proof.Measures.{value-at, member-below}
 
 abbrev pub Inv-loop : lts.InvT-loop
