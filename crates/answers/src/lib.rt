@@ -3,6 +3,8 @@
 //   paper    those of judging and localizing
 //   store    those of packing and unpacking
 //   written  what a verdict on the written card makes of it
+#![tactic(auto)]
+
 pub mod paper;
 pub mod sheet;
 pub mod store;

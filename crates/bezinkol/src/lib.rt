@@ -1,4 +1,6 @@
 // The intake for those who link it from C: thin functions over the services, whose answers go into three lent words.
+#![tactic(auto)]
+
 ghost use Rattle.std.specs.Prelude.{◌≡◌, [], ◌+◌, ◌*◌, length};
 ghost use Rattle.contact.specs.Services as services;
 ghost use Rattle.text.specs.Limits.{base};

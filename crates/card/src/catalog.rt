@@ -390,7 +390,7 @@ pub(crate) fn type_name(words: &[u8], o: u32) -> &[u8]
 // ---- what a type has
 
 // Some of the properties, or of the rules: from the first up to, and without, the last.
-#[derive(Drop)]
+#[derive(Clone, Copy)]
 pub(crate) struct Span {
     pub first: usize,
     pub last: usize,

@@ -6,14 +6,14 @@ ghost use Rattle.card.specs.Types.{simple_of, item_type, type_of, is_any, AsObje
 use json_reader::rows::{ARRAY, FALSE, NUMBER, OBJECT, STRING, TRUE};
 
 // The keys of a map: any, or Ids.
-#[derive(Drop)]
+#[derive(Clone, Copy)]
 pub(crate) enum Keys {
     Free,
     Ids,
 }
 
 // What a value that holds no others may have to be.
-#[derive(Drop)]
+#[derive(Clone, Copy)]
 pub(crate) enum SimpleItem {
     AnyString,
     // the name of that object type
@@ -29,7 +29,7 @@ pub(crate) enum SimpleItem {
 }
 
 // What a value may have to be, or each value of a list or a map. An object type is its number in the catalog.
-#[derive(Drop)]
+#[derive(Clone, Copy)]
 pub(crate) enum Item {
     // of an unknown property: nothing is judged
     Any,
@@ -42,7 +42,7 @@ pub(crate) enum Item {
 }
 
 // What a value has to be: one item, a list of such items, or a map of them.
-#[derive(Drop)]
+#[derive(Clone, Copy)]
 pub(crate) enum Ty {
     One(Item),
     ListOf(Item),
@@ -116,7 +116,7 @@ pub(crate) fn is_any(ty: Ty) -> bool
 }
 
 // What a type is for the rules on objects.
-#[derive(Drop)]
+#[derive(Clone, Copy)]
 pub(crate) enum Role {
     As(u32),
     Between(u32, u32),

@@ -11,6 +11,8 @@
 //   judge       the service: read, walked, cleared
 // Localizing, on what crate patch writes, with the answers of crate answers:
 //   localize    the service: judged, composed, judged again, cleared
+#![tactic(auto)]
+
 mod catalog;
 mod content;
 mod inside;

@@ -144,7 +144,7 @@ fn is_separator(text: &[u8], table: &[u32], k: usize) -> bool
 }
 
 // What is told of the entries of a list so far: is any a separator, are all, are two in a row, and is the last one?
-#[derive(Drop)]
+#[derive(Clone, Copy)]
 pub(crate) struct Marks {
     pub any: bool,
     pub all: bool,

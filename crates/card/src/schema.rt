@@ -88,7 +88,7 @@ pub(crate) fn object_of(o: u32) -> u32
 }
 
 // An object: its type, and the rows from .. end of its members.
-#[derive(Drop)]
+#[derive(Clone, Copy)]
 pub(crate) struct Object {
     pub of: u32,
     pub from: usize,

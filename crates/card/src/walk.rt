@@ -17,7 +17,7 @@ use json_reader::lookup::next_row;
 use json_reader::rows::{kind, name_end, name_start, value_end, value_start};
 
 // Nothing is broken, or on a row the rule of a number.
-#[derive(Drop)]
+#[derive(Clone, Copy)]
 pub(crate) enum Breach {
     Nothing,
     At(usize, usize),

@@ -10,7 +10,7 @@ use pieces::reader::{end, said, start, take};
 use wire::Held;
 
 // A reading so far: the reader, after how many bytes it answered (0: it goes on), and did it stay with that?
-#[derive(Drop)]
+#[derive(Clone, Copy)]
 struct Fed {
     held: Held,
     told: usize,

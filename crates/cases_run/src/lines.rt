@@ -11,7 +11,7 @@ ghost use Rattle.io.specs.Counts.{IsPrefixLen};
 pub const ROOM: usize = 1050000;
 
 // A number that was read, and the place after the byte that ends it.
-#[derive(Drop)]
+#[derive(Clone, Copy)]
 struct Count {
     value: usize,
     at: usize,
@@ -185,7 +185,7 @@ fn copy(out: &mut [u8], from: usize, base: &[u8], a: usize, b: usize) -> usize
 }
 
 // What stands at a place of a line after a percent sign: it is put, and the place after it and the text's length are returned.
-#[derive(Drop)]
+#[derive(Clone, Copy)]
 struct Step {
     next: usize,
     size: usize,

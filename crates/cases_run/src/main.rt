@@ -3,6 +3,8 @@
 //   !TEXT   the base text of the lines below
 //   CASE    in the form that the service's module says; a line is written for it
 // and texts are in the notation of `lines`.
+#![tactic(auto)]
+
 mod buffers;
 mod feeding;
 mod lines;
@@ -15,7 +17,7 @@ mod storing;
 const INPUT: usize = 1900000;
 
 // What the cases are for; `Unknown` before the first name and after one that is none of these.
-#[derive(Drop)]
+#[derive(Clone, Copy)]
 enum Service {
     Reading,
     Judging,

@@ -1,5 +1,7 @@
 // Characters as numbers: which code points are characters, and the code point that a sequence of UTF-8 stands for (docs/RULES.md, 3.4). No text is read
 // here: a byte is a number, 256 where there is none.
+#![tactic(auto)]
+
 ghost use Rattle.std.specs.Prelude.{◌≡◌};
 ghost use Rattle.text.specs.Chars.{checked_at, tail_of, seq2, seq3, seq4};
 

@@ -1,9 +1,11 @@
 // What judging and localizing answer. There is no code here: the definitions of specs/ name these types, and the contracts of the card layer
 // cite the definitions.
+#![tactic(auto)]
+
 use text::Refusal;
 
 // What is wrong with a card: numbers 11 to 14 of the refusal sheet, in its order, with the place of the value or object.
-#[derive(Drop)]
+#[derive(Clone, Copy)]
 pub enum CardFault {
     Kind(usize),
     Missing(usize),
@@ -12,14 +14,14 @@ pub enum CardFault {
 }
 
 // Why a card is refused: by reading, or by the card rules.
-#[derive(Drop)]
+#[derive(Clone, Copy)]
 pub enum CardRefusal {
     Text(Refusal),
     Card(CardFault),
 }
 
 // What judging answers: the number of the card's rows, or the refusal.
-#[derive(Drop)]
+#[derive(Clone, Copy)]
 pub enum Verdict {
     Passed(usize),
     Failed(CardRefusal),
@@ -27,7 +29,7 @@ pub enum Verdict {
 
 // Why no localized card is written: the card's own refusal, then numbers 21 to 28 of the sheet, in its order. 22 to 26 have the place of the key at
 // fault, of its opening quote in the card text; 27 has the bytes needed, and 28 the refusal of the localized card, whose place is one in that card's text.
-#[derive(Drop)]
+#[derive(Clone, Copy)]
 pub enum LocalRefusal {
     Given(CardRefusal),
     NoLanguage,
@@ -41,7 +43,7 @@ pub enum LocalRefusal {
 }
 
 // What localizing answers: the number of rows and of bytes of the localized card, or the refusal.
-#[derive(Drop)]
+#[derive(Clone, Copy)]
 pub enum Localized {
     Written(usize, usize),
     Denied(LocalRefusal),

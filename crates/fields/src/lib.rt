@@ -3,6 +3,8 @@
 //   sort      the places of names, sorted by name and place
 //   repeated  a name twice among some
 //   walk      whole packings
+#![tactic(auto)]
+
 mod places;
 mod repeated;
 mod sort;
@@ -15,7 +17,7 @@ pub const HEAD: usize = 3;
 pub const LONGEST: usize = 65538;
 
 // What a survey says: the number of values; or that a field is cut off, or an object has a name twice.
-#[derive(Drop)]
+#[derive(Clone, Copy)]
 pub enum Survey {
     Values(usize),
     Unfit,

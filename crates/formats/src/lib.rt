@@ -2,6 +2,8 @@
 //   counts  unsigned integers
 //   ids     Ids
 //   dates   UTCDateTimes
+#![tactic(auto)]
+
 pub mod counts;
 pub mod dates;
 pub mod ids;

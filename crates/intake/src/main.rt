@@ -1,6 +1,8 @@
 // Judges one card: reads it from standard input and writes one line, 0 and the row count, or the refusal's number and its second number: what
 // `desk::line::program_line` answers. So what isn't proved is the reading and the writing alone.
 // A failed read is never taken for the end of the card: then standard output stays empty and standard error has a line.
+#![tactic(auto)]
+
 ghost use Rattle.std.specs.Prelude.{length};
 ghost use Rattle.intake.specs.Input.{FitsRoom};
 
@@ -12,7 +14,7 @@ use libc::{STDERR_FILENO, STDIN_FILENO, STDOUT_FILENO};
 const ROOM: usize = BUFFER + 1;
 
 // What reading gave: so many bytes, 0 at the end of the input; or a failure.
-#[derive(Drop)]
+#[derive(Clone, Copy)]
 enum Got {
     Bytes(usize),
     Failed,

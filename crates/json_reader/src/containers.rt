@@ -9,7 +9,7 @@ use crate::members::{ItemStart, read_key};
 use crate::rows::{ARRAY, OBJECT};
 
 // The two containers: they differ in their kind, their closing byte and their items.
-#[derive(Drop)]
+#[derive(Clone, Copy)]
 pub enum Container {
     Array,
     Object,

@@ -9,7 +9,7 @@ use crate::chars::escape;
 use text::Step;
 
 // A place in a string's inner bytes, and the continuation bytes (at most three) of the code point `code` that are still to be handed out.
-#[derive(Drop)]
+#[derive(Clone, Copy)]
 pub struct Cursor {
     pub at: usize,
     pub code: u32,
@@ -35,7 +35,7 @@ pub fn start() -> Cursor
 }
 
 // What a cursor hands out: a byte and the cursor after it, or nothing, at the end.
-#[derive(Drop)]
+#[derive(Clone, Copy)]
 pub enum Next {
     Byte(u8, Cursor),
     Over,

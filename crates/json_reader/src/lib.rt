@@ -16,6 +16,8 @@
 //   containers  the two containers, and how their items begin
 //   values      values, arrays and objects
 //   read        whole texts
+#![tactic(auto)]
+
 pub mod bytes;
 pub mod chars;
 mod containers;

@@ -14,7 +14,7 @@ use crate::rows::{below, name_end, name_start};
 const LAST: usize = 18446744073709551615;
 
 // Where a member was found, if there is one.
-#[derive(Drop)]
+#[derive(Clone, Copy)]
 pub enum Found {
     Row(usize),
     Nothing,

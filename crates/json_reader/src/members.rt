@@ -11,7 +11,7 @@ use text::{Refusal, Token};
 
 // How an item begins: the places of its name, 0 and 0 where it has none, and the place of its value; or the refusal. Last, where the names end that were
 // put aside.
-#[derive(Drop)]
+#[derive(Clone, Copy)]
 pub enum ItemStart {
     At(usize, usize, usize, usize),
     Wrong(Refusal, usize),

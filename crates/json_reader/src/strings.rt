@@ -8,14 +8,14 @@ use crate::plain::plain_end;
 use text::{Step, Token};
 
 // How far the whole characters of a string stand, and how it ends.
-#[derive(Drop)]
+#[derive(Clone, Copy)]
 pub struct Stop {
     at: usize,
     token: Token,
 }
 
 // What a stretch of a string comes to: the place after a plain byte, where plain ones may follow; or the end of its characters.
-#[derive(Drop)]
+#[derive(Clone, Copy)]
 pub enum Stepped {
     On(usize),
     Done(Stop),

@@ -21,14 +21,14 @@ use crate::tokens::{kind_of, skip, token_end};
 use text::{Refusal, Token};
 
 // What reading some of a text gives: the place after it and the number of values so far, or the refusal.
-#[derive(Drop)]
+#[derive(Clone, Copy)]
 pub enum Progress {
     Next(usize, usize),
     Stop(Refusal),
 }
 
 // What reading items gives, and where the names end that they and the items before them closed.
-#[derive(Drop)]
+#[derive(Clone, Copy)]
 pub struct Gathered {
     pub read: Progress,
     pub end: usize,

@@ -14,7 +14,7 @@ use json_reader::lookup::{Found, next_row};
 use json_reader::rows::{OBJECT, kind};
 
 // So many bytes were written, or nothing that counts.
-#[derive(Drop)]
+#[derive(Clone, Copy)]
 pub enum Attempt {
     Bytes(usize),
     Refused(LocalRefusal),

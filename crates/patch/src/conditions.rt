@@ -16,7 +16,7 @@ use pointers::keys::{clashes, has_bad_tilde, is_own};
 use pointers::parts::name_order;
 
 // What a key can be at fault for: 22 to 26.
-#[derive(Drop)]
+#[derive(Clone, Copy)]
 enum Fault {
     Tilde,
     Own,
@@ -26,14 +26,14 @@ enum Fault {
 }
 
 // The row of the key that is named, if there is one.
-#[derive(Drop)]
+#[derive(Clone, Copy)]
 enum Named {
     Nothing,
     Row(usize),
 }
 
 // All are kept, or one is broken.
-#[derive(Drop)]
+#[derive(Clone, Copy)]
 pub(crate) enum Condition {
     Kept,
     Broken(LocalRefusal),

@@ -8,6 +8,8 @@
 //   names       names as a text has them, or newly spelled
 //   writing     values written as they are, or as the entries of a patch leave them
 //   compose     the localized card, written or refused
+#![tactic(auto)]
+
 mod children;
 pub mod compose;
 mod conditions;

@@ -12,7 +12,7 @@ use laws::Order;
 use pointers::parts::{name_order, part_order_at};
 
 // A run of the listed entries: those from lo up to hi.
-#[derive(Drop)]
+#[derive(Clone, Copy)]
 pub(crate) struct Run {
     pub lo: usize,
     pub hi: usize,

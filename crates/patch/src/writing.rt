@@ -18,7 +18,7 @@ use output::put::{put_byte, put_comma, put_run};
 use pointers::keys::{After, after_part};
 
 // Where the next byte goes, whether the next member is the first of its object, and near which place of the list its entries may stand.
-#[derive(Drop)]
+#[derive(Clone, Copy)]
 struct Pen {
     pub to: usize,
     pub first: bool,

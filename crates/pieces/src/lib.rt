@@ -8,6 +8,8 @@
 //   feed       one byte, wherever it comes
 //   runs       bytes that leave a state where it is
 //   reader     the service: start, a piece, the end
+#![tactic(auto)]
+
 mod feed;
 mod figures;
 mod inners;

@@ -10,7 +10,7 @@ use json_reader::strings::chars_end;
 use json_reader::tokens::{digits_end, skip};
 
 // Where a run ends: the spot and the place behind it.
-#[derive(Drop)]
+#[derive(Clone, Copy)]
 pub(crate) struct Stretch {
     pub(crate) spot: u32,
     pub(crate) to: usize,

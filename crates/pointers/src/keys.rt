@@ -240,7 +240,7 @@ fn parts_order(a: &[u8], b: &[u8], from: usize) -> Order
 }
 
 // What follows a part: another, which begins at a place, or none.
-#[derive(Drop)]
+#[derive(Clone, Copy)]
 pub enum After {
     Nothing,
     At(usize),

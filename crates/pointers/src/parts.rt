@@ -21,7 +21,7 @@ const ONE: u16 = b'1' as u16;
 const CODED: u16 = 257;
 
 // What follows a part: another, where the cursor stands, or none.
-#[derive(Drop)]
+#[derive(Clone, Copy)]
 pub(crate) enum Onward {
     Last,
     Part(Cursor),
@@ -72,7 +72,7 @@ fn name_byte(part: bool, key: &[u8], c: Cursor) -> Next
 }
 
 // What is written at a place of a part, or of a name: a byte and how many written bytes spell it, or no byte.
-#[derive(Drop)]
+#[derive(Clone, Copy)]
 struct Glyph {
     pub value: u16,
     pub len: usize,

@@ -5,7 +5,7 @@ ghost use Rattle.vault.specs.Cuts.{CutTo};
 use fields::HEAD;
 
 // A field's tag, and where its content ends; or too few bytes for one.
-#[derive(Drop)]
+#[derive(Clone, Copy)]
 pub enum Cutting {
     Field(u8, usize),
     Torn,

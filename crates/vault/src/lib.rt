@@ -6,6 +6,8 @@
 //   cuts      the field at a place
 //   values    the value of a field, written as compact text
 //   unpack    unpacking
+#![tactic(auto)]
+
 mod contents;
 mod cuts;
 mod heads;

@@ -13,14 +13,14 @@ use json_reader::names::slice;
 use output::put::{put_byte, put_comma, put_run};
 
 // Where the next byte of the text goes, or that the bytes pack nothing.
-#[derive(Drop)]
+#[derive(Clone, Copy)]
 pub enum Pen {
     At(usize),
     Bad,
 }
 
 // A value that is to come: its tag, where its content starts and ends, and where its text goes; or that the bytes pack nothing.
-#[derive(Drop)]
+#[derive(Clone, Copy)]
 pub enum Ahead {
     Value(u8, usize, usize, usize),
     Nothing,

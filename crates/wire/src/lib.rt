@@ -1,8 +1,9 @@
 // Reading in pieces (docs/RULES.md, 9): where a reader stands inside a string, what a byte does there, and what is kept between two calls. There is no code
 // here: the definitions of specs/ name these types, and the contracts of crate pieces cite the definitions.
+#![tactic(auto)]
 
 // Inside a string. The first number is the place of the sequence's first byte, or of the escape's backslash (of the high one, of a pair).
-#[derive(Drop)]
+#[derive(Clone, Copy)]
 pub enum Inner {
     // between two characters
     Plain,
@@ -26,7 +27,7 @@ pub enum Inner {
 }
 
 // What a byte does: the string goes on, it is closed, or the refusal 2 or 3 is certain, at a place.
-#[derive(Drop)]
+#[derive(Clone, Copy)]
 pub enum Move {
     Still(Inner),
     Closed,
@@ -35,7 +36,7 @@ pub enum Move {
 }
 
 // What a caller keeps between two calls: a few machine words. Any words mean some state (specs/Held.antt).
-#[derive(Drop)]
+#[derive(Clone, Copy)]
 pub struct Held {
     // so many bytes were taken, so many values began, so many arrays and objects are open
     pub place: u32,
