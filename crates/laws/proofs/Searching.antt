@@ -186,6 +186,7 @@ module _ (label : ℕ → List ℕ) where
   -- each is before all that follow it
   before_all : (x : ℕ) (ps : List ℕ) → ascend_from label x ps ≡ true → (q : ℕ) → Some (λ y. y ≡ q) ps → before (label x) (label q) ≡ true
   unfolding ascend_from
+  before_all x [] e q i = elim i [ ]
   before_all x (p ∷ ps) e q i = go (before (label x) (label p)) refl e i (λ g j. before_all p ps g q j)
     where
       go : (b : Bool) → before (label x) (label p) ≡ b → cond b (ascend_from label p ps) false ≡ true → Some (λ y. y ≡ q) (p ∷ ps)
@@ -206,6 +207,7 @@ module _ (label : ℕ → List ℕ) where
   -- so no two are equal
   none_equal : (ps : List ℕ) → ascending label ps ≡ true → (p q : ℕ) → Some (λ x. x ≡ q) ps → Some (λ x. x ≡ p) ps → q < p → label q ≡ label p → ⊥
   unfolding ascending
+  none_equal [] e p q x5 _ l s = elim x5 [ ]
   none_equal (x ∷ ps) e p q (each.here h) (each.here k) l s = omega arith
   none_equal (x ∷ ps) e p q (each.here h) (each.later k) l s =
       never (before_all x ps e p k) (ap (λ (n : ℕ). before (label n) (label p)) h ∙ ap (λ (w : List ℕ). before w (label p)) s ∙ before_irrefl (label p))
@@ -220,6 +222,8 @@ module _ (label : ℕ → List ℕ) where
 -- ---- the first of some places climb too
 
 some_take : {q : ℕ} (n : ℕ) (ps : List ℕ) → Some (λ x. x ≡ q) (take n ps) → Some (λ x. x ≡ q) ps
+some_take {q = q} zero ps x' = elim x' [ ]
+some_take {q = q} (suc n) [] x3 = elim x3 [ ]
 some_take (suc n) (p ∷ ps) (each.here h) = each.here h
 some_take (suc n) (p ∷ ps) (each.later i) = each.later (some_take n ps i)
 
