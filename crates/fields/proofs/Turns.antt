@@ -91,7 +91,7 @@ walking_on {p} {words} {spare} {store} {scratch} {at} {n} w e f h k r to m x y =
     let l = w.few in
     record {
       store_long = e ∙ w.store_long;
-      scratch_long = f ∙ w.scratch-long;
+      scratch_long = f ∙ w.scratch_long;
       goes = rw (x, y) (sym (survey_on p at n h k r) ∙ w.goes);
       few = omega arith;
       inside = omega arith;

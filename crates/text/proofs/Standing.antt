@@ -215,7 +215,7 @@ stands_unique {t} {k} {end} (node b ns ne from to inside1 rest) (node b2 ns2 ne2
     let br : b ≡ b2 = bracket_unique b b2 (sym a.kind ∙ c.kind) in
     let u = stands_unique inside1 inside2 p.0 q.0 (inside f tt h.stands) (rw n at (inside g tt i.stands)) in
     let r = stands_unique rest rest2 p.1 q.1 (after f tt h) (rw n at (after g tt i)) in
-    cc (a.name_starts, c.name-start, a.name_ends, c.name-end, a.start, c.start, a.finish, c.finish)
+    cc (a.name_starts, c.name_starts, a.name_ends, c.name_ends, a.start, c.start, a.finish, c.finish)
 
 -- ---- the table that reading leaves ----
 

@@ -47,7 +47,7 @@ module _ (w : List ℕ) (i : ℕ) where
   pub raw_inside : byte_at w i ≤ 256 → 128 ≤ byte_at w i → {code n : ℕ} → raw_at w i (byte_at w i) ≡ Char code n → (i < length w) × Length n
   raw_inside l h {code} {n} e =
       by_order (byte_at w i) 256
-      (λ k. let c = char_inside w i (high_step w i (byte_at w i) refl h k ∙ e) in (c.before-end, c.size))
+      (λ k. let c = char_inside w i (high_step w i (byte_at w i) refl h k ∙ e) in (c.before_end, c.size))
       (λ k. let b : byte_at w i ≡ 256 = omega arith in
       let z : Bad3 i ≡ Char code n = sym raw_over ∙ ap (raw_at w i) (sym b) ∙ e in
       let y : ◌≡◌ {A = ℕ} 0 1 = cc in absurd (omega arith))

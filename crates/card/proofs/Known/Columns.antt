@@ -103,18 +103,18 @@ module _ {words numbers : List ℕ} (l : Lent words numbers) where
     pub lent_spelled : take (get_or numbers i 0 / 65536) (drop (i * name_width) words) ≡ (get_or lines i no_line).spelling
     unfolding right
     lent_spelled =
-        rw ((l.numbers-are.code i h).size, l.words_are)
+        rw ((l.numbers_are.code i h).size, l.words_are)
         (rw spelling_is at (same_eq (take (length (get_or spellings i [])) (drop (i * name_width) table_words)) (get_or spellings i []) (below_at_lem right count all_right i h)))
 
     pub lent_short : get_or numbers i 0 / 65536 ≤ name_width
     unfolding short
     lent_short =
-        rw (l.numbers-are.code i h).size (rw spelling_is at (leb-true (length (get_or spellings i [])) name_width (below_at_lem short count all_short i h)))
+        rw (l.numbers_are.code i h).size (rw spelling_is at (leb-true (length (get_or spellings i [])) name_width (below_at_lem short count all_short i h)))
 
     lent_some : 1 ≤ get_or numbers i 0 / 65536
     unfolding some
     lent_some =
-        rw (l.numbers-are.code i h).size (rw spelling_is at (leb-true 1 (length (get_or spellings i [])) (below_at_lem some count all_some i h)))
+        rw (l.numbers_are.code i h).size (rw spelling_is at (leb-true 1 (length (get_or spellings i [])) (below_at_lem some count all_some i h)))
 
     -- it begins with the byte at its place
     lent_begins : (xs : List ℕ) × ((get_or lines i no_line).spelling ≡ byte_at words (i * name_width) ∷ xs)

@@ -196,7 +196,7 @@ order_patches card other lang (in_member x) =
       ones = w.ones;
       others = w.others;
       patch = record { label = w.label; stands = ap (within (find (last lang))) b.in_one ∙ w.in_one };
-      reordered = record { label = w.label; stands = ap (within (find (last lang))) b.in_other ∙ w.in-other };
+      reordered = record { label = w.label; stands = ap (within (find (last lang))) b.in_other ∙ w.in_other };
       shuffled = w.shuffled;
       started = ap object (at_rest x);
     }

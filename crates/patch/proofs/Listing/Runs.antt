@@ -107,8 +107,8 @@ module _ {t table rows : List ℕ} where
               left = member (name_of t (name_start g) (name_end g)) (label_at t (name_start g) (name_end g)) (doc_of t g) c.left;
               right = c.right;
               is = ap (λ (ms : Members). member (name_of t (name_start g) (name_end g)) (label_at t (name_start g) (name_end g)) (doc_of t g) ms) c.is;
-              listed_left = next g lt s k stands c.listed-left;
-              listed_right = c.listed-right;
+              listed_left = next g lt s k stands c.listed_left;
+              listed_right = c.listed_right;
             }
       ]
 
@@ -141,10 +141,10 @@ module _ (t table pt ptable rows cues : List ℕ) (n : Name) (past : Bool) where
                 left = c.left;
                 right = c.right;
                 is = c.is;
-                listed_left = c.listed-left;
-                listed_right = c.listed-right;
-                all_before = sided pt ptable rows parts n past c.listed-left passes;
-                none_before = sided pt ptable rows parts n past c.listed-right fails;
+                listed_left = c.listed_left;
+                listed_right = c.listed_right;
+                all_before = sided pt ptable rows parts n past c.listed_left passes;
+                none_before = sided pt ptable rows parts n past c.listed_right fails;
                 passes = passes;
                 fails = fails;
               };

@@ -65,6 +65,7 @@ module _ (L : Limits) (t : List ℕ) (q : ℕ) where
     scalar_time : (s : Seat) (o : Head) (m x : ℕ) → Sits c (leaf (simple_kind k) ns ne at (at + length w) none) s o → Wrong L t s o m x → x < q
         → InTime m x (scalar_at L t (simple_kind k) ns ne at c.after)
     unfolding scalar_at scalar_with
+    scalar_time s o m x (Rattle.text.specs.Seats.leaf_on x23) _ lt = elim x23 [ ]
     scalar_time s o m x Sits.leaf_here (string e b) lt =
         let n = bad_later t at x b in
         if_most (InTime 3 x) L.values c.after
@@ -82,6 +83,7 @@ module _ (L : Limits) (t : List ℕ) (q : ℕ) where
       → ((s : Seat) (h : Head) (m x : ℕ) → Sits (under c) f s h → Wrong L t s h m x → at < x)
       → (s : Seat) (h : Head) (m x : ℕ) → Sits c (node b ns ne at to f none) s h → Wrong L t s h m x → x < q → InTime m x (deep ns ne at c.after)
   unfolding deep
+  deep_time b f to c ns ne at g lower s h m x (Rattle.text.specs.Seats.node_on x14) w lt = elim x14 [ ]
   deep_time b f to c ns ne at g lower s h m x (Sits.into i) w lt = in_time {r = Deep at} (omega (arith, lower s h m x i w))
   deep_time b f to c ns ne at g lower s h m x Sits.node_here (string e z) lt = absurd (no_string b e)
   deep_time b f to c ns ne at g lower s h m x Sits.node_here (name j e z) lt = absurd (g 3 x (spelled j e z) lt)
@@ -95,6 +97,7 @@ module _ (L : Limits) (t : List ℕ) (q : ℕ) where
       → (c.after < L.values → Calm (under c) f (inner (at + 1) (c.after + 1)))
       → (s : Seat) (h : Head) (m x : ℕ) → Sits c (node b ns ne at to f none) s h → Wrong L t s h m x → x < q → InTime m x (container L b inner ns ne at c.after)
   unfolding container
+  box_time b f to c ns ne at depth inner room g lower k s h m x (Rattle.text.specs.Seats.node_on x14) w lt = elim x14 [ ]
   box_time b f to c ns ne at depth inner room g lower k s h m x (Sits.into i) w lt =
       if_most (InTime m x) L.values c.after (λ j. in_time (omega (arith, lower s h m x i w)))
       (λ j. time_close b ns ne at ((k j).least s h m x i w lt))

@@ -43,6 +43,7 @@ module _ (L : Limits) (t : List ℕ) where
   member_whence at to l (within k) = omega arith
 
   leaf_low : (c s : Seat) (h : Head) (m x kind ns ne at to : ℕ) → Sits c (leaf kind ns ne at to none) s h → Wrong L t s h m x → Whence c.beside ns at m x
+  leaf_low c s h m x kind ns ne at to (Rattle.text.specs.Seats.leaf_on x22) _ = elim x22 [ ]
   leaf_low c s h m x kind ns ne at to Sits.leaf_here (string e z) = within (omega (arith, bad_later t at x z))
   leaf_low c s h m x kind ns ne at to Sits.leaf_here (name j e z) = by_name_lem (spelled j e z)
   leaf_low c s h m x kind ns ne at to Sits.leaf_here (again u e z n) = by_name_lem (known u e z n)

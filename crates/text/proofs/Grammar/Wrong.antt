@@ -69,6 +69,7 @@ module _ (L : Limits) (t : List ℕ) where
   kept_leaf {depth} {c} {kind} {ns} {ne} {at} {to} g l s = record { shallow = omega arith; few = omega arith; sane = go }
     where
       go : (d : Seat) (h : Head) → Sits c (leaf kind ns ne at to none) d h → Sane d h
+      go d h (Rattle.text.specs.Seats.leaf_on x10) = elim x10 [ ]
       go d h Sits.leaf_here = record { closed = s; names = g }
 
   pub kept_node : {depth : ℕ} {c : Seat} {ns ne at to : ℕ} {inner : Forest} (b : Bracket) → GoodName c.beside ns ne → c.after < L.values → Kept depth (under c) inner
@@ -78,6 +79,7 @@ module _ (L : Limits) (t : List ℕ) where
       record { shallow = omega (arith, k.shallow); few = omega (arith, k.few); sane = go }
     where
       go : (d : Seat) (h : Head) → Sits c (node b ns ne at to inner none) d h → Sane d h
+      go d h (Rattle.text.specs.Seats.node_on x11) = elim x11 [ ]
       go d h (Sits.into i) = k.sane d h i
       go d h Sits.node_here = record { closed = λ e. absurd (no_string b e); names = g }
 

@@ -30,6 +30,7 @@ among_row (Among.leaf_on a) = each.later (among_row a)
 among_row (Among.node_on a) = each.later (among_row a)
 
 pub row_among : {row : ℕ} (c : Seat) (f : Forest) → Some (λ x. x ≡ row) (rows_beside c f) → (e : Seat) × Among c f e × (e.after ≡ row)
+row_among {row = row} c none x' = elim x' [ ]
 row_among c (leaf kind ns ne from to rest) (each.here q) = (c, Among.leaf_here, q)
 row_among c (leaf kind ns ne from to rest) (each.later m) =
     let (e, a, q) = row_among (behind c (leaf kind ns ne from to none)) rest m in
@@ -42,6 +43,7 @@ row_among c (node b ns ne from to inner rest) (each.later m) =
 -- ---- their order ----
 
 rows_from : {row : ℕ} (c : Seat) (f : Forest) → Some (λ x. x ≡ row) (rows_beside c f) → c.after ≤ row
+rows_from {row = row} c none x' = elim x' [ ]
 rows_from c (leaf kind ns ne from to rest) (each.here q) = omega arith
 rows_from c (leaf kind ns ne from to rest) (each.later m) = omega (arith, rows_from (behind c (leaf kind ns ne from to none)) rest m)
 rows_from c (node b ns ne from to inner rest) (each.here q) = omega arith
