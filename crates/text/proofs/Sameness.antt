@@ -48,7 +48,7 @@ taken_first (in_tail x) e = let z : ◌≡◌ {A = ℕ} 0 1 = cc in absurd (omeg
 
 module _ (T : Tokens) (N : Labels) (i : MemberOrder) where
   -- a member more on both sides
-  put_back : {o v : MemberOrder} {n : Name} {l l' : List ℕ} {d e : Doc} {ms ns rest : Members} → Taken n l d o ms rest → N l l' → Corresponds T N i v d e
+  put_back : {n : Name} {l l' : List ℕ} {d e : Doc} {o v : MemberOrder} {ms ns rest : Members} → Taken n l d o ms rest → N l l' → Corresponds T N i v d e
       → Matched T N i o v rest ns → Matched T N i o v ms (member n l' e ns)
   put_back at_head q s m = match at_head q s m
   put_back (in_tail x) q s (match y r u m) = match (in_tail y) r u (put_back x q s m)
@@ -63,7 +63,7 @@ module _ (T : Tokens) (N : Labels) (i : MemberOrder) where
     same : Corresponds T N i v d value
     others : Matched T N i o v rest left
 
-  match_of : {o v : MemberOrder} {n : Name} {l : List ℕ} {d : Doc} {ms ns rest : Members} → Taken n l d o ms rest → Matched T N i o v ms ns → Match o v n l d rest ns
+  match_of : {n : Name} {l : List ℕ} {d : Doc} {o v : MemberOrder} {ms ns rest : Members} → Taken n l d o ms rest → Matched T N i o v ms ns → Match o v n l d rest ns
   match_of at_head (match {label' = l} {e = e} {rest = rest} y q s m) = record { label = l; value = e; left = rest; out = y; labels = q; same = s; others = m }
   match_of (in_tail x) (match y q s m) =
       let r = match_of x m in

@@ -194,12 +194,12 @@ stands_unique none none p q h i = refl
 stands_unique none (leaf kind ns ne from to rest) p q h i = absurd (omega (arith, h.ends, i.ends))
 stands_unique none (node b ns ne from to inside rest) p q h i = absurd (omega (arith, h.ends, i.ends))
 stands_unique (leaf kind ns ne from to rest) none p q h i = absurd (omega (arith, h.ends, i.ends))
-stands_unique (leaf kind ns ne from to rest) (leaf kind2 ns2 ne2 from2 to2 rest2) p q h i =
+stands_unique {k = k} (leaf kind ns ne from to rest) (leaf kind2 ns2 ne2 from2 to2 rest2) p q h i =
     let f : Forest = leaf kind ns ne from to rest in
     let g : Forest = leaf kind2 ns2 ne2 from2 to2 rest2 in
     let a = first_row_lem f tt h.stands in
     let b = first_row_lem g tt i.stands in
-    let r = stands_unique rest rest2 p.1 q.1 (after f tt h) (after g tt i) in
+    let r = stands_unique {k = k + 1 + below_at f} rest rest2 p.1 q.1 (after f tt h) (after g tt i) in
     cc (a.kind, b.kind, a.name_starts, b.name_starts, a.name_ends, b.name_ends, a.start, b.start, a.finish, b.finish)
 stands_unique (leaf kind ns ne from to rest) (node b2 ns2 ne2 from2 to2 inside2 rest2) p q h i =
     absurd (omega (arith, (first_row_lem (leaf kind ns ne from to rest) tt h.stands).kind, (first_row_lem (node b2 ns2 ne2 from2 to2 inside2 rest2) tt i.stands).kind, p.0.most, bracket_kind_lem b2))
@@ -213,8 +213,8 @@ stands_unique {t} {k} {end} (node b ns ne from to inside1 rest) (node b2 ns2 ne2
     let c = first_row_lem g tt i.stands in
     let n : size inside2 ≡ size inside1 = sym c.below ∙ a.below in
     let br : b ≡ b2 = bracket_unique b b2 (sym a.kind ∙ c.kind) in
-    let u = stands_unique inside1 inside2 p.0 q.0 (inside f tt h.stands) (rw n at (inside g tt i.stands)) in
-    let r = stands_unique rest rest2 p.1 q.1 (after f tt h) (rw n at (after g tt i)) in
+    let u = stands_unique {k = k + 1} inside1 inside2 p.0 q.0 (inside f tt h.stands) (rw n at (inside g tt i.stands)) in
+    let r = stands_unique {k = k + 1 + below_at f} rest rest2 p.1 q.1 (after f tt h) (rw n at (after g tt i)) in
     cc (a.name_starts, c.name_starts, a.name_ends, c.name_ends, a.start, c.start, a.finish, c.finish)
 
 -- ---- the table that reading leaves ----
@@ -251,7 +251,7 @@ start_at_lem {t} {k} {end} (leaf kind ns ne from to rest) h zero lt =
     rw place (sym (first_row_lem (leaf kind ns ne from to rest) tt h.stands).start)
 start_at_lem {t} {k} {end} (leaf kind ns ne from to rest) h (suc i) lt =
     let place : k + suc i ≡ k + 1 + 0 + i = omega arith in
-    rw place (start_at_lem rest (after (leaf kind ns ne from to rest) tt h) i (omega arith))
+    rw place (start_at_lem {k = k + 1 + 0} rest (after (leaf kind ns ne from to rest) tt h) i (omega arith))
 start_at_lem {t} {k} {end} (node b ns ne from to within rest) h zero lt =
     let place : k + 0 ≡ k = omega arith in
     rw place (sym (first_row_lem (node b ns ne from to within rest) tt h.stands).start)
@@ -263,11 +263,11 @@ start_at_lem {t} {k} {end} (node b ns ne from to within rest) h (suc i) lt = eli
       let split : i ≡ length (starts_of within) + (i - size within) = omega arith in
       ap (λ (j : ℕ). get_or (starts_of within ++ starts_of rest) j 0) split
       ∙ get_or-append-add (starts_of within) (starts_of rest) (i - size within) 0
-      ∙ rw place (start_at_lem rest (after f tt h) (i - size within) (omega arith))
+      ∙ rw place (start_at_lem {k = k + 1 + size within} rest (after f tt h) (i - size within) (omega arith))
   | no le ↦
       let f : Forest = node b ns ne from to within rest in
       let place : k + suc i ≡ k + 1 + i = omega arith in
       let n = starts_length within in
       get_or-append (starts_of within) (starts_of rest) 0 i (omega arith)
-      ∙ rw place (start_at_lem within (inside f tt h.stands) i (omega arith))
+      ∙ rw place (start_at_lem {k = k + 1} within (inside f tt h.stands) i (omega arith))
 ]

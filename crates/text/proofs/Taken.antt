@@ -25,7 +25,7 @@ module _ (n : Name) where
       (ns, rw e (subst (λ (r : Property). Taken n r.label r.content free (member n t d ns) ns) q at_head)))
       (λ ne. let (rest, k) = take_out ns s (simp (same_no ne) at h) in (member m t d rest, in_tail k))
 
-  taken_found : {o : MemberOrder} {t : List ℕ} {d : Doc} {ns rest : Members} → Taken n t d o ns rest → ¬ (seek n ns ≡ none)
+  taken_found : {t : List ℕ} {d : Doc} {o : MemberOrder} {ns rest : Members} → Taken n t d o ns rest → ¬ (seek n ns ≡ none)
   taken_found {t = t} {d = d} at_head h = some-ne-none (property t d) (simp (same_refl n) at h)
   taken_found (in_tail {m = m} {l = u} {e = e} x) h =
       by_name m n
@@ -33,27 +33,27 @@ module _ (n : Name) where
       (λ ne. taken_found x (simp (same_no ne) at h))
 
   -- a member before it has another name
-  taken_after : {o : MemberOrder} {t : List ℕ} {d : Doc} {ns rest : Members} (m : Name) → Taken n t d o ns rest → seek m ns ≡ none → n ≢ m
+  taken_after : {t : List ℕ} {d : Doc} {o : MemberOrder} {ns rest : Members} (m : Name) → Taken n t d o ns rest → seek m ns ≡ none → n ≢ m
   taken_after {ns = ns} m x h e = taken_found x (subst (λ (k : Name). seek k ns ≡ none) (sym e) h)
 
-  pub taken_other : {o : MemberOrder} {t : List ℕ} {d : Doc} {ns rest : Members} (k : Name) → Taken n t d o ns rest → n ≢ k → seek k ns ≡ seek k rest
+  pub taken_other : {t : List ℕ} {d : Doc} {o : MemberOrder} {ns rest : Members} (k : Name) → Taken n t d o ns rest → n ≢ k → seek k ns ≡ seek k rest
   taken_other k at_head h = simp (same_no h)
   taken_other k (in_tail {m = m} {l = u} {e = e} x) h = ap (λ (o : Option Property). cond (same m k) (some (property u e)) o) (taken_other k x h)
 
   -- the names are distinct: it is the one that is found, and it is there no more
-  pub taken_is : {o : MemberOrder} {t : List ℕ} {d : Doc} {ns rest : Members} → Taken n t d o ns rest → DistinctMembers ns → seek n ns ≡ some (property t d)
+  pub taken_is : {t : List ℕ} {d : Doc} {o : MemberOrder} {ns rest : Members} → Taken n t d o ns rest → DistinctMembers ns → seek n ns ≡ some (property t d)
   taken_is at_head h = simp (same_refl n)
   taken_is (in_tail {m = m} x) h = simp (same_no (λ (e : m ≡ n). taken_after m x h.0 (sym e))) (taken_is x h.2)
 
-  pub taken_same : {o : MemberOrder} {t : List ℕ} {d : Doc} {ns rest : Members} → Taken n t d o ns rest → DistinctMembers ns → seek n rest ≡ none
+  pub taken_same : {t : List ℕ} {d : Doc} {o : MemberOrder} {ns rest : Members} → Taken n t d o ns rest → DistinctMembers ns → seek n rest ≡ none
   taken_same at_head h = h.0
   taken_same (in_tail {m = m} x) h = simp (same_no (λ (e : m ≡ n). taken_after m x h.0 (sym e))) (taken_same x h.2)
 
-  pub taken_value : {o : MemberOrder} {t : List ℕ} {d : Doc} {ns rest : Members} → Taken n t d o ns rest → DistinctMembers ns → Distinct d
+  pub taken_value : {t : List ℕ} {d : Doc} {o : MemberOrder} {ns rest : Members} → Taken n t d o ns rest → DistinctMembers ns → Distinct d
   taken_value at_head h = h.1
   taken_value (in_tail x) h = taken_value x h.2
 
-  pub taken_rest : {o : MemberOrder} {t : List ℕ} {d : Doc} {ns rest : Members} → Taken n t d o ns rest → DistinctMembers ns → DistinctMembers rest
+  pub taken_rest : {t : List ℕ} {d : Doc} {o : MemberOrder} {ns rest : Members} → Taken n t d o ns rest → DistinctMembers ns → DistinctMembers rest
   taken_rest at_head h = h.2
   taken_rest (in_tail {m = m} x) h = (sym (taken_other m x (taken_after m x h.0)) ∙ h.0, h.1, taken_rest x h.2)
 

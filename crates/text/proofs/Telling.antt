@@ -202,7 +202,7 @@ module _ (t : List ℕ) where
     name : 0 < h.ns → Quoted t h.ns h.ne
     content : h.kind ≡ 5 → Quoted t (h.from + 1) (h.to - 1)
 
-  told_spelt : {c d : Seat} {h : Head} {f : Forest} {ms : Members} → TellsAll t f ms → Sits c f d h → Spelt h
+  told_spelt : {f : Forest} {ms : Members} {c d : Seat} {h : Head} → TellsAll t f ms → Sits c f d h → Spelt h
   told_spelt {c = c} {d = d} {h = h} nothing x4 = elim x4 [ ]
   told_spelt (token n s k r) Sits.leaf_here = record { name = name_quoted n; content = token_quoted s k }
   told_spelt (token n s k r) (Sits.leaf_on i) = told_spelt r i

@@ -168,7 +168,7 @@ module _ (t : List ℕ) where
         (λ k. inr (record { word = omega arith; answer = omega (arith, stands_to (run_stands at).stands) }))
     run_follow {q} {at} s (Star.more {v = w} (Byte.byte {x} e) m) o l =
         let one : at + suc (length w) ≡ at + 1 + length w = omega arith in
-        by_order at q (λ k. rw (run_on_lem is t (not_past h) at (rw (like_here l k) (h.back x e)), one) (run_follow s m o (like_tail l)))
+        by_order at q (λ k. rw (run_on_lem is t (not_past h) at (rw (like_here l k) (h.back x e)), one) (run_follow {at = at + 1} s m o (like_tail l)))
         (λ k. inr (record { word = omega arith; answer = omega (arith, stands_to (run_stands at).stands) }))
 
     pub run_exact : Exact t (Star (Byte P)) (λ z. is z ≡ false) (run_of t is)

@@ -50,14 +50,15 @@ module _ (L : Limits) (t : List ℕ) where
   leaf_low c s h m x kind ns ne at to Sits.leaf_here (deep o e) = clash false o refl
   leaf_low c s h m x kind ns ne at to Sits.leaf_here (many e) = within (omega arith)
 
-  node_low : (c s : Seat) (h : Head) (m x : ℕ) (b : Bracket) (ns ne at to : ℕ) (inner : Forest) → (Sits (under c) inner s h → Wrong L t s h m x → at ≤ x)
+  node_low : (c s : Seat) (m x : ℕ) (b : Bracket) (ns ne at to : ℕ) (inner : Forest) (h : Head) → (Sits (under c) inner s h → Wrong L t s h m x → at ≤ x)
       → Sits c (node b ns ne at to inner none) s h → Wrong L t s h m x → Whence c.beside ns at m x
-  node_low c s h m x b ns ne at to inner g (Sits.into i) w = within (g i w)
-  node_low c s h m x b ns ne at to inner g Sits.node_here (string e z) = absurd (no_string b e)
-  node_low c s h m x b ns ne at to inner g Sits.node_here (name j e z) = by_name_lem (spelled j e z)
-  node_low c s h m x b ns ne at to inner g Sits.node_here (again u e z n) = by_name_lem (known u e z n)
-  node_low c s h m x b ns ne at to inner g Sits.node_here (deep o e) = within (omega arith)
-  node_low c s h m x b ns ne at to inner g Sits.node_here (many e) = within (omega arith)
+  node_low c s m x b ns ne at to inner h g (Rattle.text.specs.Seats.node_on x13) w = elim x13 [ ]
+  node_low c s m x b ns ne at to inner h g (Sits.into i) w = within (g i w)
+  node_low c s m x b ns ne at to inner h g Sits.node_here (string e z) = absurd (no_string b e)
+  node_low c s m x b ns ne at to inner h g Sits.node_here (name j e z) = by_name_lem (spelled j e z)
+  node_low c s m x b ns ne at to inner h g Sits.node_here (again u e z n) = by_name_lem (known u e z n)
+  node_low c s m x b ns ne at to inner h g Sits.node_here (deep o e) = within (omega arith)
+  node_low c s m x b ns ne at to inner h g Sits.node_here (many e) = within (omega arith)
 
   join_low : (c s : Seat) (h : Head) (m x at : ℕ) (f g : Forest) → (Sits c f s h → at ≤ x) → (Sits (behind c f) g s h → at ≤ x) → EitherOf c f g s h → at ≤ x
   join_low c s h m x at f g p r (first i) = p i
@@ -66,8 +67,8 @@ module _ (L : Limits) (t : List ℕ) where
   pub low : {a : Phrase} {w : List ℕ} (d : Is a w) → Lows a w d
   unfolding tree_of
   low (simple {w} k l) = λ c s h m x ns ne at i e. leaf_low c s h m x (simple_kind k) ns ne at (at + length w) i e
-  low (empty b p) = λ c s h m x ns ne at i e. node_low c s h m x b ns ne at _ none (λ i e. in_none i) i e
-  low (full {s = a} b p d) = λ c s h m x ns ne at i e. node_low c s h m x b ns ne at _ _ (λ i e. omega (arith, low d (under c) s h m x (at + 1 + length a) i e)) i e
+  low (empty b p) = λ c s h m x ns ne at i e. node_low c s m x b ns ne at _ none h (λ i e. in_none i) i e
+  low (full {s = a} b p d) = λ c s h m x ns ne at i e. node_low c s m x b ns ne at _ _ h (λ i e. omega (arith, low d (under c) s h m x (at + 1 + length a) i e)) i e
   low (element d) = λ c s h m x at i e. from_whence at (low d c s h m x 0 0 at i e)
   low (member {m = n} {s = a} {r} g p o d) = λ c s h m x at i e. member_whence at (at + length n + length a + 1 + length r) (omega arith) (low d c s h m x _ _ _ i e)
   low (one d p) = λ c s h m x at i e. low d c s h m x at i e

@@ -82,7 +82,7 @@ module _ (L : Limits) (t : List ℕ) (q : ℕ) where
   meets_close b ns ne at (wrong i w n o) = wrong (Sits.into i) w n o
 
   -- values after other values
-  pub meets_join : {c : Seat} {x : ℕ} {R : Read} (B T S : Forest) → c.after + size T ≤ L.values
+  pub meets_join : {c : Seat} {x : ℕ} (B T S : Forest) {R : Read} → c.after + size T ≤ L.values
       → Meets (behind c T) (join (join B T) S) S x R → Meets c (join B (join T S)) (join T S) x R
   meets_join B T S k (past l h) = past l h
   meets_join B T S k (same h) = rw (join_assoc B T S) (same (omega (arith, size_join T S)))

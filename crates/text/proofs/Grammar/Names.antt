@@ -42,7 +42,7 @@ module _ (t : List ℕ) where
   names_join (NamesSpell.a_leaf s r) n = NamesSpell.a_leaf s (names_join r n)
   names_join (NamesSpell.a_node s r) n = NamesSpell.a_node s (names_join r n)
 
-  pub there_named : {f : Forest} {codes : List ℕ} → Named t codes f → named t (utf8s codes) f ≡ true
+  pub there_named : {codes : List ℕ} {f : Forest} → Named t codes f → named t (utf8s codes) f ≡ true
   unfolding named
   there_named {codes = codes} (Named.leaf_here {ns} {ne} s) = rw (eq_same (name_of t ns ne) (utf8s codes) (decode_spelled s))
   there_named {codes = codes} (Named.node_here {ns} {ne} s) = rw (eq_same (name_of t ns ne) (utf8s codes) (decode_spelled s))

@@ -297,7 +297,7 @@ module _ (L : Limits) (t : List ℕ) where
         where
           go : c.after < L.values → (R : Read) → Told (ClosedBy b depth c at) (Opened b at) R → Told (Parsed value (suc depth) c ns ne at) (Viable value at) (close_of b ns ne at R)
           go m (bad r) h =
-              stopped_map _ _ (λ q x v. record { word = opening b ∷ v.word; is = v.is; like = Like.next (λ l. e) v.like; later = omega (arith, v.later); within = v.within }) r h
+              stopped_map (Opened b at) (Viable value at) (λ q x v. record { word = opening b ∷ v.word; is = v.is; like = Like.next (λ l. e) v.like; later = omega (arith, v.later); within = v.within }) r h
           go m (good f to) h =
               record {
                 word = opening b ∷ h.word;

@@ -41,7 +41,7 @@ module _ {t : List ℕ} where
 
   pub stands_split : {at to : ℕ} (v : List ℕ) {w : List ℕ} → BytesStand t at to (v ++ w) → (mid : ℕ) × BytesStand t at mid v × BytesStand t mid to w
   stands_split {at} [] s = (at, BytesStand.done, s)
-  stands_split (x ∷ v) (BytesStand.next e i s) = let h = stands_split v s in (h.0, BytesStand.next e i h.1, h.2)
+  stands_split {at} (x ∷ v) (BytesStand.next e i s) = let h = stands_split {at = at + 1} v s in (h.0, BytesStand.next e i h.1, h.2)
 
   pub stands_to : {at to : ℕ} {w : List ℕ} → BytesStand t at to w → to ≡ at + length w
   stands_to BytesStand.done = sym (add-zero _)
@@ -53,7 +53,7 @@ module _ {t : List ℕ} where
 
   pub like_none : {q at : ℕ} (w : List ℕ) → q ≤ at → Like t q at w
   like_none [] h = Like.done h
-  like_none {q} {at} (x ∷ w) h = Like.next (λ (l : at < q). absurd (omega arith)) (like_none w (omega arith))
+  like_none {q} {at} (x ∷ w) h = Like.next (λ (l : at < q). absurd (omega arith)) (like_none {at = at + 1} w (omega arith))
 
   pub like_stands : {at to : ℕ} {w : List ℕ} → BytesStand t at to w → Like t to at w
   like_stands BytesStand.done = Like.done (le_refl _)
@@ -74,7 +74,7 @@ module _ {t : List ℕ} where
   like_skip [] h = rw add-zero h
   like_skip {at} (x ∷ v) h =
       let e : at + 1 + length v ≡ at + suc (length v) = omega arith in
-      rw e at (like_skip v (like_tail h))
+      rw e at (like_skip {at = at + 1} v (like_tail h))
 
   pub like_here : {q at : ℕ} {w : List ℕ} → Like t q at w → at < q → byte_at t at ≡ byte_at w 0
   like_here (Like.done h) l = absurd (omega arith)

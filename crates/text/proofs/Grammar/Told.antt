@@ -146,7 +146,7 @@ module _ (L : Limits) (t : List ℕ) where
       valued : (R : Read) → Told (Parsed L t value depth c (at + 1) (end - 1) (skip t (skip t end + 1))) (Viable L t value (skip t (skip t end + 1))) R
           → Told (Parsed L t (item curly) depth c 0 0 at) (Viable L t (item curly) at) R
       valued (bad x) h =
-          stopped_map _ _ (λ q e v.
+          stopped_map (Viable L t value (skip t (skip t end + 1))) (Viable L t (item curly) at) (λ q e v.
           record {
             word = glued 58 m.word s.word r.word v.word;
             is = member m.is s.is r.is v.is;
@@ -221,7 +221,7 @@ module _ (L : Limits) (t : List ℕ) where
       → Told (Parsed L t (item square) depth c 0 0 at) (Viable L t (item square) at) R
   unfolding tree_of
   element_told depth c at (bad r) h =
-      stopped_map _ _ (λ q e v. record { word = v.word; is = element v.is; like = v.like; later = v.later; within = v.within }) r h
+      stopped_map (Viable L t value at) (Viable L t (item square) at) (λ q e v. record { word = v.word; is = element v.is; like = v.like; later = v.later; within = v.within }) r h
   element_told depth c at (good f to) h = record { word = h.word; is = element h.is; stands = h.stands; trees = h.trees; kept = h.kept }
 
   -- a value that has no name

@@ -60,9 +60,9 @@ pub in_right : {c d : Seat} {h : Head} (f : Forest) {g : Forest} → Sits (behin
 unfolding join
 in_right {c} {d} {h} none {g} i = subst (λ (a : Seat). Sits a g d h) (behind_none c) i
 in_right {c} {d} {h} (leaf kind ns ne from to rest) {g} i =
-    Sits.leaf_on (in_right rest (subst (λ (a : Seat). Sits a g d h) (sym (behind_join c (leaf kind ns ne from to none) rest)) i))
+    Sits.leaf_on (in_right {c = behind c (leaf kind ns ne from to none)} rest (subst (λ (a : Seat). Sits a g d h) (sym (behind_join c (leaf kind ns ne from to none) rest)) i))
 in_right {c} {d} {h} (node b ns ne from to inner rest) {g} i =
-    Sits.node_on (in_right rest (subst (λ (a : Seat). Sits a g d h) (sym (behind_join c (node b ns ne from to inner none) rest)) i))
+    Sits.node_on (in_right {c = behind c (node b ns ne from to inner none)} rest (subst (λ (a : Seat). Sits a g d h) (sym (behind_join c (node b ns ne from to inner none) rest)) i))
 
 -- the other way: among the first ones, or among the others
 pub data EitherOf (c : Seat) (f g : Forest) (d : Seat) (h : Head) : Type 0 where
@@ -73,14 +73,14 @@ pub in_join : {c d : Seat} {h : Head} (f g : Forest) → Sits c (join f g) d h �
 unfolding join
 in_join {c} {d} {h} none g i = later (subst (λ (a : Seat). Sits a g d h) (sym (behind_none c)) i)
 in_join (leaf kind ns ne from to rest) g Sits.leaf_here = first Sits.leaf_here
-in_join {c} {d} {h} (leaf kind ns ne from to rest) g (Sits.leaf_on i) = go (in_join rest g i)
+in_join {c} {d} {h} (leaf kind ns ne from to rest) g (Sits.leaf_on i) = go (in_join {c = behind c (leaf kind ns ne from to none)} rest g i)
   where
     go : EitherOf (behind c (leaf kind ns ne from to none)) rest g d h → EitherOf c (leaf kind ns ne from to rest) g d h
     go (first j) = first (Sits.leaf_on j)
     go (later j) = later (subst (λ (a : Seat). Sits a g d h) (behind_join c (leaf kind ns ne from to none) rest) j)
 in_join (node b ns ne from to inner rest) g Sits.node_here = first Sits.node_here
 in_join (node b ns ne from to inner rest) g (Sits.into i) = first (Sits.into i)
-in_join {c} {d} {h} (node b ns ne from to inner rest) g (Sits.node_on i) = go (in_join rest g i)
+in_join {c} {d} {h} (node b ns ne from to inner rest) g (Sits.node_on i) = go (in_join {c = behind c (node b ns ne from to inner none)} rest g i)
   where
     go : EitherOf (behind c (node b ns ne from to inner none)) rest g d h → EitherOf c (node b ns ne from to inner rest) g d h
     go (first j) = first (Sits.node_on j)

@@ -83,7 +83,7 @@ among_parent l Among.node_here = l.rows.0.parent
 among_parent {c = c} {f = f} l (Among.leaf_on a) = among_parent (rest_linked c f tt l) a
 among_parent {c = c} {f = f} l (Among.node_on a) = among_parent (rest_linked c f tt l) a
 
-pub holds_parent : {t : List ℕ} {p z : ℕ} {c d e : Seat} {f : Forest} → Linked t p c.after z f → Holds c f d e → parent_in t e.after ≡ d.after
+pub holds_parent : {t : List ℕ} {c d e : Seat} {f : Forest} {p z : ℕ} → Linked t p c.after z f → Holds c f d e → parent_in t e.after ≡ d.after
 holds_parent {f = f} l (Holds.here a) = among_parent (inside_linked f tt l) a
 holds_parent {f = f} l (Holds.into j) = holds_parent (inside_linked f tt l) j
 holds_parent {c = c} {f = f} l (Holds.leaf_on j) = holds_parent (rest_linked c f tt l) j
@@ -95,7 +95,7 @@ next_first {z = z} {e = e} c f s l q r =
     let place : e.after ≡ (behind c (first_of f)).after = ap (λ (x : Seat). x.after) q in
     ((first_links c f s l).next ∙ first_some (behind c (first_of f)).after z (rest_at f) r ∙ sym place, omega (arith, behind_row c f s))
 
-pub follows_next : {t : List ℕ} {p z : ℕ} {c d e : Seat} {f : Forest} → Linked t p c.after z f → Follows c f d e
+pub follows_next : {t : List ℕ} {c d e : Seat} {f : Forest} {p z : ℕ} → Linked t p c.after z f → Follows c f d e
     → (sibling_in t d.after ≡ e.after) × (0 < e.after)
 follows_next {c = c} {f = f} l (Follows.leaf_here q a) = next_first c f tt l q (among_first a)
 follows_next {c = c} {f = f} l (Follows.node_here q a) = next_first c f tt l q (among_first a)
