@@ -293,7 +293,7 @@ module _ {t : List ℕ} {q : ℕ} {s : List ℕ} {e : ℕ} where
       let n = stands_to c.2 in
       over_four f c.2 k (over_four d c.1 (λ j l. k j (omega arith)) r)
 
-  over_spells : {i to : ℕ} {w cs : List ℕ} → Spells w cs → BytesStand t i to w → Seen q e to → Rest t q s e i → Rest t q s e to
+  over_spells : {w cs : List ℕ} {i to : ℕ} → Spells w cs → BytesStand t i to w → Seen q e to → Rest t q s e i → Rest t q s e to
   over_spells Spells.none BytesStand.done k r = r
   over_spells (Spells.more {w} m d) st k r =
       let c = stands_split w st in

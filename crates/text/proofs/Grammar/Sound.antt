@@ -194,7 +194,7 @@ module _ (L : Limits) (t : List ℕ) where
 
       extend : (R : Read) → Told (ItemsStand b depth (behind c f) (skip t (skip t to + 1))) (Viable (items b) (skip t (skip t to + 1))) R
           → Told (ItemsStand b depth c at) (Viable (items b) at) R
-      extend (bad x) h = stopped_map _ _ (λ q e. after_comma) x h
+      extend (bad x) h = stopped_map (Viable (items b) (skip t (skip t to + 1))) (Viable (items b) at) (λ q e. after_comma) x h
       extend (good y x) h =
           record {
             word = glued 44 p.word s.word r.word h.word;
@@ -210,7 +210,7 @@ module _ (L : Limits) (t : List ℕ) where
         → (R : Read) → Told (Parsed (item b) depth c 0 0 at) (Viable (item b) at) R → Told (ItemsStand b depth c at) (Viable (items b) at) (after_item t (closing b) c.beside more R)
     unfolding after_item tree_of
     after_told c at more i m (bad r) h =
-        stopped_map _ _ (λ q e v. record { word = v.word ++ []; is = one v.is Star.none; like = like_more [] v.like; later = v.later; within = v.within }) r h
+        stopped_map (Viable (item b) at) (Viable (items b) at) (λ q e v. record { word = v.word ++ []; is = one v.is Star.none; like = like_more [] v.like; later = v.later; within = v.within }) r h
     after_told c at more i m (good f to) p =
         let s = skip_told t to in
         let l = stands_join p.stands s.stands in
@@ -260,7 +260,7 @@ module _ (L : Limits) (t : List ℕ) where
 
         rest_told : (R : Read) → Told (ItemsStand b depth (under c) (skip t (at + 1))) (Viable (items b) (skip t (at + 1))) R → Told (ClosedBy b depth c at) (Opened b at) R
         unfolding join
-        rest_told (bad r) h = stopped_map _ _ (λ q e. opened) r h
+        rest_told (bad r) h = stopped_map (Viable (items b) (skip t (at + 1))) (Opened b at) (λ q e. opened) r h
         rest_told (good f to) h =
             record {
               word = s.word ++ (h.word ++ closing b ∷ []);
