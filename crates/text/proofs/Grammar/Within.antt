@@ -11,14 +11,14 @@ use Rattle.text.specs.Limits.{Limits}
 use Rattle.text.specs.Text.{byte_at}
 use Rattle.text.specs.Tokens.{kind_by, token_at}
 use Rattle.text.specs.Tree.{Bracket, square, curly, Forest, none}
-use Rattle.text.specs.Grammar.{closing}
+use Rattle.text.specs.Grammar.{closing, value, item, items}
 use Rattle.text.specs.Reader.{Read, good, bad, Reader, scalar_with, scalar_at, close_of, container, deep, value_with, items_from, value_at}
 use Rattle.text.specs.Seats.{Seat}
 use Rattle.text.specs.declared.Token.{Token}
 use Rattle.text.specs.declared.Token.TheVariants.{End, No2, No3}
 use Rattle.text.specs.declared.Refusal.TheVariants.{Grammar, Many}
 use Rattle.text.proofs.Grammar.Stands.{stands_to, stands_inside}
-use Rattle.text.proofs.Grammar.Sound.{place_of, told_place, items_told}
+use Rattle.text.proofs.Grammar.Sound.{place_of, told_place, items_told, Parsed, Viable, ItemsStand}
 use Rattle.text.proofs.Grammar.Told.{item_at, no_name, value_told, item_told}
 
 pub close_place : (b : Bracket) (ns ne at : ℕ) (R : Read) → place_of (close_of b ns ne at R) ≡ place_of R
@@ -80,21 +80,21 @@ module _ (L : Limits) (t : List ℕ) where
     pub value_later : (ns ne at n : ℕ) → at ≤ length t → at ≤ place_of (value_at L t depth ns ne at n)
     value_later ns ne at n i =
         rw (value_anonymous depth ns ne at n)
-        (told_place (λ x. at ≤ x) _ _ (λ f to p. omega (arith, stands_to p.stands)) (λ q e l v. v.later) (value_at L t depth 0 0 at n)
+        (told_place (λ x. at ≤ x) (Parsed L t value depth (seat n none) 0 0 at) (Viable L t value at) (λ f to p. omega (arith, stands_to p.stands)) (λ q e l v. v.later) (value_at L t depth 0 0 at n)
         (value_told L t depth (seat n none) 0 0 at (no_name L t none) i))
 
     pub value_within : (ns ne at n : ℕ) → at ≤ length t → place_of (value_at L t depth ns ne at n) ≤ length t
     value_within ns ne at n i =
         rw (value_anonymous depth ns ne at n)
-        (told_place (λ x. x ≤ length t) _ _ (λ f to p. stands_inside p.stands i) (λ q e l v. omega (arith, v.within)) (value_at L t depth 0 0 at n)
+        (told_place (λ x. x ≤ length t) (Parsed L t value depth (seat n none) 0 0 at) (Viable L t value at) (λ f to p. stands_inside p.stands i) (λ q e l v. omega (arith, v.within)) (value_at L t depth 0 0 at n)
         (value_told L t depth (seat n none) 0 0 at (no_name L t none) i))
 
     pub item_within : (b : Bracket) (before : Forest) (at n : ℕ) → at ≤ length t → place_of (item_at L t depth b before at n) ≤ length t
     item_within b before at n i =
-        told_place (λ x. x ≤ length t) _ _ (λ f to p. stands_inside p.stands i) (λ q e l v. omega (arith, v.within)) (item_at L t depth b before at n)
+        told_place (λ x. x ≤ length t) (Parsed L t (item b) depth (seat n before) 0 0 at) (Viable L t (item b) at) (λ f to p. stands_inside p.stands i) (λ q e l v. omega (arith, v.within)) (item_at L t depth b before at n)
         (item_told L t depth b (seat n before) at i)
 
     pub items_later : (b : Bracket) (turns at n : ℕ) (before : Forest) → at ≤ length t → at ≤ place_of (items_from t (item_at L t depth b) (closing b) turns at n before)
     items_later b turns at n before i =
-        told_place (λ x. at ≤ x) _ _ (λ f to p. omega (arith, stands_to p.stands)) (λ q e l v. v.later) (items_from t (item_at L t depth b) (closing b) turns at n before)
+        told_place (λ x. at ≤ x) (ItemsStand L t b depth (seat n before) at) (Viable L t (items b) at) (λ f to p. omega (arith, stands_to p.stands)) (λ q e l v. v.later) (items_from t (item_at L t depth b) (closing b) turns at n before)
         (items_told L t b depth (item_at L t depth b) (item_told L t depth b) turns (seat n before) at i)
