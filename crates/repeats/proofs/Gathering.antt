@@ -68,6 +68,7 @@ run_from h run_none = run_none
 run_from {x = x} h (run_more {p = p} l r) = run_more {from = x} {p = p} (omega arith) r
 
 run_over : {x q : ℕ} {ps : List ℕ} → Run x ps → Some (λ y. y ≡ q) ps → x ≤ q
+run_over {q = q} (run_none {from = from}) x6 = elim x6 [ ]
 run_over (run_more l r) (each.here h) = omega arith
 run_over (run_more l r) (each.later i) = let h = run_over r i in omega arith
 
