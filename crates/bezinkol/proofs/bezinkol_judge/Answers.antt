@@ -1,0 +1,15 @@
+-- `bezinkol_judge` leaves what the service leaves. Assumes nothing.
+use mathlib.Core.Path.{refl, ap, ◌∙◌}
+use Rattle.contact.specs.Services.{served}
+use Rattle.bezinkol.specs.Answer.{answer_words}
+use Rattle.bezinkol.proofs.bezinkol_judge.Goals as goal
+
+pub returns : goal.returns
+unfolding served
+returns c =
+    let left = c.judge-v.ensures in
+    record {
+      answered = c.put_answer.ensures ∙ ap answer_words (c.verdict_on_paper.ensures ∙ left.answered);
+      rows = left.table;
+      bytes = refl;
+    }

@@ -1,0 +1,28 @@
+-- `card::judge::judge_read` meets its contract, by the cases of reading's answer. Assumes nothing.
+use Rattle.card.proofs.Judging.Verdict.{read_into, rows_judged, text_refused}
+use Rattle.card.proofs.judge.judge_read.Goals as goal
+
+pub judge_rows-requires : goal.judge_rows-requires
+judge_rows-requires c =
+    let s = c in
+    let a = s.args in
+    let (L, lent, was) = s.requires in
+    let g = c.read-in-Rows-1.given in
+    let (f, h, is) = read_into L a.text.now lent a.table.now c.in-Rows.n was.long (rw c.in-Rows.is at was.reads) in
+    (L, f, h)
+
+pub returns-in-Refused : goal.returns-in-Refused
+returns-in-Refused c =
+    λ L lent was.
+    let a = c.args in
+    let g = c.read-1.given in
+    text_refused L a.text.now lent a.table.now c.in-Refused.r (rw c.in-Refused.is at was.reads)
+
+pub returns-in-Rows : goal.returns-in-Rows
+returns-in-Rows c =
+    λ L lent was.
+    let a = c.args in
+    let g = c.read-in-Rows-1.given in
+    let k = c.judge_rows in
+    let (f, h, is) = read_into L a.text.now lent a.table.now c.in-Rows.n was.long (rw c.in-Rows.is at was.reads) in
+    rows_judged L a.text.now lent a.table.now k.new.table c.in-Rows.n f k.result was.long h is (k.ensures L f h)

@@ -1,0 +1,39 @@
+-- `card::walk::object_number` meets its contract. Assumes nothing.
+use Rattle.card.specs.Walk.{object_number}
+use Rattle.laws.proofs.Picks.{granted, denied}
+use Rattle.card.proofs.walk.object_number.Goals as goal
+
+pub is_lacking-requires : goal.is_lacking-requires
+is_lacking-requires c = c.requires.0
+
+pub returns-then-is_lacking : goal.returns-then-is_lacking
+unfolding object_number
+returns-then-is_lacking c = λ f h. rw (← c.is_lacking.ensures f h, c.if-is_lacking.true)
+
+pub returns-then-not-key : goal.returns-then-not-key
+unfolding object_number
+returns-then-not-key c =
+    λ f h.
+    let a = c.args in
+    rw (← c.is_lacking.ensures f h, c.if-is_lacking.false, denied a.key c.if-not-key.true)
+
+pub breaks-requires : goal.breaks-requires
+breaks-requires c = c.requires
+
+pub returns-then-breaks : goal.returns-then-breaks
+unfolding object_number
+returns-then-breaks c =
+    λ f h.
+    let a = c.args in
+    let is-lacking = c.is_lacking in
+    let if1 = c.if-is_lacking in
+    rw (← is-lacking.ensures f h, if1.false, granted a.key c.if-not-key.false, ← c.breaks.ensures f h, c.if-breaks.true)
+
+pub returns : goal.returns
+unfolding object_number
+returns c =
+    λ f h.
+    let a = c.args in
+    let is-lacking = c.is_lacking in
+    let if1 = c.if-is_lacking in
+    rw (← is-lacking.ensures f h, if1.false, granted a.key c.if-not-key.false, ← c.breaks.ensures f h, c.if-breaks.false)

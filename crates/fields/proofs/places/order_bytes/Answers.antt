@@ -1,0 +1,53 @@
+-- `fields::places::order_bytes` meets its contract: bytes that both runs have decide nothing, and at the first difference they decide. Assumes nothing.
+use mathlib.Core.Path.{refl, sym, ◌∙◌}
+use Prim.Native.Nat.{◌<◌}
+use native.Mathlib.Omega.{arith}
+use lib.ListN.{length}
+use Rattle.laws.proofs.Places.{inside}
+use Rattle.text.specs.Text.{byte_at}
+use borrow.Author.Tests.{eq-eqb}
+use Rattle.json_reader.specs.Names.{order_at}
+use Rattle.fields.proofs.Runs.{run_more}
+use Rattle.fields.proofs.places.order_bytes.Goals as goal
+
+pub returns-then-p-q : goal.returns-then-p-q
+returns-then-p-q c =
+    let k = c in
+    c.order_at.ensures ∙ told k (λ e. absurd (c.if-p-q.true (k.peek-p.ensures.value ∙ e ∙ sym k.peek-q.ensures.value)))
+
+pub returns-then-p-eq-OVER : goal.returns-then-p-eq-OVER
+unfolding order_at
+returns-then-p-eq-OVER c =
+    let k = c in
+    rw (eq-eqb k.peek-p.result k.peek-q.result c.if-p-q.false) at (told k (λ e. sym k.peek-p.ensures.value ∙ c.if-p-eq-OVER.true))
+
+-- where the byte is not the end, it stands in the first run
+byte : (c : goal.Else-p-eq-OVER) → let l = c in byte_at l.args.a.now l.loop-i.i < 256
+byte c = let p = c.peek-p in let n = c.if-p-eq-OVER.false in omega (arith, p.ensures.value, p.ensures.small)
+
+pub loop-i-preserved : goal.loop-i-preserved
+loop-i-preserved c =
+    let l = c in
+    let a = l.args in
+    run_more a.a.now a.b.now l.loop-i.i l.loop-i.invariant (sym c.peek-p.ensures.value ∙ c.if-p-q.false ∙ c.peek-q.ensures.value) (byte c)
+
+pub loop-i-init : goal.loop-i-init
+loop-i-init c = refl
+
+pub peek-p-requires : goal.peek-p-requires
+peek-p-requires c = tt
+
+pub peek-q-requires : goal.peek-q-requires
+peek-q-requires c = tt
+
+pub order_at-requires : goal.order_at-requires
+order_at-requires c = tt
+
+in_first : (c : goal.Else-p-eq-OVER) → let l = c in l.loop-i.i < length l.args.a.now
+in_first c = let l = c in inside l.args.a.now l.loop-i.i (byte c)
+
+pub overflow_add-i : goal.overflow_add-i
+overflow_add-i c = omega (arith, in_first c)
+
+pub loop-i-smaller : goal.loop-i-smaller
+loop-i-smaller c = omega (arith, in_first c)

@@ -1,0 +1,16 @@
+-- `fields::walk::repeats_at` meets its contract: the test picks the case of `repeats_at`. Assumes nothing.
+use borrow.Author.Tests.{eq-eqb, ne_eqb}
+use Rattle.fields.specs.Survey.{repeats_at}
+use Rattle.fields.proofs.walk.repeats_at.Goals as goal
+
+pub returns-then-peek-eq-OBJECT : goal.returns-then-peek-eq-OBJECT
+unfolding repeats_at
+returns-then-peek-eq-OBJECT c =
+    let k = c in
+    let b = c in
+    let s = c in
+    rw (← b.peek.ensures.value, eq-eqb _ _ b.if-peek-eq-OBJECT.true, ← s.requires.ends) k.repeats_in.ensures
+
+pub returns : goal.returns
+unfolding repeats_at
+returns c = rw (← c.peek.ensures.value, ne_eqb _ _ c.if-peek-eq-OBJECT.false)

@@ -1,0 +1,40 @@
+-- `fields::walk::repeats_in` meets its contract: the search goes through the places that were listed. Assumes nothing.
+use mathlib.Core.Path.{◌≡◌, ap, ◌∙◌}
+use mathlib.Core.List.{List}
+use Prim.Native.Nat.{ℕ, ◌+◌, ◌-◌}
+use native.Mathlib.Omega.{arith}
+use lib.Seq.{length-take-le}
+use Rattle.laws.specs.Earliest.{first_repeat}
+use Rattle.fields.specs.Survey.{name_at, is_found}
+use Rattle.fields.proofs.Members.{places_climb}
+use Rattle.fields.proofs.walk.repeats_in.Goals as goal
+
+pub list_names-n-requires : goal.list_names-n-requires
+list_names-n-requires c =
+    let p = c.requires in
+    record { short = p.roomy.short; fits = p.roomy.store_fits; head = omega arith; inside = p.inside }
+
+pub repeat_among-requires : goal.repeat_among-requires
+repeat_among-requires c =
+    let k = c in
+    let s = c in
+    let a = s.args in
+    let n = k.list_names-n.ensures in
+    let e : k.list_names-n.result - 0 ≡ k.list_names-n.result = omega arith in
+    record {
+      climbs = rw (lent k) (places_climb a.packed.now a.next (a.at + 3));
+      fits = rw e (omega (arith, length-take-le k.list_names-n.result k.list_names-n.new.store n.inside, n.few, s.requires.inside, s.requires.roomy.scratch_fits));
+    }
+
+pub returns : goal.returns
+returns c =
+    let k = c in
+    let m = c in
+    let a = m.args in
+    k.repeat_among.ensures ∙ ap (λ (l : List ℕ). is_found (first_repeat (name_at a.packed.now) l)) (lent m)
+
+pub overflow_add-at : goal.overflow_add-at
+overflow_add-at c = let p = c.requires in omega (arith, p.ends, p.inside, p.roomy.short)
+
+pub slice_bounds-repeat_among-end : goal.slice_bounds-repeat_among-end
+slice_bounds-repeat_among-end c = c.list_names-n.ensures.inside

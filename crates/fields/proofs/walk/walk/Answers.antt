@@ -1,0 +1,100 @@
+-- `fields::walk::walk` meets its contract: what the walk says from a place on is what it says from the start on. Assumes nothing.
+use mathlib.Core.Path.{sym, ap, ◌∙◌}
+use Prim.Native.Nat.{ℕ, ◌+◌, ◌<◌}
+use native.Mathlib.Omega.{arith}
+use Rattle.fields.proofs.Turns.{onward_later, values_most, survey_end, survey_torn, survey_twice, walking_start, walking_on}
+use Rattle.fields.proofs.walk.walk.Goals as goal
+
+pub loop-at-init : goal.loop-at-init
+loop-at-init c = let a = c.args in walking_start a.packed.now a.store.now a.scratch.now
+
+pub returns-then-packed-next : goal.returns-then-packed-next
+returns-then-packed-next c =
+    let l = c in
+    let a = l.args in
+    sym (survey_torn a.packed.now l.loop-at.at l.loop-at.n c.loop-at-test.true (omega (arith, c.next_at-next.ensures.value, c.if-packed-next.true)))
+    ∙ l.loop-at.invariant.goes
+
+pub repeats_at-requires : goal.repeats_at-requires
+repeats_at-requires c =
+    let b = c in
+    let l = c in
+    let p = l.requires in
+    let w = l.loop-at.invariant in
+    record {
+      roomy = record { short = p.short; store_fits = rw w.store_long p.store_fits; scratch_fits = rw w.scratch-long p.scratch_fits };
+      ends = b.next_at-next.ensures.value;
+      inside = b.if-packed-next.false;
+    }
+
+pub returns-then-repeats_at : goal.returns-then-repeats_at
+returns-then-repeats_at c =
+    let k = c in
+    let b = c in
+    let l = c in
+    let a = l.args in
+    sym (survey_twice a.packed.now l.loop-at.at l.loop-at.n b.loop-at-test.true (whole b) (sym k.repeats_at.ensures ∙ c.if-repeats_at.true))
+    ∙ l.loop-at.invariant.goes
+
+short : (c : goal.After-values_at-n) → c.loop-at.at < 65538
+short c = let p = c.requires in omega (arith, c.loop-at-test.true, p.short)
+
+pub overflow_add-n : goal.overflow_add-n
+overflow_add-n c =
+    let b = c in
+    let l = c in
+    let a = l.args in
+    omega (arith, short c, l.loop-at.invariant.few, c.values_at-n.ensures, values_most a.packed.now l.loop-at.at)
+
+pub onward-at-requires : goal.onward-at-requires
+onward-at-requires c =
+    let b = c in (omega (arith, short c), b.next_at-next.ensures.value)
+
+pub loop-at-smaller : goal.loop-at-smaller
+loop-at-smaller c =
+    let b = c in
+    let l = c in
+    let a = l.args in
+    omega (arith, b.loop-at-test.true, c.onward-at.ensures, onward_later a.packed.now l.loop-at.at)
+
+pub loop-at-preserved : goal.loop-at-preserved
+loop-at-preserved c =
+    let b = c in
+    let l = c in
+    let t = c in
+    let k = c in
+    walking_on l.loop-at.invariant t.store-1.given t.scratch-1.given
+    b.loop-at-test.true (whole b) (sym k.repeats_at.ensures ∙ t.if-repeats_at.false) c.onward-at.result _ c.onward-at.ensures (ap (λ (v : ℕ). l.loop-at.n + v) c.values_at-n.ensures)
+
+pub returns : goal.returns
+returns c =
+    let l = c in
+    let a = l.args in
+    sym (survey_end a.packed.now l.loop-at.at l.loop-at.n c.loop-at-test.false) ∙ l.loop-at.invariant.goes
+
+short_2 : (c : goal.In-loop-at) → c.loop-at.at < 65538
+short_2 c = let p = c.requires in omega (arith, c.loop-at-test.true, p.short)
+
+pub next_at-next-requires : goal.next_at-next-requires
+next_at-next-requires c = omega (arith, short_2 c)
+
+pub shape_of-store-then-packed-next : goal.shape_of-store-then-packed-next
+shape_of-store-then-packed-next c = c.loop-at.invariant.store_long
+
+pub shape_of-scratch-then-packed-next : goal.shape_of-scratch-then-packed-next
+shape_of-scratch-then-packed-next c = c.loop-at.invariant.scratch_long
+
+pub shape_of-store-then-repeats_at : goal.shape_of-store-then-repeats_at
+shape_of-store-then-repeats_at c = c.store-1.given ∙ c.loop-at.invariant.store_long
+
+pub shape_of-scratch-then-repeats_at : goal.shape_of-scratch-then-repeats_at
+shape_of-scratch-then-repeats_at c = c.scratch-1.given ∙ c.loop-at.invariant.scratch_long
+
+pub values_at-n-requires : goal.values_at-n-requires
+values_at-n-requires c = tt
+
+pub shape_of-store : goal.shape_of-store
+shape_of-store c = c.loop-at.invariant.store_long
+
+pub shape_of-scratch : goal.shape_of-scratch
+shape_of-scratch c = c.loop-at.invariant.scratch_long

@@ -1,0 +1,98 @@
+-- `json_reader::members::read_key` meets its contract: one law of `member_of` for each return, and the name is in the store once it is closed. Assumes nothing.
+use Prim.Native.Nat.{ℕ, ◌+◌}
+use mathlib.Core.Path.{◌≡◌, sym, ◌∙◌}
+use mathlib.Core.List.{List, []}
+use native.Mathlib.Omega.{arith}
+use Rattle.text.specs.Text.{byte_at}
+use Rattle.text.specs.Strings.{string_end}
+use Rattle.text.specs.Tree.{curly}
+use Rattle.text.specs.Reader.{value_at}
+use Rattle.text.specs.declared.Token.TheVariants.{End}
+use Rattle.text.specs.declared.Refusal.{Refusal}
+use Rattle.text.proofs.Laws.{EndInside, end_inside}
+use Rattle.repeats.specs.Closed.{aside_name}
+use Rattle.json_reader.specs.Readers.{limits_in, Put, NameAsks, Begun, Coloned, ItemRead}
+use Rattle.json_reader.specs.declared.containers.Container.TheVariants.{Object}
+use Rattle.json_reader.specs.declared.members.ItemStart.{ItemStart}
+use Rattle.json_reader.specs.declared.members.ItemStart.TheVariants.{At, Wrong}
+use Rattle.json_reader.proofs.Ways.{member_none, member_no2, member_no3, member_closed, own_none, own_no2, own_no3, own_closed}
+use Rattle.json_reader.proofs.Store.{added_none}
+use Rattle.json_reader.proofs.members.read_key.Goals as goal
+
+module _ (t names : List ℕ) (end at : ℕ) (asks : NameAsks t names end at) where
+  -- no name is closed
+  unclosed : (r : Refusal) → aside_name (limits_in names) t curly at ≡ [] → Begun Object t at (Wrong r end) → ItemRead Object t end at names names (Wrong r end)
+  unclosed r e is = record { inside = tt; is = is; added = rw e (added_none end names asks.room.upto) }
+
+  -- a name is closed, and what follows it
+  closed : (to last : ℕ) (names' : List ℕ) (r : ItemStart) → byte_at t at ≡ 34 → string_end t (at + 1) ≡ End to → Put names end at names' last
+      → Coloned t (at + 1) to last r → ItemRead Object t end at names names' r
+  closed to last names' (At ns ne from top) h e q p =
+      let i = end_inside t (at + 1) to e in
+      rw (p.stays, p.starts)
+      (record {
+        inside =
+            record {
+              places = record { starts = omega (arith, p.inside, p.later); ends = omega (arith, p.inside, p.later, p.ends) };
+              later = omega (arith, p.later);
+              inside = p.inside;
+              one = q.one;
+              spread = omega (arith, p.later, q.one);
+            };
+        is = λ L depth n done. member_closed L t (value_at L t depth) done at n h to e ∙ p.is (value_at L t depth) at n;
+        added = rw (own_closed t at h to e) q.added;
+      })
+  closed to last names' (Wrong r top) h e q p =
+      rw p.0
+      (record {
+        inside = tt;
+        is = λ L depth n done. member_closed L t (value_at L t depth) done at n h to e ∙ p.1 (value_at L t depth) at n;
+        added = rw (own_closed t at h to e) q.added;
+      })
+
+pub returns-then-peek-ne-QUOTE : goal.returns-then-peek-ne-QUOTE
+returns-then-peek-ne-QUOTE c =
+    let s = c in
+    let a = s.args in
+    let h : byte_at a.text.now a.at ≡ 34 → ⊥ = λ q. c.if-peek-ne-QUOTE.true (c.peek.ensures.value ∙ q) in
+    unclosed a.text.now a.names.now a.end a.at s.requires _ (own_none (limits_in a.names.now) a.text.now a.at h)
+    (λ L depth n done. member_none L a.text.now (value_at L a.text.now depth) done a.at n h)
+
+pub returns-in-No2 : goal.returns-in-No2
+returns-in-No2 c =
+    let s = c in
+    let a = s.args in
+    let h : byte_at a.text.now a.at ≡ 34 = omega arith in
+    let p = c.in-No2.p in
+    let e = sym c.string_end.ensures ∙ c.in-No2.is in
+    unclosed a.text.now a.names.now a.end a.at s.requires _ (own_no2 (limits_in a.names.now) a.text.now a.at h p e)
+    (λ L depth n done. member_no2 L a.text.now (value_at L a.text.now depth) done a.at n h p e)
+
+pub returns-in-No3 : goal.returns-in-No3
+returns-in-No3 c =
+    let s = c in
+    let a = s.args in
+    let h : byte_at a.text.now a.at ≡ 34 = omega arith in
+    let p = c.in-No3.p in
+    let e = sym c.string_end.ensures ∙ c.in-No3.is in
+    unclosed a.text.now a.names.now a.end a.at s.requires _ (own_no3 (limits_in a.names.now) a.text.now a.at h p e)
+    (λ L depth n done. member_no3 L a.text.now (value_at L a.text.now depth) done a.at n h p e)
+
+-- the place where a name has ended
+ended : (c : goal.After-slice_known-in-End-1) → EndInside c.args.text.now (c.args.at + 1) c.in-End.to
+ended c =
+    end_inside c.args.text.now (c.args.at + 1) c.in-End.to
+    (sym c.string_end.ensures ∙ c.in-End.is)
+
+pub colon-requires : goal.colon-requires
+colon-requires c = omega (arith, ended c)
+
+pub returns-in-End : goal.returns-in-End
+returns-in-End c =
+    let s = c in
+    let a = s.args in
+    let e = c in
+    let k = c.put_name-last in
+    let h : byte_at a.text.now a.at ≡ 34 = omega arith in
+    closed a.text.now a.names.now a.end a.at s.requires e.in-End.to k.result k.new.names c.colon.result h
+    (sym e.string_end.ensures ∙ e.in-End.is) k.ensures c.colon.ensures

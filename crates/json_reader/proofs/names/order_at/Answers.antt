@@ -1,0 +1,18 @@
+-- `json_reader::names::order_at` meets its contract: the tests pick the case of `order_at`. Assumes nothing.
+use Rattle.laws.proofs.Picks.{picks}
+use Rattle.json_reader.proofs.names.order_at.Goals as goal
+
+pub returns-then-p-q : goal.returns-then-p-q
+returns-then-p-q c = search picks
+
+pub returns-then-p-eq-OVER : goal.returns-then-p-eq-OVER
+returns-then-p-eq-OVER c = search picks
+
+pub returns-then-q-eq-OVER : goal.returns-then-q-eq-OVER
+returns-then-q-eq-OVER c = search picks
+
+pub returns-then-p-q-2 : goal.returns-then-p-q-2
+returns-then-p-q-2 c = search picks
+
+pub returns-else-p-q-2 : goal.returns-else-p-q-2
+returns-else-p-q-2 c = search picks

@@ -1,0 +1,12 @@
+-- `json_reader::tokens::digits_end` meets its contract: its loop is that over a run, here of digits. Assumes nothing.
+use Prim.Native.Nat.{◌-◌}
+use lib.ListN.{length}
+use Rattle.text.specs.Tokens.{is_digit}
+use Rattle.json_reader.proofs.Runs.{Along}
+use Rattle.json_reader.proofs.tokens.digits_end.Given as goal
+
+abbrev pub invariant-loop-at : goal.invariant-loop-at
+invariant-loop-at l = Along is_digit l.text l.from l.at
+
+abbrev pub decreases-loop-at : goal.decreases-loop-at
+decreases-loop-at l = length l.text - l.at

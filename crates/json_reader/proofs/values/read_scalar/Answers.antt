@@ -1,0 +1,53 @@
+-- `json_reader::values::read_scalar` meets its contract: one law of `scalar_at` for each return. Assumes nothing.
+use Prim.Native.Nat.{◌+◌}
+use mathlib.Core.Path.{sym, ◌∙◌}
+use native.Mathlib.Omega.{arith}
+use Rattle.text.specs.Limits.{base}
+use Rattle.text.specs.Tree.{none, leaf, size, rows_of}
+use Rattle.text.proofs.TokenEnds.{Span, token_span}
+use Rattle.json_reader.proofs.Ways.{scalar_end, scalar_no2, scalar_no3}
+use Rattle.json_reader.proofs.values.read_scalar.Goals as goal
+
+-- the place where a token has ended
+ended : (c : goal.After-put_row-arg-1)
+    → Span c.args.text.now (c.args.at + 1) c.in-End.to
+ended c =
+    token_span c.args.text.now c.args.kind
+    c.args.at c.in-End.to
+    c.requires.1 (sym c.token_end.ensures ∙ c.in-End.is)
+
+pub put_row-requires : goal.put_row-requires
+put_row-requires c =
+    let s = ended c in
+    let p = c.requires in
+    omega arith
+
+pub returns-in-End : goal.returns-in-End
+unfolding size rows_of
+returns-in-End c =
+    let a = c.args in
+    let e = c in
+    let to = e.in-End.to in
+    let s = ended e in
+    let token = sym e.token_end.ensures ∙ e.in-End.is in
+    record {
+      trees = leaf a.kind a.ns a.ne a.at to none;
+      is = scalar_end base a.text.now a.kind a.ns a.ne a.at a.count (omega arith) to token;
+      count = omega arith;
+      table = c.put_row.ensures;
+      later = omega arith;
+      inside = s.inside;
+      few = omega arith;
+    }
+
+pub returns-in-No2 : goal.returns-in-No2
+returns-in-No2 c =
+    let a = c.args in
+    scalar_no2 base a.text.now a.kind a.ns a.ne a.at a.count (omega arith)
+    c.in-No2.p (sym c.token_end.ensures ∙ c.in-No2.is)
+
+pub returns-in-No3 : goal.returns-in-No3
+returns-in-No3 c =
+    let a = c.args in
+    scalar_no3 base a.text.now a.kind a.ns a.ne a.at a.count (omega arith)
+    c.in-No3.p (sym c.token_end.ensures ∙ c.in-No3.is)

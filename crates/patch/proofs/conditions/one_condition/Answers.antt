@@ -1,0 +1,13 @@
+-- `patch::conditions::one_condition` meets its contract: by the row that is named. Assumes nothing.
+use mathlib.Core.Path.{ap}
+use Rattle.patch.specs.declared.conditions.Condition.TheVariants.{Broken}
+use Rattle.patch.proofs.conditions.one_condition.Goals as goal
+
+pub returns-in_default : goal.returns-in_default
+returns-in_default c = rw (← c.least.ensures, c.in_default.is)
+
+pub returns : goal.returns
+returns c =
+    let quote = c in
+    let row = c in
+    rw (← row.least.ensures, row.in-Row.is, ← quote.quote_at.ensures) (ap Broken c.refusal.ensures)

@@ -1,0 +1,55 @@
+-- `patch::names::put_spelled_rest` meets its contract: what is left to write are the bytes that the cursor has still to hand out, and the quote.
+-- Assumes nothing.
+use mathlib.Core.Path.{◌≡◌, ap, ◌∙◌}
+use mathlib.Core.List.{[], ◌∷◌, append_assoc}
+use native.Mathlib.Omega.{arith}
+use lib.ListN.{length}
+use Rattle.text.specs.Writing.{spelled_byte, spelled_bytes}
+use Rattle.json_reader.specs.Cursors.{rest}
+use Rattle.pointers.specs.Parts.{part_left}
+use Rattle.pointers.proofs.Laws.Parts.{taken, over}
+use Rattle.patch.specs.Spelled.{spelled_rest}
+use Rattle.output.proofs.Bytes.{left_all, left_on, left_as, left_last, left_length}
+use Rattle.patch.proofs.names.put_spelled_rest.Goals as goal
+
+pub loop-b-init : goal.loop-b-init
+loop-b-init c = left_all
+
+pub shape_of-out-in_default : goal.shape_of-out-in_default
+shape_of-out-in_default c = c.put_byte.auto.0 ∙ left_length c.loop-b.invariant
+
+pub returns-in_default : goal.returns-in_default
+returns-in_default c =
+    let l = c in
+    let none = over l.args.key.now l.loop-b.c c.part_byte.ensures.result_value c.in_default.is in
+    left_last (34 ∷ []) (left_as (ap spelled_rest none) l.loop-b.invariant) c.put_byte.ensures
+
+-- the byte that is handed out, and those after it
+handed : (c : goal.After-slice_known-in-loop-b-1) → let l = c in
+    let key = l.args.key.now in
+    let b = c.b-1 in
+    part_left (rest key l.loop-b.c) ≡ c.in-Byte.b ∷ part_left (rest key c.in-Byte.on)
+handed c =
+    let l = c in
+    taken l.args.key.now l.loop-b.c c.part_byte.ensures.result_value c.in-Byte.is
+
+pub loop-b-smaller : goal.loop-b-smaller
+loop-b-smaller c = omega (arith, ap length (handed c))
+
+pub loop-b-preserved : goal.loop-b-preserved
+loop-b-preserved c =
+    let l = c in
+    let b = c.b-1.given.0 in
+    let n = part_left (rest l.args.key.now c.in-Byte.on) in
+    left_on (spelled_byte c.in-Byte.b) (spelled_rest n)
+    (left_as (ap spelled_rest (handed c) ∙ append_assoc (spelled_byte c.in-Byte.b) (spelled_bytes n) (34 ∷ [])) l.loop-b.invariant)
+    c.put_spelled_byte-p.ensures
+
+pub part_byte-requires : goal.part_byte-requires
+part_byte-requires c = tt
+
+pub put_byte-requires : goal.put_byte-requires
+put_byte-requires c = tt
+
+pub put_spelled_byte-p-requires : goal.put_spelled_byte-p-requires
+put_spelled_byte-p-requires c = tt

@@ -1,0 +1,9 @@
+-- `patch::writing::close_of` meets its contract. Assumes nothing.
+use Rattle.laws.proofs.Picks.{picks}
+use Rattle.patch.proofs.writing.close_of.Goals as goal
+
+pub returns-then-kind-eq-OBJECT : goal.returns-then-kind-eq-OBJECT
+returns-then-kind-eq-OBJECT c = search picks
+
+pub returns-else-kind-eq-OBJECT : goal.returns-else-kind-eq-OBJECT
+returns-else-kind-eq-OBJECT c = search picks

@@ -1,0 +1,99 @@
+-- `pieces::feed::in_string` meets its contract: the quote closes a string between two characters, and else the byte does what it does inside one.
+-- Assumes nothing.
+use mathlib.Core.List.{List}
+use mathlib.Core.Path.{◌≡◌, sym, ap, ◌∙◌}
+use Prim.Native.Nat.{ℕ, ◌+◌, ◌-◌, ◌≤◌}
+use native.Mathlib.Omega.{arith}
+use Rattle.text.specs.Tree.{Bracket}
+use Rattle.wire.specs.declared.Move.TheVariants.{Closed}
+use Rattle.wire.specs.Inners.{move_of}
+use Rattle.wire.specs.Machine.{going, on_move}
+use Rattle.wire.specs.Held.{opened_of, inner_at, spot_at}
+use Rattle.pieces.specs.Turns.{first_of, behind_of}
+use Rattle.pieces.proofs.Steps.{strung, refused_way, character_way, moved_way, still_way, string_way, spot_plain, first_most, first_below, behind_plain}
+use Rattle.pieces.proofs.feed.in_string.Goals as goal
+
+-- behind the closing quote
+closed : (at n : ℕ) (os : List Bracket) (start f g k : ℕ)
+    → going (at + 1) n os (spot_at (behind_of start) f g k) ≡ on_move at n os (λ x. strung start x) (spot_at (behind_of start) 0 0 0) Closed
+unfolding on_move
+closed at n os start f g k = ap (going (at + 1) n os) (spot_plain (behind_of start) f g k (behind_plain start))
+
+pub returns-then-h-first : goal.returns-then-h-first
+unfolding move_of inner_at
+returns-then-h-first c =
+    let q = c in
+    let f = c in
+    let s = c in
+    let a = s.args in
+    let h = a.h in
+    let quote : a.b ≡ 34 = q.if-b.true in
+    let at_first : h.spot ≡ first_of h.spot = q.if-h-first.true ∙ f.first_of-first.ensures in
+    let zero_th : h.spot - first_of h.spot ≡ 0 = omega arith in
+    let start : c.behind.result ≡ behind_of (first_of h.spot) = c.behind.ensures ∙ ap behind_of f.first_of-first.ensures in
+    let small = behind_plain (first_of h.spot) in
+    moved_way a.at h a.b (behind_of (first_of h.spot)) c.moved.result (omega arith) (rw start at c.moved.ensures)
+    ∙ closed a.at h.values (opened_of h.depth h.opened) (first_of h.spot) h.from h.bits h.high
+    ∙ sym (string_way a.at h a.b Closed s.requires.le_spot s.requires.going (rw (zero_th, quote)))
+
+pub returns-in-Still : goal.returns-in-Still
+unfolding on_move
+returns-in-Still c =
+    let t = c in
+    let f = c in
+    let s = c in
+    let a = s.args in
+    let h = a.h in
+    let still = c.in-Still.is in
+    still_way a.at h a.b _ c.inside.result (fits t _ still) (rw f.first_of-first.ensures at c.inside.ensures)
+    ∙ sym (string_way a.at h a.b _ s.requires.le_spot s.requires.going (sym still ∙ moves t))
+
+pub returns-in-Closed : goal.returns-in-Closed
+returns-in-Closed c =
+    let b = c in
+    let t = c in
+    let f = c in
+    let s = c in
+    let a = s.args in
+    let h = a.h in
+    let start : b.behind-in-Closed.result ≡ behind_of (first_of h.spot) = b.behind-in-Closed.ensures ∙ ap behind_of f.first_of-first.ensures in
+    let small = behind_plain (first_of h.spot) in
+    moved_way a.at h a.b (behind_of (first_of h.spot)) c.moved-in-Closed.result (omega arith) (rw start at c.moved-in-Closed.ensures)
+    ∙ closed a.at h.values (opened_of h.depth h.opened) (first_of h.spot) h.from h.bits h.high
+    ∙ sym (string_way a.at h a.b Closed s.requires.le_spot s.requires.going (sym b.in-Closed.is ∙ moves t))
+
+pub returns-in-Wrong2 : goal.returns-in-Wrong2
+unfolding on_move
+returns-in-Wrong2 c =
+    let t = c in
+    let s = c in
+    let a = s.args in
+    refused_way a.at a.h a.b _ c.told.result c.told.ensures
+    ∙ sym (string_way a.at a.h a.b _ s.requires.le_spot s.requires.going (sym c.in-Wrong2.is ∙ moves t))
+
+pub returns-in-Wrong3 : goal.returns-in-Wrong3
+unfolding on_move
+returns-in-Wrong3 c =
+    let t = c in
+    let s = c in
+    let a = s.args in
+    character_way a.at a.h a.b _ c.told-in-Wrong3.result c.told-in-Wrong3.ensures
+    ∙ sym (string_way a.at a.h a.b _ s.requires.le_spot s.requires.going (sym c.in-Wrong3.is ∙ moves t))
+
+-- the numbers of its places begin at or below its own
+below : (c : goal.After-struct_known-2-1) → (c.first_of-first.result ≤ c.args.h.spot) × (c.first_of-first.result ≤ 38)
+below c =
+    let h = c.args.h in
+    (rw c.first_of-first.ensures (first_below h.spot c.requires.le_spot), rw c.first_of-first.ensures (first_most h.spot).0)
+
+pub overflow_sub-h : goal.overflow_sub-h
+overflow_sub-h c = omega (arith, (below c).0)
+
+-- the numbers of its places begin at or below its own
+below_2 : (c : goal.In-Still) → (c.first_of-first.result ≤ c.args.h.spot) × (c.first_of-first.result ≤ 38)
+below_2 c =
+    let h = c.args.h in
+    (rw c.first_of-first.ensures (first_below h.spot c.requires.le_spot), rw c.first_of-first.ensures (first_most h.spot).0)
+
+pub inside-requires : goal.inside-requires
+inside-requires c = omega (arith, (below_2 c).1)

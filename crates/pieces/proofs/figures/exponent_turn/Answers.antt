@@ -1,0 +1,16 @@
+-- `pieces::figures::exponent_turn` meets its contract: a sign, a digit, or the number is stuck. Assumes nothing.
+use Rattle.laws.proofs.Picks.{picks}
+use Rattle.wire.specs.Figures.{turn_of}
+use Rattle.wire.specs.Held.{figure_at}
+use Rattle.pieces.proofs.Ways.{turn_either}
+use Rattle.pieces.proofs.figures.exponent_turn.Goals as goal
+
+pub returns : goal.returns
+unfolding turn_of figure_at
+returns c = rw (c.digit_or.ensures, turn_either) (search picks)
+
+pub returns-then-b-eq45 : goal.returns-then-b-eq45
+returns-then-b-eq45 c = search picks
+
+pub returns-then-b-eq43 : goal.returns-then-b-eq43
+returns-then-b-eq43 c = search picks

@@ -1,0 +1,27 @@
+-- `pieces::inners::four` meets its contract: a digit is at most 16, so one more of four fits. Assumes nothing.
+use Rattle.laws.proofs.Picks.{picks}
+use Rattle.wire.specs.Inners.{move_of}
+use native.Mathlib.Omega.{arith}
+use Rattle.wire.proofs.Strings.{digit_most}
+use borrow.Author.Rules.{rules}
+use Rattle.pieces.proofs.inners.four.Goals as goal
+
+pub digit-d-requires : goal.digit-d-requires
+digit-d-requires c = search rules
+
+pub returns-then-d-eq16 : goal.returns-then-d-eq16
+unfolding move_of
+returns-then-d-eq16 c = rw (← c.digit-d.ensures) (search picks)
+
+pub overflow_mul-v : goal.overflow_mul-v
+overflow_mul-v c = search rules
+
+pub overflow_add-v : goal.overflow_add-v
+overflow_add-v c = let h = c.digit-d.ensures in omega (arith, digit_most c.args.b)
+
+pub one_digit-requires : goal.one_digit-requires
+one_digit-requires c = search rules
+
+pub returns : goal.returns
+unfolding move_of
+returns c = rw (← c.digit-d.ensures, ← c.one_digit.ensures) (search picks)

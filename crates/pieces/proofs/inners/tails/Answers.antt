@@ -1,0 +1,25 @@
+-- `pieces::inners::tails` meets its contract: a continuation byte's six bits, and then `one_tail` answers. Assumes nothing.
+use Rattle.laws.proofs.Picks.{picks}
+use Rattle.wire.specs.Inners.{move_of}
+use borrow.Author.Rules.{rules}
+use Rattle.pieces.proofs.inners.tails.Goals as goal
+
+pub tail-x-requires : goal.tail-x-requires
+tail-x-requires c = search rules
+
+pub returns-then-x-gt63 : goal.returns-then-x-gt63
+unfolding move_of
+returns-then-x-gt63 c = rw (← c.tail-x.ensures) (search picks)
+
+pub overflow_mul-c : goal.overflow_mul-c
+overflow_mul-c c = search rules
+
+pub overflow_add-c : goal.overflow_add-c
+overflow_add-c c = search rules
+
+pub one_tail-requires : goal.one_tail-requires
+one_tail-requires c = search rules
+
+pub returns : goal.returns
+unfolding move_of
+returns c = rw (← c.tail-x.ensures, ← c.one_tail.ensures) (search picks)

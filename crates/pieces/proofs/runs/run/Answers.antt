@@ -1,0 +1,38 @@
+-- `pieces::runs::run` meets its contract, by the class of the spot. Assumes nothing.
+use native.Mathlib.Omega.{arith}
+use Rattle.pieces.proofs.Stretches.{lead_none, lead_spaces, lead_chars, lead_key_chars}
+use Rattle.pieces.proofs.runs.run.Goals as goal
+
+pub returns-then-spot-lt-LITERALS : goal.returns-then-spot-lt-LITERALS
+returns-then-spot-lt-LITERALS c =
+    let s = c in
+    let a = s.args in
+    rw c.skip.ensures (lead_spaces a.spot a.text.now a.from s.requires.from_in_bounds c.if-spot-lt-LITERALS.true)
+
+pub returns-then-spot-lt-NUMBERS : goal.returns-then-spot-lt-NUMBERS
+returns-then-spot-lt-NUMBERS c =
+    let s = c in
+    lead_none s.args.spot s.args.text.now s.args.from s.requires.from_in_bounds s.requires.going
+
+pub returns-then-spot-eq-TEXTS : goal.returns-then-spot-eq-TEXTS
+returns-then-spot-eq-TEXTS c =
+    let s = c in
+    let a = s.args in
+    rw c.if-spot-eq-TEXTS.true (lead_chars a.text.now a.from c.chars_end.result s.requires.from_in_bounds c.chars_end.ensures.chars)
+
+pub returns-then-spot-eq-KEYS : goal.returns-then-spot-eq-KEYS
+returns-then-spot-eq-KEYS c =
+    let s = c in
+    let a = s.args in
+    rw c.if-spot-eq-KEYS.true (lead_key_chars a.text.now a.from c.chars_end-then-spot-eq-KEYS.result s.requires.from_in_bounds c.chars_end-then-spot-eq-KEYS.ensures.chars)
+
+pub returns : goal.returns
+returns c =
+    let s = c in
+    lead_none s.args.spot s.args.text.now s.args.from s.requires.from_in_bounds s.requires.going
+
+pub number_run-requires : goal.number_run-requires
+number_run-requires c = (c.requires.from_in_bounds, (omega arith, c.if-spot-lt-TEXTS.true))
+
+pub returns-then-spot-lt-TEXTS : goal.returns-then-spot-lt-TEXTS
+returns-then-spot-lt-TEXTS c = c.number_run.ensures

@@ -1,0 +1,16 @@
+-- `pieces::spots::four_code` meets its contract: an arm for each number of digits. Assumes nothing.
+use native.Mathlib.Omega.{arith}
+use Rattle.laws.proofs.Picks.{picks}
+use Rattle.pieces.proofs.spots.four_code.Goals as goal
+
+pub returns-in-3 : goal.returns-in-3
+returns-in-3 c = (rw c.in-3.is, omega arith)
+
+pub returns-in-2 : goal.returns-in-2
+returns-in-2 c = (rw c.in-2.is, omega arith)
+
+pub returns-in-1 : goal.returns-in-1
+returns-in-1 c = (rw c.in-1.is, omega arith)
+
+pub returns-in_default : goal.returns-in_default
+returns-in_default c = (search picks, omega arith)

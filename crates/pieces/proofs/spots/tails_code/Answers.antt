@@ -1,0 +1,10 @@
+-- `pieces::spots::tails_code` meets its contract: one byte left, or more. Assumes nothing.
+use native.Mathlib.Omega.{arith}
+use Rattle.laws.proofs.Picks.{picks}
+use Rattle.pieces.proofs.spots.tails_code.Goals as goal
+
+pub returns-in-0 : goal.returns-in-0
+returns-in-0 c = (rw c.in-0.is, omega arith)
+
+pub returns-in_default : goal.returns-in_default
+returns-in_default c = (search picks, omega arith)

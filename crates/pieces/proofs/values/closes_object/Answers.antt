@@ -1,0 +1,33 @@
+-- `pieces::values::closes_object` meets its contract: `closes_object` says what the definition asks where the innermost bracket is an object. Assumes nothing.
+use borrow.Author.Rules.{rules}
+use Rattle.laws.proofs.Picks.{picks}
+use Rattle.wire.specs.Held.{spot_at, told_at, state_at}
+use Rattle.pieces.proofs.Acts.{closes_object}
+use Rattle.pieces.proofs.values.closes_object.Goals as goal
+
+pub overflow_cast-t-4 : goal.overflow_cast-t-4
+overflow_cast-t-4 c = search rules
+
+pub moved-requires : goal.moved-requires
+moved-requires c = search rules
+
+pub returns-then-b : goal.returns-then-b
+unfolding state_at spot_at
+returns-then-b c = rw (c.moved.ensures, closes_object _ _ _ _ _ c.requires.fact c.requires.object, c.if-b.true)
+
+pub overflow_cast-t-4-2 : goal.overflow_cast-t-4-2
+overflow_cast-t-4-2 c = search rules
+
+pub shut-requires : goal.shut-requires
+shut-requires c = search rules
+
+pub returns-then-b-2 : goal.returns-then-b-2
+unfolding state_at spot_at
+returns-then-b-2 c = rw (c.shut.ensures, closes_object _ _ _ _ _ c.requires.fact c.requires.object) (search picks)
+
+pub told-requires : goal.told-requires
+told-requires c = search rules
+
+pub returns : goal.returns
+unfolding state_at told_at
+returns c = rw (c.told.ensures, closes_object _ _ _ _ _ c.requires.fact c.requires.object) (search picks)

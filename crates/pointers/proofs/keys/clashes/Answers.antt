@@ -1,0 +1,40 @@
+-- `pointers::keys::clashes` meets its contract: the first byte that differs decides, if it can (`by_first`). Assumes nothing.
+use mathlib.Core.Path.{sym, ◌∙◌}
+use Rattle.laws.specs.Scan.{scan}
+use Rattle.text.specs.Strings.{piece_by, decode_from}
+use Rattle.text.specs.Utf8.{conts}
+use Rattle.pointers.proofs.Laws.Beginnings.{by_first}
+use Rattle.pointers.proofs.keys.clashes.Goals as goal
+
+pub returns-then-tells : goal.returns-then-tells
+unfolding conts decode_from scan piece_by
+returns-then-tells c =
+    let t = c in
+    let p = c in
+    let k = c in
+    let a = k.args in
+    c.ends_before.ensures
+    ∙ (by_first a.a.now a.b.now k.alike_keys-k.result p.peek-x.ensures t.peek-y.ensures (sym t.tells.ensures ∙ c.if-tells.true)).1
+    ∙ k.alike_keys-k.ensures.clashing
+
+pub returns : goal.returns
+unfolding conts decode_from scan piece_by
+returns c = c.parts_clash.ensures ∙ c.alike_keys-k.ensures.clashing
+
+pub alike_keys-k-requires : goal.alike_keys-k-requires
+alike_keys-k-requires c = tt
+
+pub peek-x-requires : goal.peek-x-requires
+peek-x-requires c = tt
+
+pub peek-y-requires : goal.peek-y-requires
+peek-y-requires c = tt
+
+pub tells-requires : goal.tells-requires
+tells-requires c = tt
+
+pub ends_before-requires : goal.ends_before-requires
+ends_before-requires c = tt
+
+pub parts_clash-requires : goal.parts_clash-requires
+parts_clash-requires c = tt

@@ -1,0 +1,34 @@
+-- `pointers::parts::tilde_at` meets its contract: each way is a law of what a `~` and the byte after it show. Assumes nothing.
+use mathlib.Core.Path.{sym, ◌∙◌}
+use native.Mathlib.Omega.{arith}
+use Rattle.pointers.proofs.Laws.Glyphs.{tilde_inside, tilde_one, tilde_zero, tilde_alone}
+use Rattle.pointers.proofs.parts.tilde_at.Goals as goal
+
+pub overflow_add-at : goal.overflow_add-at
+overflow_add-at c = let s = c in omega (arith, tilde_inside s.args.key.now s.args.at s.requires)
+
+pub returns-then-b-eq-ONE : goal.returns-then-b-eq-ONE
+returns-then-b-eq-ONE c =
+    let s = c in
+    tilde_one s.args.key.now s.args.at s.requires (sym c.peek-b.ensures.value ∙ c.if-b-eq-ONE.true)
+
+pub returns-then-b-eq-ZERO : goal.returns-then-b-eq-ZERO
+returns-then-b-eq-ZERO c =
+    let s = c in
+    tilde_zero s.args.key.now s.args.at s.requires (sym c.peek-b.ensures.value ∙ c.if-b-eq-ZERO.true)
+
+pub returns : goal.returns
+returns c =
+    let p = c.peek-b in
+    let s = c in
+    tilde_alone s.args.key.now s.args.at s.requires (omega (arith, p.ensures.value, p.ensures.small)) (λ z. c.if-b-eq-ONE.false (p.ensures.value ∙ z))
+    (λ z. c.if-b-eq-ZERO.false (p.ensures.value ∙ z)) (λ z. c.if-b-eq-BACKSLASH.false (p.ensures.value ∙ z))
+
+pub peek-b-requires : goal.peek-b-requires
+peek-b-requires c = tt
+
+pub untold-requires : goal.untold-requires
+untold-requires c = tt
+
+pub returns-then-b-eq-BACKSLASH : goal.returns-then-b-eq-BACKSLASH
+returns-then-b-eq-BACKSLASH c = c.untold.ensures _ _ _

@@ -1,7 +1,0 @@
--- `vault::values::close_of` meets its contract. Assumes nothing.
-use Rattle.laws.proofs.Picks.{picks}
-use Rattle.vault.proofs.values.close_of.Statement.{statement}
-use Rattle.vault.proofs.values.close_of.Tie as tie
-
-pub close_of_spec : {M : Type 1} → statement M
-close_of_spec = tie.close (tie.spec (λ c. search picks) (λ c. search picks))

@@ -1,7 +1,0 @@
--- `vault::values::open_of` meets its contract. Assumes nothing.
-use Rattle.laws.proofs.Picks.{picks}
-use Rattle.vault.proofs.values.open_of.Statement.{statement}
-use Rattle.vault.proofs.values.open_of.Tie as tie
-
-pub open_of_spec : {M : Type 1} → statement M
-open_of_spec = tie.close (tie.spec (λ c. search picks) (λ c. search picks))
