@@ -1,5 +1,4 @@
 -- Each turn clears one more. Assumes nothing.
-use Rattle.std.proofs.Common.{◌<◌, length, arith}
 use Rattle.laws.proofs.Cleared.{cleared_none, cleared_more, cleared_all}
 use Rattle.laws.proofs.clear.clear_words.Goals as goal
 
@@ -11,6 +10,3 @@ loop-i-preserved c = cleared_more c.loop-i.invariant c.loop-i-test.true
 
 pub returns : goal.returns
 returns c = cleared_all c.loop-i.invariant c.loop-i-test.false
-
-helper : (c : goal.In-loop-i) → c.loop-i.i < length c.args.table.now
-helper c = ?
