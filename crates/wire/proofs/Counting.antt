@@ -18,7 +18,7 @@ use Rattle.text.specs.Limits.{Limits}
 use Rattle.text.specs.Text.{byte_at}
 use Rattle.text.specs.Strings.{string_end}
 use Rattle.text.specs.Tokens.{skip, kind_by, token_at}
-use Rattle.text.specs.Grammar.{closing}
+use Rattle.text.specs.Grammar.{closing, item}
 use Rattle.text.specs.Tree.{Bracket, square, curly, Forest, none, size, join}
 use Rattle.text.specs.Reader.{Read, good, bad, Reader, scalar_with, scalar_at, close_of, container, deep, value_with, after_item, items_from, inside_of, colon_at, member_with, member_of, value_at}
 use Rattle.text.specs.declared.Token.{Token}
@@ -28,7 +28,7 @@ use Rattle.text.specs.declared.Refusal.TheVariants.{Grammar, Character, Deep, Ma
 use Rattle.text.proofs.Grammar.Stands.{stands_to}
 use Rattle.text.proofs.Grammar.Words.{skip_later, skip_inside}
 use Rattle.text.proofs.Grammar.Trees.{size_join}
-use Rattle.text.proofs.Grammar.Sound.{place_of, told_place}
+use Rattle.text.proofs.Grammar.Sound.{place_of, told_place, Parsed, Viable}
 use Rattle.text.proofs.Grammar.Told.{item_at, item_told}
 use Rattle.text.proofs.Grammar.Within.{item_within}
 
@@ -219,7 +219,8 @@ module _ (L : Limits) (t : List ℕ) where
     item_spans depth b at n i =
         rw (item_law depth b none at n) at
         (spans_read at n (item_at L t depth b none at n)
-        (told_place (λ x. at ≤ x) _ _ (λ f to p. omega (arith, stands_to p.stands)) (λ q e l v. v.later) (item_at L t depth b none at n)
+        (told_place (λ x. at ≤ x) (Parsed L t (item b) depth (record { inside = 0; after = n; beside = none }) 0 0 at) (Viable L t (item b) at)
+        (λ f to p. omega (arith, stands_to p.stands)) (λ q e l v. v.later) (item_at L t depth b none at n)
         (item_told L t depth b (record { inside = 0; after = n; beside = none }) at i))
         (item_within L t depth b none at n i))
 

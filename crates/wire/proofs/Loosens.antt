@@ -1,25 +1,24 @@
 -- The measure is whole reading, 1, 4 and 7 aside: a text within the limit that reading doesn't refuse by 4 is measured as it is read (`measured`). Part by part
 -- the reader that compares no names answers the same, or the one that does has refused by 4 (`Loosens`). Assumes nothing.
-use mathlib.Core.Path.{◌≡◌, refl, sym, ap, ◌∙◌}
+use mathlib.Core.Path.{◌≡◌, sym, ◌∙◌}
 use mathlib.Core.Bool.{Bool, true, false, cond}
 use mathlib.Core.List.{List}
 use Prim.Native.Nat.{ℕ, zero, suc, ◌+◌, ◌-◌, ◌≤◌}
 use native.Mathlib.Nat.{le_refl}
-use native.Mathlib.Omega.{arith}
 use lib.ListN.{length}
-use lib.Dec.{ltb, leb, eqb}
+use lib.Dec.{leb, eqb}
 use borrow.Author.Tests.{le-ltb}
 use Rattle.text.specs.Limits.{Limits}
 use Rattle.text.specs.Text.{byte_at}
 use Rattle.text.specs.Strings.{string_end, name_of}
 use Rattle.text.specs.Tokens.{skip, kind_by}
 use Rattle.text.specs.Tree.{Bracket, square, curly, Forest, none, size, join}
-use Rattle.text.specs.Reader.{Read, good, bad, Reader, ItemReader, scalar_at, close_of, container, deep, value_with, after_item, items_from, inside_of, named, colon_at, member_with, member_of, value_at}
+use Rattle.text.specs.Reader.{Read, good, bad, Reader, ItemReader, scalar_at, close_of, container, value_with, after_item, items_from, inside_of, named, colon_at, member_with, member_of, value_at}
 use Rattle.text.specs.Whole.{end_of, read_of}
 use Rattle.text.specs.declared.Token.{Token}
 use Rattle.text.specs.declared.Token.TheVariants.{End, No2, No3}
-use Rattle.text.specs.declared.Refusal.TheVariants.{Grammar, Repeated, Many}
-use Rattle.wire.specs.Measure.{lenient, reading_of, measure}
+use Rattle.text.specs.declared.Refusal.TheVariants.{Repeated}
+use Rattle.wire.specs.Measure.{lenient}
 
 -- the second reader answers the same, or the first refused by 4
 data Loosens : Read → Read → Type 0 where

@@ -125,6 +125,7 @@ module _ (L : Limits) where
   refused_final i (over a) h g = over_final a h
 
   ended_final : (i : ℕ) (s : State) → Fits i s → Over s → Final (wired L) (kept s)
+  ended_final i (going at n opened spot) h x'' = elim x'' [ ]
   ended_final i (over a) h told = over_final a h
 
   empty : {p words : List ℕ} → After (wired L) p words → ((wired L).take words []).words ≡ words

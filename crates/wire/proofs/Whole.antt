@@ -263,4 +263,5 @@ at_end L p h = go (finish L (feeds L start p)) refl (ended L (length p) (feeds L
         ∙ resume_end M p refl (feeds L start p) sane ∙ ap (resume M p) (feed_lenient L p (feeds L start p) 256)
 
     go : (s : State) → finish L (feeds L start p) ≡ s → Over s → s ≡ over (measure L p)
+    go (going at n opened spot) e x'' = elim x'' [ ]
     go (over a) e told = ap over (sym (answer ∙ ap (resume M p) e))

@@ -3,7 +3,6 @@
 use Rattle.std.specs.Prelude.{ℕ, zero, suc, ◌+◌, ◌-◌, ◌*◌, ◌/◌, ◌%◌, cond, List, [], ◌∷◌, length, get_or, ltb, eqb}
 use Rattle.text.specs.Text.{bytes}
 use Rattle.text.specs.Tree.{Bracket, square, curly}
-use Rattle.text.specs.declared.Paper.{Paper}
 use Rattle.text.specs.Sheet.{paper}
 use Rattle.text.specs.declared.Refusal.TheVariants.{TooLong, Grammar, Character, Deep, Many}
 use Rattle.text.specs.declared.Reading.{Reading}

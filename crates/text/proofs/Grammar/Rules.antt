@@ -11,7 +11,6 @@ use native.Mathlib.Omega.{arith}
 use lib.ListN.{length, drop, length-drop}
 use Rattle.laws.specs.Lists.{part_of}
 use Rattle.laws.proofs.Branches.{if_equal}
-use Rattle.laws.proofs.Places.{inside}
 use Rattle.text.specs.Limits.{Limits}
 use Rattle.text.specs.Text.{byte_at}
 use Rattle.text.specs.Strings.{string_end}

@@ -19,7 +19,7 @@ use Rattle.text.specs.Text.{byte_at}
 use Rattle.text.specs.Strings.{string_end, name_of}
 use Rattle.text.specs.Spelling.{Spells}
 use Rattle.text.specs.Tokens.{skip, kind_by}
-use Rattle.text.specs.Tree.{Bracket, square, curly, Forest, none}
+use Rattle.text.specs.Tree.{Bracket, square, curly, Forest}
 use Rattle.text.specs.Reader.{Read, good, bad, Reader, ItemReader, scalar_with, scalar_at, deep, value_with, named, colon_at, member_with, member_of, value_at}
 use Rattle.text.specs.Abnf.{Star}
 use Rattle.text.specs.Grammar.{Ws, JsonString, Simple, simple_kind, IsSimple, value, item, Is, simple, empty, full, element, member, tree_of}
