@@ -72,10 +72,10 @@ pub returns-then-run-lt8 : goal.returns-then-run-lt8
 returns-then-run-lt8 c = on_2 c
 
 pub overflow_add-k : goal.overflow_add-k
-overflow_add-k c = omega (arith, (loop_again c).first)
+overflow_add-k c = omega (arith, (loop-k-preserved c).first)
 
 pub loop-k-smaller : goal.loop-k-smaller
-loop-k-smaller c = omega (arith, (loop_again c).first)
+loop-k-smaller c = omega (arith, (loop-k-preserved c).first)
 
 pub returns : goal.returns
 returns c = c.loop-k.invariant

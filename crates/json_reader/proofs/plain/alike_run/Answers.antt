@@ -63,7 +63,7 @@ pub stands-requires : goal.stands-requires
 stands-requires c = tt
 
 pub overflow_add-k : goal.overflow_add-k
-overflow_add-k c = omega (arith, (loop_again c).first)
+overflow_add-k c = omega (arith, (loop-own-preserved c).first)
 
 pub loop-own-smaller : goal.loop-own-smaller
-loop-own-smaller c = omega (arith, (loop_again c).first)
+loop-own-smaller c = omega (arith, (loop-own-preserved c).first)

@@ -32,10 +32,10 @@ bounds-out-p c =
     omega (arith, s.stops.second, s.above, s.even, s.long, c.loop-i-test.true, c.if-out-at.false)
 
 pub overflow_add-i : goal.overflow_add-i
-overflow_add-i c = omega (arith, shared_slice_read_out c)
+overflow_add-i c = omega (arith, bounds-text-i c)
 
 pub overflow_add-p : goal.overflow_add-p
-overflow_add-p c = omega (arith, slice_write_out c)
+overflow_add-p c = omega (arith, bounds-out-p c)
 
 pub loop-i-preserved : goal.loop-i-preserved
 loop-i-preserved c =
