@@ -3,6 +3,7 @@ use Prim.Native.Nat.{◌+◌, ◌*◌}
 use native.Mathlib.Decide.{dec_le}
 use native.Mathlib.Omega.{arith}
 use lib.ListN.{length}
+use borrow.Author.Rules.{rules}
 use Rattle.laws.proofs.Picks.{picks}
 use Rattle.text.specs.Limits.{row_words}
 use Rattle.json_reader.specs.Lookup.{row_after}
@@ -24,4 +25,13 @@ unfolding row_after
 returns c = rw (← c.below.ensures) (search picks)
 
 pub returns-then-at-eq-LAST : goal.returns-then-at-eq-LAST
+unfolding row_after
 returns-then-at-eq-LAST c = search picks
+
+pub overflow_add-result : goal.overflow_add-result
+unfolding row_after
+overflow_add-result c = search rules
+
+pub below-requires : goal.below-requires
+unfolding row_after
+below-requires c = search rules

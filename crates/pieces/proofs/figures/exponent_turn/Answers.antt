@@ -1,4 +1,5 @@
 -- `pieces::figures::exponent_turn` meets its contract: a sign, a digit, or the number is stuck. Assumes nothing.
+use borrow.Author.Rules.{rules}
 use Rattle.laws.proofs.Picks.{picks}
 use Rattle.wire.specs.Figures.{turn_of}
 use Rattle.wire.specs.Held.{figure_at}
@@ -10,7 +11,13 @@ unfolding turn_of figure_at
 returns c = rw (c.digit_or.ensures, turn_either) (search picks)
 
 pub returns-then-b-eq45 : goal.returns-then-b-eq45
+unfolding turn_of figure_at
 returns-then-b-eq45 c = search picks
 
 pub returns-then-b-eq43 : goal.returns-then-b-eq43
+unfolding turn_of figure_at
 returns-then-b-eq43 c = search picks
+
+pub digit_or-requires : goal.digit_or-requires
+unfolding turn_of figure_at
+digit_or-requires c = search rules
