@@ -6,7 +6,7 @@ use Rattle.std.specs.Prelude.{ℕ, suc, ◌≡◌, Bool, true, false, cond, leng
 use Prim.Native.String.{String}
 use mathlib.Core.List.{List, [], ◌∷◌, map, Memᴰ as In}
 use Rattle.std.proofs.Math.Option
-use Rattle.std.proofs.Math.Option.{Option, none, some, bind, Option·elim}
+use Rattle.std.proofs.Math.Option.{Option, none, some, bind, Option-elim}
 use Rattle.laws.specs.Order.{same}
 use Rattle.laws.specs.Each.{Each}
 use Rattle.text.specs.Text.{bytes}
@@ -163,8 +163,8 @@ choice h = bind (meaning object_words h.before) (λ usual. Option.map (by_type u
 -- a type without a note
 unfoldable pub plain_type : List ℕ → Option Ty
 plain_type t =
-    let whole = Option·elim (cut "|" t) (meaning type_words t) choice in
-    Option·elim (cut "[" t) whole bracketed
+    let whole = Option-elim (cut "|" t) (meaning type_words t) choice in
+    Option-elim (cut "[" t) whole bracketed
 
 -- a type with a note: the content of a String, or the bounds of an UnsignedInt
 unfoldable pub noted : (type note : List ℕ) → Option Ty
@@ -186,7 +186,7 @@ parsed s =
     bind (cut " (" n.after) (λ t.
     bind (until_mark ")" t.after) (λ inside.
     let plain = line n.before (plain_type t.before) inside in
-    Option·elim (cut "; " inside) plain (λ a. line n.before (noted t.before a.after) a.before))))
+    Option-elim (cut "; " inside) plain (λ a. line n.before (noted t.before a.after) a.before))))
 
 -- ---- the statement
 

@@ -30,7 +30,7 @@ data Inside (r : ℕ) (ty' : Ty) (u' : Under) (v : Doc) : Ty → Under → (row 
       → Inside r ty' u' v ty u row d
 
 -- one step further in
-deeper : {ty ty₁ ty₂ : Ty} {u u₁ u₂ : Under} {row r between : ℕ} {d v e : Doc} {k : Key}
+deeper : {r : ℕ} {ty₁ ty₂ : Ty} {u₁ u₂ : Under} {v e : Doc} {between : ℕ} {k : Key} {ty : Ty} {u : Under} {row : ℕ} {d : Doc}
     → Inside r ty₁ u₁ v ty u row d → Suits ty₁ (kind_of v) → Among [] (children_of v) between k e → Gives ty₁ k e ty₂ u₂
     → Inside (r + 1 + between) ty₂ u₂ e ty u row d
 deeper self s a g = down s a g self
@@ -40,7 +40,8 @@ at_inside : {whole v : Doc} {row : ℕ} {ty : Ty} {u : Under} → At whole row t
 at_inside root = self
 at_inside (inside a s b g) = deeper (at_inside a) s b g
 
-inside_at_lem : {whole d v : Doc} {row r : ℕ} {ty ty₁ : Ty} {u u₁ : Under} → Inside r ty₁ u₁ v ty u row d → At whole row ty u d → At whole r ty₁ u₁ v
+inside_at_lem : {whole v : Doc} {r : ℕ} {ty₁ : Ty} {u₁ : Under} {ty : Ty} {u : Under} {row : ℕ} {d : Doc}
+    → Inside r ty₁ u₁ v ty u row d → At whole row ty u d → At whole r ty₁ u₁ v
 inside_at_lem self a = a
 inside_at_lem (down s b g i) a = inside_at_lem i (inside a s b g)
 
@@ -58,7 +59,8 @@ among_rows first = omega arith
 among_rows (later a) = let h = among_rows a in omega arith
 
 -- the rows of a value are its own and those of the values below it
-inside_rows : {ty ty₁ : Ty} {u u₁ : Under} {row r : ℕ} {d v : Doc} → Inside r ty₁ u₁ v ty u row d → (row ≤ r) × (r < row + count_of d)
+inside_rows : {r : ℕ} {ty₁ : Ty} {u₁ : Under} {v : Doc} {ty : Ty} {u : Under} {row : ℕ} {d : Doc}
+    → Inside r ty₁ u₁ v ty u row d → (row ≤ r) × (r < row + count_of d)
 inside_rows {d = d} self = (omega arith, omega (arith, count_below d))
 inside_rows {d = d} (down s a g i) = let h = inside_rows i in (omega arith, omega (arith, count_below d, among_rows a))
 

@@ -81,7 +81,7 @@ module _ (t : List ℕ) (f : Forest) where
   rest_shown c (entries n e r) i = record { seat = _; values = _; says = r; in_f = λ d h x. i d h (Sits.node_on x); after = omega (arith, told_count e) }
   rest_shown c (members n e r) i = record { seat = _; values = _; says = r; in_f = λ d h x. i d h (Sits.node_on x); after = omega (arith, told_count e) }
 
-  among_shown : {g : Forest} {ms : Members} {passed : List Name} {k : Key} {v : Doc} {between : ℕ} (row : ℕ) (c : Seat) → c.after ≡ row → TellsAll t g ms → In c g
+  among_shown : {k : Key} {v : Doc} {passed : List Name} {ms : Members} {between : ℕ} {g : Forest} (row : ℕ) (c : Seat) → c.after ≡ row → TellsAll t g ms → In c g
       → Among passed ms between k v → Shown (row + between) v
   among_shown {v = v} row c a s i first = subst (λ (m : ℕ). Shown m v) (let e : c.after ≡ row + 0 = omega arith in e) (first_shown c s i)
   among_shown {v = v} row c a s i (later {e = e} {between = between} x) =

@@ -133,12 +133,14 @@ module _ (t : List ℕ) where
   past_name s q l = omega (arith, s.name.quoted.ordered, s.name.before, s.some)
 
   name_behind : {from to place : ℕ} {key : Name} {f : Forest} → Placed t curly f from to → NamedAt t key f place → from ≤ place
+  name_behind (Rattle.text.specs.Placed.nothing _) x = elim x [ ]
   name_behind (token s k p) (leaf_named e q) = omega (arith, s.name.after)
   name_behind (token s k p) (after_leaf x) = omega (arith, s.start, s.some, name_behind p x)
   name_behind (box s c i p) (node_named e q) = omega (arith, s.name.after)
   name_behind (box s c i p) (after_node x) = omega (arith, s.start, s.some, name_behind p x)
 
   one_name : {from to place : ℕ} {key other : Name} {f : Forest} → Placed t curly f from to → NamedAt t key f place → NamedAt t other f place → key ≡ other
+  one_name (Rattle.text.specs.Placed.nothing _) x _ = elim x [ ]
   one_name (token s k p) (leaf_named e q) (leaf_named e' q') = sym e ∙ e'
   one_name (token s k p) (leaf_named e q) (after_leaf y) = absurd (past_name s q (name_behind p y))
   one_name (token s k p) (after_leaf x) (leaf_named e q) = absurd (past_name s q (name_behind p x))

@@ -115,7 +115,7 @@ module _ (S : Scale) where
 
   -- ---- the order of members does not count
 
-  taken_sum : {o : MemberOrder} {n : Name} {t : List ℕ} {d : Doc} {ns rest : Members} → Taken n t d o ns rest → sum ns ≡ S.label t + weight d + sum rest
+  taken_sum : {n : Name} {t : List ℕ} {d : Doc} {o : MemberOrder} {ns rest : Members} → Taken n t d o ns rest → sum ns ≡ S.label t + weight d + sum rest
   taken_sum at_head = refl
   taken_sum (in_tail x) = omega (arith, taken_sum x)
 
