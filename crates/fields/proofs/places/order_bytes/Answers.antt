@@ -1,25 +1,52 @@
 -- `fields::places::order_bytes` meets its contract: bytes that both runs have decide nothing, and at the first difference they decide. Assumes nothing.
-use mathlib.Core.Path.{refl, sym, ◌∙◌}
+use mathlib.Core.Path.{◌≡◌, refl, sym, ◌∙◌}
 use Prim.Native.Nat.{◌<◌}
 use native.Mathlib.Omega.{arith}
 use lib.ListN.{length}
+use Rattle.laws.specs.Order.{order_of}
 use Rattle.laws.proofs.Places.{inside}
 use Rattle.text.specs.Text.{byte_at}
 use borrow.Author.Tests.{eq-eqb}
 use Rattle.json_reader.specs.Names.{order_at}
-use Rattle.fields.proofs.Runs.{run_more}
+use Rattle.fields.proofs.Runs.{run_more, run_told}
 use Rattle.fields.proofs.places.order_bytes.Goals as goal
+
+-- the bytes at a place decide, from where the second one was looked at
+told : (c : goal.After-order_at)
+    → let a = c.args in let l = c.loop-i in
+    (byte_at a.a.now l.i ≡ byte_at a.b.now l.i → byte_at a.a.now l.i ≡ 256)
+    → order_at c.peek-p.result c.peek-q.result ≡ order_of a.a.now a.b.now
+told c stops =
+    let a = c.args in
+    let l = c.loop-i in
+    let known = c in
+    rw (c.peek-p.ensures.value, c.peek-q.ensures.value)
+    (run_told a.a.now a.b.now l.i l.invariant (omega (arith, known.type_inv.a l.i)) (omega (arith, known.type_inv.b l.i))
+    (omega (arith, c.peek-p.ensures)) (omega (arith, c.peek-q.ensures)) stops)
 
 pub returns-then-p-q : goal.returns-then-p-q
 returns-then-p-q c =
     let k = c in
-    c.order_at.ensures ∙ told k (λ e. absurd (c.if-p-q.true (k.peek-p.ensures.value ∙ e ∙ sym k.peek-q.ensures.value)))
+    c.order_at.ensures ∙ told c (λ e. absurd (c.if-p-q.true (k.peek-p.ensures.value ∙ e ∙ sym k.peek-q.ensures.value)))
+
+-- the bytes at a place decide, from where the second one was looked at
+told_2 : (c : goal.Then-p-eq-OVER)
+    → let a = c.args in let l = c.loop-i in
+    (byte_at a.a.now l.i ≡ byte_at a.b.now l.i → byte_at a.a.now l.i ≡ 256)
+    → order_at c.peek-p.result c.peek-q.result ≡ order_of a.a.now a.b.now
+told_2 c stops =
+    let a = c.args in
+    let l = c.loop-i in
+    let known = c in
+    rw (c.peek-p.ensures.value, c.peek-q.ensures.value)
+    (run_told a.a.now a.b.now l.i l.invariant (omega (arith, known.type_inv.a l.i)) (omega (arith, known.type_inv.b l.i))
+    (omega (arith, c.peek-p.ensures)) (omega (arith, c.peek-q.ensures)) stops)
 
 pub returns-then-p-eq-OVER : goal.returns-then-p-eq-OVER
 unfolding order_at
 returns-then-p-eq-OVER c =
     let k = c in
-    rw (eq-eqb k.peek-p.result k.peek-q.result c.if-p-q.false) at (told k (λ e. sym k.peek-p.ensures.value ∙ c.if-p-eq-OVER.true))
+    rw (eq-eqb k.peek-p.result k.peek-q.result c.if-p-q.false) at (told_2 c (λ e. sym k.peek-p.ensures.value ∙ c.if-p-eq-OVER.true))
 
 -- where the byte is not the end, it stands in the first run
 byte : (c : goal.Else-p-eq-OVER) → let l = c in byte_at l.args.a.now l.loop-i.i < 256

@@ -3,9 +3,10 @@ use mathlib.Core.Path.{◌≡◌, ap, ◌∙◌}
 use mathlib.Core.List.{List}
 use Prim.Native.Nat.{ℕ, ◌+◌, ◌-◌}
 use native.Mathlib.Omega.{arith}
+use lib.ListN.{take}
 use lib.Seq.{length-take-le}
 use Rattle.laws.specs.Earliest.{first_repeat}
-use Rattle.fields.specs.Survey.{name_at, is_found}
+use Rattle.fields.specs.Survey.{name_at, is_found, member_places}
 use Rattle.fields.proofs.Members.{places_climb}
 use Rattle.fields.proofs.walk.repeats_in.Goals as goal
 
@@ -13,6 +14,12 @@ pub list_names-n-requires : goal.list_names-n-requires
 list_names-n-requires c =
     let p = c.requires in
     record { short = p.roomy.short; fits = p.roomy.store_fits; head = omega arith; inside = p.inside }
+
+-- what is lent to the search is the places
+lent : (c : goal.After-repeat_among-arg-2-1)
+    → let a = c.args in
+    take (c.list_names-n.result - 0) c.list_names-n.new.store ≡ member_places a.packed.now (a.at + 3) a.next
+lent c = let e : c.list_names-n.result - 0 ≡ c.list_names-n.result = omega arith in rw e c.list_names-n.ensures.are
 
 pub repeat_among-requires : goal.repeat_among-requires
 repeat_among-requires c =
@@ -22,16 +29,22 @@ repeat_among-requires c =
     let n = k.list_names-n.ensures in
     let e : k.list_names-n.result - 0 ≡ k.list_names-n.result = omega arith in
     record {
-      climbs = rw (lent k) (places_climb a.packed.now a.next (a.at + 3));
+      climbs = rw (lent c) (places_climb a.packed.now a.next (a.at + 3));
       fits = rw e (omega (arith, length-take-le k.list_names-n.result k.list_names-n.new.store n.inside, n.few, s.requires.inside, s.requires.roomy.scratch_fits));
     }
+
+-- what is lent to the search is the places
+lent_2 : (c : goal.After-slice_known-5-1)
+    → let a = c.args in
+    take (c.list_names-n.result - 0) c.list_names-n.new.store ≡ member_places a.packed.now (a.at + 3) a.next
+lent_2 c = let e : c.list_names-n.result - 0 ≡ c.list_names-n.result = omega arith in rw e c.list_names-n.ensures.are
 
 pub returns : goal.returns
 returns c =
     let k = c in
     let m = c in
     let a = m.args in
-    k.repeat_among.ensures ∙ ap (λ (l : List ℕ). is_found (first_repeat (name_at a.packed.now) l)) (lent m)
+    k.repeat_among.ensures ∙ ap (λ (l : List ℕ). is_found (first_repeat (name_at a.packed.now) l)) (lent_2 c)
 
 pub overflow_add-at : goal.overflow_add-at
 overflow_add-at c = let p = c.requires in omega (arith, p.ends, p.inside, p.roomy.short)

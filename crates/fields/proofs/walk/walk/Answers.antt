@@ -1,7 +1,9 @@
 -- `fields::walk::walk` meets its contract: what the walk says from a place on is what it says from the start on. Assumes nothing.
 use mathlib.Core.Path.{sym, ap, ◌∙◌}
-use Prim.Native.Nat.{ℕ, ◌+◌, ◌<◌}
+use Prim.Native.Nat.{ℕ, ◌+◌, ◌<◌, ◌≤◌}
 use native.Mathlib.Omega.{arith}
+use lib.ListN.{length}
+use Rattle.fields.specs.Survey.{next_at}
 use Rattle.fields.proofs.Turns.{onward_later, values_most, survey_end, survey_torn, survey_twice, walking_start, walking_on}
 use Rattle.fields.proofs.walk.walk.Goals as goal
 
@@ -22,10 +24,16 @@ repeats_at-requires c =
     let p = l.requires in
     let w = l.loop-at.invariant in
     record {
-      roomy = record { short = p.short; store_fits = rw w.store_long p.store_fits; scratch_fits = rw w.scratch-long p.scratch_fits };
+      roomy = record { short = p.short; store_fits = rw w.store_long p.store_fits; scratch_fits = rw w.scratch_long p.scratch_fits };
       ends = b.next_at-next.ensures.value;
       inside = b.if-packed-next.false;
     }
+
+-- a field that is not cut off ends inside
+whole : (c : goal.Then-repeats_at)
+    → let l = c in let a = l.args in
+    next_at a.packed.now l.loop-at.at ≤ length a.packed.now
+whole c = omega (arith, c.next_at-next.ensures.value, c.if-packed-next.false)
 
 pub returns-then-repeats_at : goal.returns-then-repeats_at
 returns-then-repeats_at c =
@@ -33,7 +41,7 @@ returns-then-repeats_at c =
     let b = c in
     let l = c in
     let a = l.args in
-    sym (survey_twice a.packed.now l.loop-at.at l.loop-at.n b.loop-at-test.true (whole b) (sym k.repeats_at.ensures ∙ c.if-repeats_at.true))
+    sym (survey_twice a.packed.now l.loop-at.at l.loop-at.n b.loop-at-test.true (whole c) (sym k.repeats_at.ensures ∙ c.if-repeats_at.true))
     ∙ l.loop-at.invariant.goes
 
 short : (c : goal.After-values_at-n) → c.loop-at.at < 65538
@@ -57,6 +65,12 @@ loop-at-smaller c =
     let a = l.args in
     omega (arith, b.loop-at-test.true, c.onward-at.ensures, onward_later a.packed.now l.loop-at.at)
 
+-- a field that is not cut off ends inside
+whole_2 : (c : goal.After-onward-at)
+    → let l = c in let a = l.args in
+    next_at a.packed.now l.loop-at.at ≤ length a.packed.now
+whole_2 c = omega (arith, c.next_at-next.ensures.value, c.if-packed-next.false)
+
 pub loop-at-preserved : goal.loop-at-preserved
 loop-at-preserved c =
     let b = c in
@@ -64,7 +78,7 @@ loop-at-preserved c =
     let t = c in
     let k = c in
     walking_on l.loop-at.invariant t.store-1.given t.scratch-1.given
-    b.loop-at-test.true (whole b) (sym k.repeats_at.ensures ∙ t.if-repeats_at.false) c.onward-at.result _ c.onward-at.ensures (ap (λ (v : ℕ). l.loop-at.n + v) c.values_at-n.ensures)
+    b.loop-at-test.true (whole_2 c) (sym k.repeats_at.ensures ∙ t.if-repeats_at.false) c.onward-at.result _ c.onward-at.ensures (ap (λ (v : ℕ). l.loop-at.n + v) c.values_at-n.ensures)
 
 pub returns : goal.returns
 returns c =

@@ -12,7 +12,7 @@ overflow_cast-result c = omega (arith, c.type_inv.text c.args.at)
 pub returns-then-at-text : goal.returns-then-at-text
 returns-then-at-text c =
     let a = c.args in
-    (any_default 0 256 a.text.now a.at (search rules), omega (arith, c.type_inv.text a.at))
+    record { value = any_default 0 256 a.text.now a.at (search rules); small = omega (arith, c.type_inv.text a.at) }
 
 pub returns-else-at-text : goal.returns-else-at-text
-returns-else-at-text c = (sym (get_or-eq_default c.args.text.now 256 c.if-at-text.false), search rules)
+returns-else-at-text c = record { value = sym (get_or-eq_default c.args.text.now 256 c.if-at-text.false); small = search rules }

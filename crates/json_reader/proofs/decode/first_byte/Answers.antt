@@ -7,16 +7,16 @@ use Rattle.json_reader.proofs.decode.first_byte.Goals as goal
 
 pub returns-then-code-lt128 : goal.returns-then-code-lt128
 unfolding utf8 conts first_of
-returns-then-code-lt128 c = ((λ t. search picks), search picks)
+returns-then-code-lt128 c = record { by_index = (λ t. search picks); is = search picks }
 
 pub returns-then-code-lt2048 : goal.returns-then-code-lt2048
 unfolding utf8 conts first_of
-returns-then-code-lt2048 c = ((λ t. search picks), search picks)
+returns-then-code-lt2048 c = record { by_index = (λ t. search picks); is = search picks }
 
 pub returns-then-code-lt65536 : goal.returns-then-code-lt65536
 unfolding utf8 conts first_of
-returns-then-code-lt65536 c = ((λ t. search picks), search picks)
+returns-then-code-lt65536 c = record { by_index = (λ t. search picks); is = search picks }
 
 pub returns : goal.returns
 unfolding utf8 conts first_of
-returns c = ((λ t. search picks), search picks)
+returns c = record { by_index = (λ t. search picks); is = search picks }

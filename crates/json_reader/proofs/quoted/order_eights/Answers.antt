@@ -34,6 +34,10 @@ ended-second-requires c = tt
 pub order_at-requires : goal.order_at-requires
 order_at-requires c = tt
 
+-- what the names have in common
+common : (c : goal.After-order_at) → let a = c.args in CommonFrom a.text.now a.a a.b c.alike_eights-k.result
+common c = common_plain _ _ _ _ c.alike_eights-k.ensures.alike
+
 -- the two bytes decide, if they are over where they are alike
 told : (c : goal.After-order_at) → let a = c.args in
     (c.ended-first.result ≡ c.ended-second.result → c.ended-first.result ≡ 256)
@@ -44,7 +48,7 @@ told c both =
     let k = c in
     let a = k.args in
     rw (c.ended-first.ensures, c.ended-second.ensures)
-    (quoted_told a.text.now a.a a.b k.alike_eights-k.result (common k) p.peek-p.ensures.value q.peek-q.ensures.value
+    (quoted_told a.text.now a.a a.b k.alike_eights-k.result (common c) p.peek-p.ensures.value q.peek-q.ensures.value
     q.if-p-ne-BACKSLASH.true c.if-q-ne-BACKSLASH.true (rw (c.ended-first.ensures, c.ended-second.ensures) at both))
 
 pub returns-then-first-second : goal.returns-then-first-second
@@ -54,8 +58,8 @@ pub order_along-requires : goal.order_along-requires
 order_along-requires c = tt
 
 -- what the names have in common
-common : (c : goal.After-order_along) → let a = c.args in CommonFrom a.text.now a.a a.b c.alike_eights-k.result
-common c = common_plain _ _ _ _ c.alike_eights-k.ensures.alike
+common_2 : (c : goal.After-order_along) → let a = c.args in CommonFrom a.text.now a.a a.b c.alike_eights-k.result
+common_2 c = common_plain _ _ _ _ c.alike_eights-k.ensures.alike
 
 pub returns : goal.returns
-returns c = c.order_along.ensures ∙ (common c).ordered
+returns c = c.order_along.ensures ∙ (common_2 c).ordered

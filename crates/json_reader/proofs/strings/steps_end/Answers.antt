@@ -41,23 +41,41 @@ done c x token e never k =
 pub returns-in-Close : goal.returns-in-Close
 returns-in-Close c = done c Close _ c.in-Close.is (λ code len e. let z : ◌≡◌ {A = ℕ} 0 1 = cc in omega arith) refl
 
-pub returns-then-len-eq1 : goal.returns-then-len-eq1
-returns-then-len-eq1 c =
-    let n = c in
-    let i = met n in
-    let k = chars_later n.loop-len.invariant in
-    (omega arith, (omega arith, behind n))
-
 -- the character that was met
-met : (c : goal.Else-len-eq1)
+met : (c : goal.Then-len-eq1)
     → let l = c in Inside l.args.text.now l.loop-len.at c.in-Char.len
 met c =
     let s = c in
     let l = c in
     char_inside l.args.text.now l.loop-len.at (sym s.step_at.ensures ∙ c.in-Char.is)
 
+-- and behind it
+behind : (c : goal.Then-len-eq1)
+    → let l = c in
+    let a = l.args in
+    Chars a.text.now a.from (l.loop-len.at + c.in-Char.len)
+behind c =
+    let s = c in
+    let l = c in
+    chars_join l.loop-len.invariant (more (sym s.step_at.ensures ∙ c.in-Char.is) stay)
+
+pub returns-then-len-eq1 : goal.returns-then-len-eq1
+returns-then-len-eq1 c =
+    let n = c in
+    let i = met c in
+    let k = chars_later n.loop-len.invariant in
+    (omega arith, (omega arith, behind c))
+
+-- the character that was met
+met_2 : (c : goal.Else-len-eq1)
+    → let l = c in Inside l.args.text.now l.loop-len.at c.in-Char.len
+met_2 c =
+    let s = c in
+    let l = c in
+    char_inside l.args.text.now l.loop-len.at (sym s.step_at.ensures ∙ c.in-Char.is)
+
 pub loop-len-smaller : goal.loop-len-smaller
-loop-len-smaller c = let i = met c in omega arith
+loop-len-smaller c = let i = met_2 c in omega arith
 
 -- what a step says of the whole string
 turn_2 : (c : goal.In-Bad2)
@@ -109,25 +127,25 @@ pub loop-len-init : goal.loop-len-init
 loop-len-init c = stay
 
 -- the character that was met
-met_2 : (c : goal.In-Char)
+met_3 : (c : goal.In-Char)
     → let l = c in Inside l.args.text.now l.loop-len.at c.in-Char.len
-met_2 c =
+met_3 c =
     let s = c in
     let l = c in
     char_inside l.args.text.now l.loop-len.at (sym s.step_at.ensures ∙ c.in-Char.is)
 
 pub overflow_add-at : goal.overflow_add-at
-overflow_add-at c = omega (arith, (met_2 c).before_end, (met_2 c).size.few)
+overflow_add-at c = omega (arith, (met_3 c).before_end, (met_3 c).size.few)
 
 -- and behind it
-behind : (c : goal.Else-len-eq1)
+behind_2 : (c : goal.Else-len-eq1)
     → let l = c in
     let a = l.args in
     Chars a.text.now a.from (l.loop-len.at + c.in-Char.len)
-behind c =
+behind_2 c =
     let s = c in
     let l = c in
     chars_join l.loop-len.invariant (more (sym s.step_at.ensures ∙ c.in-Char.is) stay)
 
 pub loop-len-preserved : goal.loop-len-preserved
-loop-len-preserved c = behind c
+loop-len-preserved c = behind_2 c

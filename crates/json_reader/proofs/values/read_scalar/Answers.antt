@@ -22,13 +22,21 @@ put_row-requires c =
     let p = c.requires in
     omega arith
 
+-- the place where a token has ended
+ended_2 : (c : goal.After-slice_known-in-End-1)
+    → Span c.args.text.now (c.args.at + 1) c.in-End.to
+ended_2 c =
+    token_span c.args.text.now c.args.kind
+    c.args.at c.in-End.to
+    c.requires.1 (sym c.token_end.ensures ∙ c.in-End.is)
+
 pub returns-in-End : goal.returns-in-End
 unfolding size rows_of
 returns-in-End c =
     let a = c.args in
     let e = c in
     let to = e.in-End.to in
-    let s = ended e in
+    let s = ended_2 c in
     let token = sym e.token_end.ensures ∙ e.in-End.is in
     record {
       trees = leaf a.kind a.ns a.ne a.at to none;

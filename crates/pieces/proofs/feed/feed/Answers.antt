@@ -31,7 +31,7 @@ pub returns-then-h-lt-LITERALS : goal.returns-then-h-lt-LITERALS
 returns-then-h-lt-LITERALS c = c.between.ensures
 
 pub in_string-requires : goal.in_string-requires
-in_string-requires c = (omega arith, c.requires)
+in_string-requires c = record { le_spot = omega arith; going = c.requires }
 
 pub returns : goal.returns
 returns c = c.in_string.ensures

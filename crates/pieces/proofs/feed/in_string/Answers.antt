@@ -1,14 +1,16 @@
 -- `pieces::feed::in_string` meets its contract: the quote closes a string between two characters, and else the byte does what it does inside one.
 -- Assumes nothing.
 use mathlib.Core.List.{List}
-use mathlib.Core.Path.{◌≡◌, sym, ap, ◌∙◌}
+use mathlib.Core.Path.{◌≡◌, sym, ap, subst, ◌∙◌}
 use Prim.Native.Nat.{ℕ, ◌+◌, ◌-◌, ◌≤◌}
 use native.Mathlib.Omega.{arith}
 use Rattle.text.specs.Tree.{Bracket}
-use Rattle.wire.specs.declared.Move.TheVariants.{Closed}
+use Rattle.wire.specs.declared.Inner.{Inner}
+use Rattle.wire.specs.declared.Move.TheVariants.{Still, Closed}
 use Rattle.wire.specs.Inners.{move_of}
 use Rattle.wire.specs.Machine.{going, on_move}
 use Rattle.wire.specs.Held.{opened_of, inner_at, spot_at}
+use Rattle.wire.proofs.Fits.{InnerFits, MoveFits, inner_fits, move_fits}
 use Rattle.pieces.specs.Turns.{first_of, behind_of}
 use Rattle.pieces.proofs.Steps.{strung, refused_way, character_way, moved_way, still_way, string_way, spot_plain, first_most, first_below, behind_plain}
 use Rattle.pieces.proofs.feed.in_string.Goals as goal
@@ -36,6 +38,21 @@ returns-then-h-first c =
     ∙ closed a.at h.values (opened_of h.depth h.opened) (first_of h.spot) h.from h.bits h.high
     ∙ sym (string_way a.at h a.b Closed s.requires.le_spot s.requires.going (rw (zero_th, quote)))
 
+-- what the byte does
+moves : (c : goal.After-inside) → let a = c.args in
+    c.step.result ≡ move_of a.at (inner_at (a.h.spot - first_of a.h.spot) a.h.from a.h.bits a.h.high) a.b
+moves c =
+    let i = c in
+    let f = c in
+    rw (← f.first_of-first.ensures, ← i.inner_at.ensures) c.step.ensures
+
+-- what stands inside fits its words
+fits : (c : goal.After-inside) (s : Inner) → c.step.result ≡ Still s → InnerFits s
+fits c s e =
+    let a = c.args in
+    let i : Inner = inner_at (a.h.spot - first_of a.h.spot) a.h.from a.h.bits a.h.high in
+    subst MoveFits (sym (moves c) ∙ e) (move_fits a.at i a.b (inner_fits (a.h.spot - first_of a.h.spot) a.h.from a.h.bits a.h.high))
+
 pub returns-in-Still : goal.returns-in-Still
 unfolding on_move
 returns-in-Still c =
@@ -45,8 +62,16 @@ returns-in-Still c =
     let a = s.args in
     let h = a.h in
     let still = c.in-Still.is in
-    still_way a.at h a.b _ c.inside.result (fits t _ still) (rw f.first_of-first.ensures at c.inside.ensures)
-    ∙ sym (string_way a.at h a.b _ s.requires.le_spot s.requires.going (sym still ∙ moves t))
+    still_way a.at h a.b _ c.inside.result (fits c _ still) (rw f.first_of-first.ensures at c.inside.ensures)
+    ∙ sym (string_way a.at h a.b _ s.requires.le_spot s.requires.going (sym still ∙ moves c))
+
+-- what the byte does
+moves_2 : (c : goal.After-moved-in-Closed) → let a = c.args in
+    c.step.result ≡ move_of a.at (inner_at (a.h.spot - first_of a.h.spot) a.h.from a.h.bits a.h.high) a.b
+moves_2 c =
+    let i = c in
+    let f = c in
+    rw (← f.first_of-first.ensures, ← i.inner_at.ensures) c.step.ensures
 
 pub returns-in-Closed : goal.returns-in-Closed
 returns-in-Closed c =
@@ -60,7 +85,15 @@ returns-in-Closed c =
     let small = behind_plain (first_of h.spot) in
     moved_way a.at h a.b (behind_of (first_of h.spot)) c.moved-in-Closed.result (omega arith) (rw start at c.moved-in-Closed.ensures)
     ∙ closed a.at h.values (opened_of h.depth h.opened) (first_of h.spot) h.from h.bits h.high
-    ∙ sym (string_way a.at h a.b Closed s.requires.le_spot s.requires.going (sym b.in-Closed.is ∙ moves t))
+    ∙ sym (string_way a.at h a.b Closed s.requires.le_spot s.requires.going (sym b.in-Closed.is ∙ moves_2 c))
+
+-- what the byte does
+moves_3 : (c : goal.After-told) → let a = c.args in
+    c.step.result ≡ move_of a.at (inner_at (a.h.spot - first_of a.h.spot) a.h.from a.h.bits a.h.high) a.b
+moves_3 c =
+    let i = c in
+    let f = c in
+    rw (← f.first_of-first.ensures, ← i.inner_at.ensures) c.step.ensures
 
 pub returns-in-Wrong2 : goal.returns-in-Wrong2
 unfolding on_move
@@ -69,7 +102,15 @@ returns-in-Wrong2 c =
     let s = c in
     let a = s.args in
     refused_way a.at a.h a.b _ c.told.result c.told.ensures
-    ∙ sym (string_way a.at a.h a.b _ s.requires.le_spot s.requires.going (sym c.in-Wrong2.is ∙ moves t))
+    ∙ sym (string_way a.at a.h a.b _ s.requires.le_spot s.requires.going (sym c.in-Wrong2.is ∙ moves_3 c))
+
+-- what the byte does
+moves_4 : (c : goal.After-told-in-Wrong3) → let a = c.args in
+    c.step.result ≡ move_of a.at (inner_at (a.h.spot - first_of a.h.spot) a.h.from a.h.bits a.h.high) a.b
+moves_4 c =
+    let i = c in
+    let f = c in
+    rw (← f.first_of-first.ensures, ← i.inner_at.ensures) c.step.ensures
 
 pub returns-in-Wrong3 : goal.returns-in-Wrong3
 unfolding on_move
@@ -78,7 +119,7 @@ returns-in-Wrong3 c =
     let s = c in
     let a = s.args in
     character_way a.at a.h a.b _ c.told-in-Wrong3.result c.told-in-Wrong3.ensures
-    ∙ sym (string_way a.at a.h a.b _ s.requires.le_spot s.requires.going (sym c.in-Wrong3.is ∙ moves t))
+    ∙ sym (string_way a.at a.h a.b _ s.requires.le_spot s.requires.going (sym c.in-Wrong3.is ∙ moves_4 c))
 
 -- the numbers of its places begin at or below its own
 below : (c : goal.After-struct_known-2-1) → (c.first_of-first.result ≤ c.args.h.spot) × (c.first_of-first.result ≤ 38)

@@ -20,7 +20,7 @@ unfolding feeds
 returns c = c.tidy-2.ensures ∙ ap held_of c.feed_all.ensures
 
 pub feed_all-requires : goal.feed_all-requires
-feed_all-requires c = let u = c.if-held-ge-OVER.false in (omega arith, (omega arith, omega arith))
+feed_all-requires c = let u = c.if-held-ge-OVER.false in record { text_len_bound = omega arith; going = omega arith; once = omega arith }
 
 pub slice_bounds-feed_all-end : goal.slice_bounds-feed_all-end
 slice_bounds-feed_all-end c = refl

@@ -8,6 +8,13 @@ use Rattle.pieces.specs.Passing.{Leads}
 use Rattle.pieces.proofs.Stretches.{lead_none, lead_on, lead_turn, turn_inside}
 use Rattle.pieces.proofs.runs.number_run.Goals as goal
 
+-- up to the byte that was looked at
+upto : (c : goal.Else-next-ge-TEXTS)
+    → let l = c in
+    let a = l.args in
+    Leads a.start a.text.now a.from l.loop-start.spot c.digits_from-to.result
+upto c = lead_on c.loop-start.invariant.0 c.digits_from-to.ensures
+
 -- the byte that continues the number
 on : (c : goal.Else-next-ge-TEXTS) → 14 ≤ c.turn-next.result → c.turn-next.result < 22
     → let d = c in
@@ -20,7 +27,7 @@ on c low high =
     let t = l.args.text.now in
     let e = rw p.peek.ensures.value at c.turn-next.ensures in
     let i = turn_inside c.turn-next.result (l.loop-start.spot - 14) t d.digits_from-to.result d.digits_from-to.ensures.inside low high e in
-    (i, lead_on (upto d) (lead_turn l.loop-start.spot c.turn-next.result t d.digits_from-to.result i l.loop-start.invariant.1 l.loop-start.invariant.2 low high e))
+    (i, lead_on (upto c) (lead_turn l.loop-start.spot c.turn-next.result t d.digits_from-to.result i l.loop-start.invariant.1 l.loop-start.invariant.2 low high e))
 
 pub overflow_add-at : goal.overflow_add-at
 overflow_add-at c =
@@ -46,27 +53,27 @@ loop-start-init c =
     (lead_none s.args.start s.args.text.now s.args.from s.requires.from_in_bounds (omega (arith, s.requires.going)), s.requires.number, s.requires.going)
 
 pub digits_from-to-requires : goal.digits_from-to-requires
-digits_from-to-requires c = (c.loop-start.invariant.0.inside, (c.loop-start.invariant.1, c.loop-start.invariant.2))
+digits_from-to-requires c = record { from_in_bounds = c.loop-start.invariant.0.inside; number = c.loop-start.invariant.1; going = c.loop-start.invariant.2 }
 
 pub overflow_sub-spot : goal.overflow_sub-spot
 overflow_sub-spot c = omega (arith, c.loop-start.invariant.1)
 
 -- up to the byte that was looked at
-upto : (c : goal.Then-next-lt-NUMBERS)
-    → let l = c in
-    let a = l.args in
-    Leads a.start a.text.now a.from l.loop-start.spot c.digits_from-to.result
-upto c = lead_on c.loop-start.invariant.0 c.digits_from-to.ensures
-
-pub returns-then-next-lt-NUMBERS : goal.returns-then-next-lt-NUMBERS
-returns-then-next-lt-NUMBERS c = upto c
-
--- up to the byte that was looked at
-upto_2 : (c : goal.Then-next-ge-TEXTS)
+upto_2 : (c : goal.Then-next-lt-NUMBERS)
     → let l = c in
     let a = l.args in
     Leads a.start a.text.now a.from l.loop-start.spot c.digits_from-to.result
 upto_2 c = lead_on c.loop-start.invariant.0 c.digits_from-to.ensures
 
+pub returns-then-next-lt-NUMBERS : goal.returns-then-next-lt-NUMBERS
+returns-then-next-lt-NUMBERS c = upto_2 c
+
+-- up to the byte that was looked at
+upto_3 : (c : goal.Then-next-ge-TEXTS)
+    → let l = c in
+    let a = l.args in
+    Leads a.start a.text.now a.from l.loop-start.spot c.digits_from-to.result
+upto_3 c = lead_on c.loop-start.invariant.0 c.digits_from-to.ensures
+
 pub returns-then-next-ge-TEXTS : goal.returns-then-next-ge-TEXTS
-returns-then-next-ge-TEXTS c = upto_2 c
+returns-then-next-ge-TEXTS c = upto_3 c

@@ -32,7 +32,7 @@ returns c =
     lead_none s.args.spot s.args.text.now s.args.from s.requires.from_in_bounds s.requires.going
 
 pub number_run-requires : goal.number_run-requires
-number_run-requires c = (c.requires.from_in_bounds, (omega arith, c.if-spot-lt-TEXTS.true))
+number_run-requires c = record { from_in_bounds = c.requires.from_in_bounds; number = omega arith; going = c.if-spot-lt-TEXTS.true }
 
 pub returns-then-spot-lt-TEXTS : goal.returns-then-spot-lt-TEXTS
 returns-then-spot-lt-TEXTS c = c.number_run.ensures

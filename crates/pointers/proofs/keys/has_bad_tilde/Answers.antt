@@ -33,6 +33,10 @@ returns-then-not-zero_or_one c =
     let n = c in
     rw (← n.loop-b.invariant, ← (passed_2 c).follows, ← n.next_byte.ensures.result_value, b.in-Byte.is, c.if-b-eq126.true, ← c.zero_or_one.ensures, c.if-not-zero_or_one.true)
 
+-- no bad `~` stands in what is passed
+passed_3 : (c : goal.Else-not-zero_or_one) → AsTilded c.args.key.now c.loop-b.c c.past_written.result
+passed_3 c = as_tilded_past _ _ c.past_written.ensures
+
 -- where a byte was read, less is left than the turn began with
 less : (c : goal.Else-not-zero_or_one)
     → let l = c in
@@ -44,21 +48,21 @@ less c =
     omega (
       arith,
       ap length (byte_left k.args.key.now k.past_written.result n.next_byte.ensures.result_value c.in-Byte.is),
-      (passed k).fewer,
+      (passed_3 c).fewer,
     )
 
 pub loop-b-smaller-else-not-zero_or_one : goal.loop-b-smaller-else-not-zero_or_one
 loop-b-smaller-else-not-zero_or_one c = less c
-
--- no bad `~` stands in what is passed
-passed_3 : (c : goal.Else-not-zero_or_one) → AsTilded c.args.key.now c.loop-b.c c.past_written.result
-passed_3 c = as_tilded_past _ _ c.past_written.ensures
 
 pub loop-b-preserved-else-not-zero_or_one : goal.loop-b-preserved-else-not-zero_or_one
 loop-b-preserved-else-not-zero_or_one c =
     let b = c in
     let n = c in
     rw (← n.loop-b.invariant, ← (passed_3 c).follows, ← n.next_byte.ensures.result_value, b.in-Byte.is, c.if-b-eq126.true, ← c.zero_or_one.ensures, c.if-not-zero_or_one.false)
+
+-- no bad `~` stands in what is passed
+passed_4 : (c : goal.Else-b-eq126) → AsTilded c.args.key.now c.loop-b.c c.past_written.result
+passed_4 c = as_tilded_past _ _ c.past_written.ensures
 
 -- where a byte was read, less is left than the turn began with
 less_2 : (c : goal.Else-b-eq126)
@@ -71,15 +75,11 @@ less_2 c =
     omega (
       arith,
       ap length (byte_left k.args.key.now k.past_written.result n.next_byte.ensures.result_value c.in-Byte.is),
-      (passed k).fewer,
+      (passed_4 c).fewer,
     )
 
 pub loop-b-smaller : goal.loop-b-smaller
 loop-b-smaller c = less_2 c
-
--- no bad `~` stands in what is passed
-passed_4 : (c : goal.Else-b-eq126) → AsTilded c.args.key.now c.loop-b.c c.past_written.result
-passed_4 c = as_tilded_past _ _ c.past_written.ensures
 
 pub loop-b-preserved : goal.loop-b-preserved
 loop-b-preserved c =

@@ -22,10 +22,7 @@ returns-in-Over c =
     let next_byte = c.next_byte in
     let run = passed c in
     let loop = c.loop-b in
-    let over = c.in-Over.is in (
-      ends _ (rw (← loop.invariant.0, ← run.follows, ← next_byte.ensures.result_value, over)),
-      loop.invariant.1 _ (run.leads _ (at_end (sym next_byte.ensures.is ∙ over))),
-    )
+    let over = c.in-Over.is in record { goes = ends _ (rw (← loop.invariant.0, ← run.follows, ← next_byte.ensures.result_value, over)); is = loop.invariant.1 _ (run.leads _ (at_end (sym next_byte.ensures.is ∙ over))) }
 
 -- what is passed stays in the part
 passed_2 : (c : goal.Then-b-eq47) → Later c.args.key.now c.loop-b.c c.past_written.result
@@ -36,10 +33,7 @@ returns-then-b-eq47 c =
     let next_byte = c.next_byte in
     let run = passed_2 c in
     let loop = c.loop-b in
-    let b = c.b-1 in (
-      goes _ _ (rw (← loop.invariant.0, ← run.follows, ← next_byte.ensures.result_value, c.in-Byte.is, c.if-b-eq47.true)),
-      loop.invariant.1 _ (run.leads _ (at_slash (sym next_byte.ensures.is ∙ c.in-Byte.is ∙ ap (λ n. Byte n c.in-Byte.on) c.if-b-eq47.true))),
-    )
+    let b = c.b-1 in record { goes = goes _ _ (rw (← loop.invariant.0, ← run.follows, ← next_byte.ensures.result_value, c.in-Byte.is, c.if-b-eq47.true)); is = loop.invariant.1 _ (run.leads _ (at_slash (sym next_byte.ensures.is ∙ c.in-Byte.is ∙ ap (λ n. Byte n c.in-Byte.on) c.if-b-eq47.true))) }
 
 -- what is passed stays in the part
 passed_3 : (c : goal.Else-b-eq47) → Later c.args.key.now c.loop-b.c c.past_written.result

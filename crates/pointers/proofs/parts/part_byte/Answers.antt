@@ -11,24 +11,21 @@ unfolding part_by
 returns-in_default c =
     let next_byte = c.next_byte in
     let told = c.in_default.is in
-    (rw (← next_byte.ensures.result_value, told), rw (← next_byte.ensures.is, told))
+    record { result_value = rw (← next_byte.ensures.result_value, told); is = rw (← next_byte.ensures.is, told) }
 
 pub returns-then-b-eq47 : goal.returns-then-b-eq47
 unfolding part_by
 returns-then-b-eq47 c =
     let next_byte = c.next_byte in
     let b = c.in-Byte.is in
-    (rw (← next_byte.ensures.result_value, b, c.if-b-eq47.true), rw (← next_byte.ensures.is, b, c.if-b-eq47.true))
+    record { result_value = rw (← next_byte.ensures.result_value, b, c.if-b-eq47.true); is = rw (← next_byte.ensures.is, b, c.if-b-eq47.true) }
 
 pub returns-then-b-eq126 : goal.returns-then-b-eq126
 unfolding part_by
 returns-then-b-eq126 c =
     let next_byte = c.next_byte in
     let b = c.b-1 in
-    let tilde = c.if-b-eq126.true in (
-      rw (← next_byte.ensures.result_value, c.in-Byte.is, tilde) (c.tilde_byte.ensures.result_value ∙ sym (part_tilde _)),
-      rw (← next_byte.ensures.is, c.in-Byte.is, tilde) c.tilde_byte.ensures.is,
-    )
+    let tilde = c.if-b-eq126.true in record { result_value = rw (← next_byte.ensures.result_value, c.in-Byte.is, tilde) (c.tilde_byte.ensures.result_value ∙ sym (part_tilde _)); is = rw (← next_byte.ensures.is, c.in-Byte.is, tilde) c.tilde_byte.ensures.is }
 
 pub returns : goal.returns
 unfolding part_by
@@ -37,7 +34,4 @@ returns c =
     let next_byte = c.next_byte in
     let b = c.b-1 in
     let slash = c.if-b-eq47.false in
-    let tilde = c.if-b-eq126.false in (
-      rw (← next_byte.ensures.result_value, c.in-Byte.is) (sym (part_plain _ (rest a.key.now c.in-Byte.on) slash tilde)),
-      rw (← next_byte.ensures.is, c.in-Byte.is, ne_eqb _ 47 slash, ne_eqb _ 126 tilde),
-    )
+    let tilde = c.if-b-eq126.false in record { result_value = rw (← next_byte.ensures.result_value, c.in-Byte.is) (sym (part_plain _ (rest a.key.now c.in-Byte.on) slash tilde)); is = rw (← next_byte.ensures.is, c.in-Byte.is, ne_eqb _ 47 slash, ne_eqb _ 126 tilde) }

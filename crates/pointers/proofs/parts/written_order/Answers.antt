@@ -45,6 +45,13 @@ returns-then-y-eq-CODED c =
     c.decoded_order-then-y-eq-CODED.ensures
     ∙ rw (c.cursor_at-then-y-eq-CODED.ensures, c.cursor_at-then-y-eq-CODED-2.ensures) (passed_2 c)
 
+-- behind what they have in common the order is still that from the start
+passed_3 : (c : goal.After-order_at)
+    → let a = c.args in
+    order_of (left_at a.part a.key.now (c.loop-p.i + c.alike_from-run.result)) (left_at a.is-part a.name.now (c.loop-p.j + c.alike_from-run.result))
+    ≡ order_of (left_at a.part a.key.now a.from) (left_at a.is-part a.name.now a.name-from)
+passed_3 c = let a = c.args in c.alike_from-run.ensures.ordered a.part a.is-part ∙ c.loop-p.invariant.0
+
 pub returns-then-x-y : goal.returns-then-x-y
 returns-then-x-y c =
     let q = c in
@@ -56,7 +63,14 @@ returns-then-x-y c =
     ∙ shown_order a.key.now a.name.now a.part a.is-part (l.loop-p.i + k.alike_from-run.result) (l.loop-p.j + k.alike_from-run.result)
     p.glyph_at-p.result q.glyph_at-q.result p.glyph_at-p.ensures q.glyph_at-q.ensures c.if-x-eq-CODED.false
     c.if-y-eq-CODED.false c.if-x-y.true
-    ∙ passed k
+    ∙ passed_3 c
+
+-- behind what they have in common the order is still that from the start
+passed_4 : (c : goal.Then-x-eq-OVER)
+    → let a = c.args in
+    order_of (left_at a.part a.key.now (c.loop-p.i + c.alike_from-run.result)) (left_at a.is-part a.name.now (c.loop-p.j + c.alike_from-run.result))
+    ≡ order_of (left_at a.part a.key.now a.from) (left_at a.is-part a.name.now a.name-from)
+passed_4 c = let a = c.args in c.alike_from-run.ensures.ordered a.part a.is-part ∙ c.loop-p.invariant.0
 
 pub returns-then-x-eq-OVER : goal.returns-then-x-eq-OVER
 returns-then-x-eq-OVER c =
@@ -67,7 +81,7 @@ returns-then-x-eq-OVER c =
     let a = l.args in
     shown_ends a.key.now a.name.now a.part a.is-part (l.loop-p.i + k.alike_from-run.result) (l.loop-p.j + k.alike_from-run.result)
     p.glyph_at-p.result q.glyph_at-q.result p.glyph_at-p.ensures q.glyph_at-q.ensures c.if-x-y.false c.if-x-eq-OVER.true
-    ∙ passed k
+    ∙ passed_4 c
 
 -- a byte is shown, and not the end
 byte : (c : goal.After-struct_known-1) → c.glyph_at-p.result.value < 256
@@ -83,17 +97,41 @@ within_key c = c.glyph_at-p.ensures.within (byte c)
 pub overflow_add-i-in-loop-p : goal.overflow_add-i-in-loop-p
 overflow_add-i-in-loop-p c = omega (arith, within_key c)
 
+-- a byte is shown, and not the end
+byte_2 : (c : goal.After-struct_known-in-loop-p-1) → c.glyph_at-p.result.value < 256
+byte_2 c = omega (arith, c.glyph_at-p.ensures.most)
+
+within_name : (c : goal.After-struct_known-in-loop-p-1)
+    → let q = c in
+    let k = c in
+    k.loop-p.j + k.alike_from-run.result + q.glyph_at-q.result.len ≤ length k.args.name.now
+within_name c = c.glyph_at-q.ensures.within (omega (arith, byte_2 c, c.if-x-y.false))
+
 pub overflow_add-j-in-loop-p : goal.overflow_add-j-in-loop-p
 overflow_add-j-in-loop-p c =
     let e = c in
-    omega (arith, within_name e, e.well_formed.1.1.1.1.0.0)
+    omega (arith, within_name c, e.well_formed.1.1.1.1.0.0)
 
 pub loop-p-smaller : goal.loop-p-smaller
 loop-p-smaller c =
     let e = c in
     let p = c in
     let k = c in
-    omega (arith, ap length (p.glyph_at-p.ensures.byte (byte e)), k.alike_from-run.ensures.fewer k.args.part)
+    omega (arith, ap length (p.glyph_at-p.ensures.byte (byte_2 c)), k.alike_from-run.ensures.fewer k.args.part)
+
+-- behind what they have in common the order is still that from the start
+passed_5 : (c : goal.After-struct_known-in-loop-p-1)
+    → let a = c.args in
+    order_of (left_at a.part a.key.now (c.loop-p.i + c.alike_from-run.result)) (left_at a.is-part a.name.now (c.loop-p.j + c.alike_from-run.result))
+    ≡ order_of (left_at a.part a.key.now a.from) (left_at a.is-part a.name.now a.name-from)
+passed_5 c = let a = c.args in c.alike_from-run.ensures.ordered a.part a.is-part ∙ c.loop-p.invariant.0
+
+-- the glyphs stand in their bytes
+within_key_2 : (c : goal.After-struct_known-in-loop-p-1)
+    → let p = c in
+    let k = c in
+    k.loop-p.i + k.alike_from-run.result + p.glyph_at-p.result.len ≤ length k.args.key.now
+within_key_2 c = c.glyph_at-p.ensures.within (byte_2 c)
 
 pub loop-p-preserved : goal.loop-p-preserved
 loop-p-preserved c =
@@ -104,10 +142,10 @@ loop-p-preserved c =
     let l = c in
     let a = l.args in (
       shown_on a.key.now a.name.now a.part a.is-part (l.loop-p.i + k.alike_from-run.result) (l.loop-p.j + k.alike_from-run.result)
-          p.glyph_at-p.result q.glyph_at-q.result p.glyph_at-p.ensures q.glyph_at-q.ensures e.if-x-y.false (byte e)
-          ∙ passed k,
-      omega (arith, within_key e),
-      omega (arith, within_name e),
+          p.glyph_at-p.result q.glyph_at-q.result p.glyph_at-p.ensures q.glyph_at-q.ensures e.if-x-y.false (byte_2 c)
+          ∙ passed_5 c,
+      omega (arith, within_key_2 c),
+      omega (arith, within_name c),
     )
 
 pub loop-p-init : goal.loop-p-init
