@@ -13,23 +13,6 @@ holds p = record { yes = λ e. p; no = λ e. absurd (true≢false e) }
 fails : {A : Type 0} → (A → ⊥) → Told A false
 fails f = record { yes = λ e. absurd (true≢false (sym e)); no = λ e. f }
 
-pub returns-then-not-own : goal.returns-then-not-own
-returns-then-not-own c =
-    rw (denied c.args.own c.if-not-own.true)
-    (holds (record { printable = omega arith; ascii = omega arith; no_quote = c.if-b-eq-QUOTE.false; no_slash = c.if-b-eq-BACKSLASH.false }))
-
-pub returns : goal.returns
-returns c =
-    let s = c in
-    let plain : Plain s.args.b = record {
-      printable = omega arith;
-      ascii = omega arith;
-      no_quote = s.if-b-eq-QUOTE.false;
-      no_slash = s.if-b-eq-BACKSLASH.false;
-    } in
-    rw (granted s.args.own s.if-not-own.false)
-    (holds (record { plain = plain; no_part = c.if-b-eq-SLASH.false; no_tilde = c.if-b-eq-TILDE.false }))
-
 pub returns-then-b-lt-SPACE : goal.returns-then-b-lt-SPACE
 returns-then-b-lt-SPACE c = fails (λ p. omega (arith, (class_plain c.args.own p).printable))
 
@@ -41,9 +24,3 @@ returns-then-b-eq-QUOTE c = fails (λ p. (class_plain c.args.own p).no_quote c.i
 
 pub returns-then-b-eq-BACKSLASH : goal.returns-then-b-eq-BACKSLASH
 returns-then-b-eq-BACKSLASH c = fails (λ p. (class_plain c.args.own p).no_slash c.if-b-eq-BACKSLASH.true)
-
-pub returns-then-b-eq-SLASH : goal.returns-then-b-eq-SLASH
-returns-then-b-eq-SLASH c = rw (granted c.args.own c.if-not-own.false) (fails (λ p. p.no_part c.if-b-eq-SLASH.true))
-
-pub returns-then-b-eq-TILDE : goal.returns-then-b-eq-TILDE
-returns-then-b-eq-TILDE c = rw (granted c.args.own c.if-not-own.false) (fails (λ p. p.no_tilde c.if-b-eq-TILDE.true))

@@ -9,9 +9,3 @@ keep_rows-requires c =
     let a = c.args in
     let read = c.read_sized-read in
     counted (read_of base a.text.now) a.table.now read.new.table read.result read.ensures
-
-pub returns : goal.returns
-returns c =
-    let a = c.args in
-    let read = c.read_sized-read in
-    c.keep_rows.ensures base a.text.now a.table.now read.auto.1.0 read.ensures

@@ -38,13 +38,6 @@ returns-then-end-text c =
     let g = gone c in
     text_more (limits_in a.names.now) a.text.now s.requires.1 g.trees v.in-Next.to c.skip-end.result g.is c.skip-end.ensures c.if-end-text.true
 
-pub returns-in-Stop : goal.returns-in-Stop
-returns-in-Stop c =
-    let s = c in
-    let a = s.args in
-    let g = c.v-1.given in
-    text_stop (limits_in a.names.now) a.text.now s.requires.1 c.in-Stop.r (rw (c.in-Stop.is, c.skip-from.ensures) at c.read_value-v.ensures.0)
-
 -- where a value was read, what its reader ensures says so
 gone_2 : (c : goal.Else-end-text)
     → let a = c.args in
@@ -67,3 +60,10 @@ returns-else-end-text c =
       },
       g.few,
     )
+
+pub returns-in-Stop : goal.returns-in-Stop
+returns-in-Stop c =
+    let s = c in
+    let a = s.args in
+    let g = c.v-1.given in
+    text_stop (limits_in a.names.now) a.text.now s.requires.1 c.in-Stop.r (rw (c.in-Stop.is, c.skip-from.ensures) at c.read_value-v.ensures.0)

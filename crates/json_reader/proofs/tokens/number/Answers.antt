@@ -40,14 +40,6 @@ returns-in_default c =
     rw (← c.minus_end.ensures, ← c.int-whole.ensures, ← s)
     (first_stopped c (exp_at c.args.text.now))
 
-pub returns-then-not-more_at : goal.returns-then-not-more_at
-unfolding number_at
-returns-then-not-more_at c =
-    let t = c.args.text.now in
-    let w = c.whole-1 in
-    rw (← c.minus_end.ensures, ← c.int-whole.ensures, c.in-End.is)
-    (sym (no_more t c.in-End.point (sym c.more_at.ensures ∙ not-true c.more_at.result c.if-not-more_at.true)))
-
 then_stopped : (c : goal.In_default-fraction) (f : ℕ → Token) → c.frac-fraction.result ≡ then_at f c.frac-fraction.result
 then_stopped c f = go c.frac-fraction.result refl
   where

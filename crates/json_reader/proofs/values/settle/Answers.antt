@@ -52,21 +52,6 @@ told : (c : goal.Then-place-eq-NONE)
     → let a = c.args in c.first_repeat-place.result ≡ place_number (first_repeat (tail_at a.text.now 1) (slice a.top a.items.end a.names.now))
 told c = let a = c.args in c.first_repeat-place.ensures ∙ ap (λ (l : List ℕ). place_number (first_repeat (tail_at a.text.now 1) l)) (lent_2 c)
 
-pub returns-then-place-eq-NONE : goal.returns-then-place-eq-NONE
-returns-then-place-eq-NONE c =
-    let s = c in
-    let a = s.args in
-    let k = c.first_repeat-place in
-    let l = a.names.now in
-    let r = s.requires.run in
-    record {
-      is =
-          none_found (first_repeat (tail_at a.text.now 1) (slice a.top a.items.end l)) k.result a.items.read (told c)
-          (λ x q. found_less (tail_at a.text.now 1) l a.top a.items.end r.1 4294967296 x r.0 s.requires.climbs (λ i. omega (arith, c.type_inv.names i)) q)
-          c.if-place-eq-NONE.true;
-      under = part_under a.top (a.items.end - a.top) l k.new.names (omega arith);
-    }
-
 -- what is lent to the search is the names from `top` on
 lent_3 : (c : goal.Else-place-eq-NONE)
     → let a = c.args in mid_of a.top (a.items.end - a.top) a.names.now ≡ slice a.top a.items.end a.names.now

@@ -4,7 +4,7 @@ use Rattle.output.proofs.put.short_of.Goals as goal
 
 pub returns-in_default : goal.returns-in_default
 returns-in_default c =
-    let r = c.in_default.rest in
+    let r = c.in_default.in_default-own.rest in
     rw (
       ne_eqb _ 34 r.0.0.0.0.0.0.1,
       ne_eqb _ 92 r.0.0.0.0.0.1,
