@@ -3,6 +3,7 @@ use mathlib.Core.Path.{◌≡◌, refl, ap, ◌∙◌}
 use mathlib.Core.List.{List}
 use Prim.Native.Nat.{ℕ, ◌-◌, ◌<◌}
 use native.Mathlib.Omega.{arith}
+use borrow.Author.Rules.{rules}
 use lib.Seq.{slice}
 use borrow.Rule.Slice.PartMut.{mid_of, mid_len}
 use Rattle.laws.specs.Earliest.{Earliest, nowhere, found, first_repeat, place_number}
@@ -61,7 +62,7 @@ returns-then-place-eq-NONE c =
       is =
           none_found (first_repeat (tail_at a.text.now 1) (slice a.top a.items.end l)) k.result a.items.read
           (told a.text.now l a.top a.items.end k.result c.requires k.ensures)
-          (λ x q. found_less (tail_at a.text.now 1) l a.top a.items.end r.1 4294967296 x r.0 c.requires.climbs (λ i. omega (arith, c.type_inv.names i)) q)
+          (λ x q. found_less (tail_at a.text.now 1) l a.top a.items.end r.1 4294967296 x r.0 c.requires.climbs (λ i. search rules) q)
           c.if-place-eq-NONE.true;
       under = part_under a.top (a.items.end - a.top) l k.new.names (omega arith);
     }
