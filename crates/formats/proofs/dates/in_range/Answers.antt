@@ -16,7 +16,7 @@ returns-then-not-is_day c =
       ← two-at3.ensures.0,
       ← c.two_at-4.ensures.0,
       ← c.is_day.ensures,
-      not-true c.is_day.result c.if-not-is_day.true,
+      c.if-not-is_day.true,
     )
 
 pub returns-then-two_at-gt23 : goal.returns-then-two_at-gt23
@@ -33,7 +33,7 @@ returns-then-two_at-gt23 c =
       ← two-at3.ensures.0,
       ← two-at4.ensures.0,
       ← is-day.ensures,
-      not-false is-day.result c.if-not-is_day.false,
+      c.if-not-is_day.false,
       ← c.two_at-5.ensures.0,
       le-ltb c.two_at-5.result 24 c.if-two_at-gt23.true,
     )
@@ -54,7 +54,7 @@ returns-then-two_at-gt59 c =
       ← two-at3.ensures.0,
       ← two-at4.ensures.0,
       ← is-day.ensures,
-      not-false is-day.result if1.false,
+      if1.false,
       ← two-at5.ensures.0,
       lt-ltb two-at5.result 24 (omega arith),
       ← c.two_at-6.ensures.0,
@@ -78,7 +78,7 @@ returns c =
       ← two-at3.ensures.0,
       ← two-at4.ensures.0,
       ← is-day.ensures,
-      not-false is-day.result if1.false,
+      if1.false,
       ← two-at5.ensures.0,
       lt-ltb two-at5.result 24 (omega arith),
       ← two-at6.ensures.0,

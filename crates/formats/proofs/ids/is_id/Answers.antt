@@ -34,7 +34,7 @@ returns-then-not-id_byte c =
     let loop = c.loop-b in
     let next_byte = c.next_byte in
     rw (← loop.invariant.0, byte_left a.name.now loop.at next_byte.ensures.result_value c.in-Byte.is)
-    (sym (id_other loop.passed c.in-Byte.b _ (sym c.id_byte.ensures ∙ not-true _ c.if-not-id_byte.true)))
+    (sym (id_other loop.passed c.in-Byte.b _ (sym c.id_byte.ensures ∙ c.if-not-id_byte.true)))
 
 pub loop-b-smaller : goal.loop-b-smaller
 loop-b-smaller c =
@@ -48,7 +48,7 @@ loop-b-preserved c =
     let a = c.args in
     let loop = c.loop-b in
     let next_byte = c.next_byte in
-    let fits = sym c.id_byte.ensures ∙ not-false _ c.if-not-id_byte.false in (
+    let fits = sym c.id_byte.ensures ∙ c.if-not-id_byte.false in (
       rw (← loop.invariant.0, byte_left a.name.now loop.at next_byte.ensures.result_value c.in-Byte.is)
           (sym (id_on loop.passed c.in-Byte.b _ fits)),
       omega (arith, c.if-passed-eq-LONGEST.false),
