@@ -18,9 +18,6 @@ returns-in-Over c =
     let loop = c.loop-b in
     rw (← loop.invariant, none_left a.content.now loop.at c.next_byte.ensures.result_value c.in-Over.is)
 
-pub closes-requires : goal.closes-requires
-closes-requires c = sym c.is_digit.ensures ∙ c.if-not-is_digit.true
-
 pub returns-then-not-is_digit : goal.returns-then-not-is_digit
 returns-then-not-is_digit c =
     let a = c.args in
