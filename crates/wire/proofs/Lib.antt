@@ -11,3 +11,4 @@ pub mod Fits
 pub mod Answers
 pub mod Promise
 pub mod Loosens
+pub mod Specimens

@@ -1,16 +1,12 @@
 -- Specimens of 02, Req 10, bytes one at a time, as one statement over a list: after how many bytes there is an answer (one more than there are: at the
 -- end), and which. Assumes nothing.
-use Rattle.std.specs.Prelude.{ℕ, ◌+◌, ◌≡◌, refl, List, [], ◌∷◌, map, false, replicate}
+use Rattle.std.specs.Prelude.{ℕ, ◌+◌, List, [], ◌∷◌, false, replicate}
 use Rattle.text.specs.Limits.{Limits, base}
 use Rattle.text.specs.Text.{bytes}
-use Rattle.text.specs.Chars.{digit_of, tail_of, letter_of}
-use Rattle.text.specs.Tokens.{kind_by}
 use Rattle.text.specs.declared.Refusal.TheVariants.{TooLong, Grammar, Character, Deep, Many}
 use Rattle.text.specs.declared.Reading.{Reading}
 use Rattle.text.specs.declared.Reading.TheVariants.{Rows, Refused}
-use Rattle.wire.specs.Figures.{exp_turn, frac_turn, turn_of, figure_of}
-use Rattle.wire.specs.Inners.{sound, checked, unit_move, hex_move, tail_move, move3, move4, lead_move, move_of}
-use Rattle.wire.specs.Machine.{State, going, over, start, counted, opens, spot_of, begins, quotes, items, firsts, closes, after_of, word_on, on_turn, on_move, feed, feeds, taken, piece}
+use Rattle.wire.specs.Machine.{State, going, over, start, feed, taken}
 
 -- a text, after how many bytes the answer comes, and the answer; 99 and nothing for none, which does not occur
 pub record Case : Type 0 where
@@ -101,7 +97,3 @@ cases =
     ∷ under (bytes "        x ") 9 (Refused (Grammar 8))
     ∷ under (bytes "       1 ") 10 (Rows 1)
     ∷ []
-
-pub specimens : map worked cases ≡ cases
-unfolding worked told digit_of tail_of letter_of kind_by exp_turn frac_turn turn_of figure_of sound checked unit_move hex_move tail_move move3 move4 lead_move move_of counted opens spot_of begins quotes items firsts closes after_of word_on on_turn on_move feed feeds taken piece
-specimens = refl
