@@ -77,7 +77,7 @@ loop-at-preserved c =
     let l = c in
     let t = c in
     let k = c in
-    walking_on l.loop-at.invariant t.store-1.given t.scratch-1.given
+    walking_on l.loop-at.invariant (omega arith) (omega arith)
     b.loop-at-test.true (whole_2 c) (sym k.repeats_at.ensures ∙ t.if-repeats_at.false) c.onward-at.result _ c.onward-at.ensures (ap (λ (v : ℕ). l.loop-at.n + v) c.values_at-n.ensures)
 
 pub returns : goal.returns
@@ -99,10 +99,10 @@ pub shape_of-scratch-then-packed-next : goal.shape_of-scratch-then-packed-next
 shape_of-scratch-then-packed-next c = c.loop-at.invariant.scratch_long
 
 pub shape_of-store-then-repeats_at : goal.shape_of-store-then-repeats_at
-shape_of-store-then-repeats_at c = c.store-1.given ∙ c.loop-at.invariant.store_long
+shape_of-store-then-repeats_at c = omega arith
 
 pub shape_of-scratch-then-repeats_at : goal.shape_of-scratch-then-repeats_at
-shape_of-scratch-then-repeats_at c = c.scratch-1.given ∙ c.loop-at.invariant.scratch_long
+shape_of-scratch-then-repeats_at c = omega arith
 
 pub values_at-n-requires : goal.values_at-n-requires
 values_at-n-requires c = tt
