@@ -8,12 +8,10 @@ use Rattle.fields.proofs.Beside.{by_arranged}
 use Rattle.fields.proofs.repeated.repeat_among.Goals as goal
 
 pub returns-then-ascend : goal.returns-then-ascend
-returns-then-ascend c =
-    sym (ap is_found (ascending_none (name_at c.args.packed.now) c.requires.climbs (sym c.ascend.ensures ∙ c.if-ascend.true)))
+returns-then-ascend c = sym (ap is_found (ascending_none (name_at c.args.packed.now) c.requires.climbs (sym c.ascend.ensures ∙ c.if-ascend.true)))
 
 pub sort-requires : goal.sort-requires
-sort-requires c =
-    ((omega arith, omega arith), omega (arith, c.requires.fits))
+sort-requires c = ((omega arith, omega arith), omega (arith, c.requires.fits))
 
 pub repeat_beside-requires : goal.repeat_beside-requires
 repeat_beside-requires c = omega (arith, c.sort.ensures.0.long)
