@@ -7,7 +7,6 @@ use lib.Dec.{ltb}
 use lib.ListN.{length}
 use lib.Seq.{slice}
 use Rattle.laws.specs.Earliest.{first_repeat}
-use Rattle.laws.proofs.Places.{inside}
 use Rattle.text.specs.Limits.{base}
 use Rattle.text.specs.Text.{byte_at}
 use Rattle.text.specs.Tokens.{skip}
