@@ -19,7 +19,7 @@ returns-in_default c = let is = c.in_default.is in rw is (read_refused (rw is at
 fit : (c : goal.In-Rows) → c.in-Rows.n * row_words ≤ length c.read_rows-answer.new.table
 fit c =
     let rows = c.read_rows-answer in
-    omega (arith, (rows_there (rw c.in-Rows.is at rows.ensures)).1, rows.auto.1.0)
+    omega (arith, (rows_there (rw c.in-Rows.is at rows.ensures)).1, rows.auto.table)
 
 pub overflow_mul-used : goal.overflow_mul-used
 overflow_mul-used c = omega (arith, fit c)

@@ -65,5 +65,4 @@ pub returns-in-Stop : goal.returns-in-Stop
 returns-in-Stop c =
     let s = c in
     let a = s.args in
-    let g = c.v-1.given in
     text_stop (limits_in a.names.now) a.text.now s.requires.1 c.in-Stop.r (rw (c.in-Stop.is, c.skip-from.ensures) at c.read_value-v.ensures.0)

@@ -2,11 +2,8 @@
 use mathlib.Core.Path.{◌≡◌, refl, sym, ◌∙◌}
 use mathlib.Core.List.{List}
 use mathlib.Core.Bool.{Bool, true, false, cond, true≢false}
-use mathlib.Core.Logic.{⊎_elim}
 use Prim.Native.Nat.{ℕ}
-use native.Mathlib.Omega.{arith}
 use lib.Dec.{eqb}
-use borrow.Author.Tests.{not-true}
 use Rattle.text.specs.declared.Token.{Token}
 use Rattle.text.specs.declared.Token.TheVariants.{End, No2, No3}
 use Rattle.text.specs.Text.{byte_at}
@@ -29,7 +26,7 @@ first_stopped : (c : goal.In_default) (f : ℕ → Token) → c.int-whole.result
 first_stopped c f = go c.int-whole.result refl
   where
     go : (w : Token) → c.int-whole.result ≡ w → w ≡ then_at f w
-    go (End to) e = absurd (⊎_elim (λ x. omega arith) (λ x. omega arith) (rw e at c.in_default.keys2))
+    go (End to) e = absurd (c.in_default.not-End to e)
     go (No2 p) e = refl
     go (No3 p) e = refl
 
@@ -40,11 +37,17 @@ returns-in_default c =
     rw (← c.minus_end.ensures, ← c.int-whole.ensures, ← s)
     (first_stopped c (exp_at c.args.text.now))
 
+pub returns-then-not-more_at : goal.returns-then-not-more_at
+unfolding number_at
+returns-then-not-more_at c =
+    rw (← c.minus_end.ensures, ← c.int-whole.ensures, c.in-End.is)
+    (sym (no_more c.args.text.now c.in-End.point (sym c.more_at.ensures ∙ c.if-not-more_at.true)))
+
 then_stopped : (c : goal.In_default-fraction) (f : ℕ → Token) → c.frac-fraction.result ≡ then_at f c.frac-fraction.result
 then_stopped c f = go c.frac-fraction.result refl
   where
     go : (w : Token) → c.frac-fraction.result ≡ w → w ≡ then_at f w
-    go (End to) e = absurd (⊎_elim (λ x. omega arith) (λ x. omega arith) (rw e at c.in_default-fraction.keys2))
+    go (End to) e = absurd (c.in_default-fraction.not-End to e)
     go (No2 p) e = refl
     go (No3 p) e = refl
 
