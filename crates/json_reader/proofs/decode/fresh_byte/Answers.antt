@@ -42,13 +42,13 @@ unfolding piece_by fresh_of
 returns-in-Char c =
     record {
       result_value =
-        rw (
-          decode_step c.args.name.now c.args.at,
-          ← c.peek-b.ensures.value,
-          ← c.escape.ensures,
-          c.in-Char.is,
-        )
-        (search (picks, c.first_byte.ensures.by_index c.args.name.now));
+          rw (
+            decode_step c.args.name.now c.args.at,
+            ← c.peek-b.ensures.value,
+            ← c.escape.ensures,
+            c.in-Char.is,
+          )
+          (search (picks, c.first_byte.ensures.by_index c.args.name.now));
       is = rw (← c.peek-b.ensures.value, ← c.escape.ensures, c.in-Char.is) (search (picks, c.first_byte.ensures.is));
     }
 
@@ -57,13 +57,13 @@ unfolding piece_by fresh_of
 returns-in-Close c =
     record {
       result_value =
-        rw (
-          decode_step c.args.name.now c.args.at,
-          ← c.peek-b.ensures.value,
-          ← c.escape.ensures,
-          c.in-Close.is,
-        )
-        (search picks);
+          rw (
+            decode_step c.args.name.now c.args.at,
+            ← c.peek-b.ensures.value,
+            ← c.escape.ensures,
+            c.in-Close.is,
+          )
+          (search picks);
       is = rw (← c.peek-b.ensures.value, ← c.escape.ensures, c.in-Close.is) (search picks);
     }
 
@@ -72,13 +72,13 @@ unfolding piece_by fresh_of
 returns-in-Bad2 c =
     record {
       result_value =
-        rw (
-          decode_step c.args.name.now c.args.at,
-          ← c.peek-b.ensures.value,
-          ← c.escape.ensures,
-          c.in-Bad2.is,
-        )
-        (search picks);
+          rw (
+            decode_step c.args.name.now c.args.at,
+            ← c.peek-b.ensures.value,
+            ← c.escape.ensures,
+            c.in-Bad2.is,
+          )
+          (search picks);
       is = rw (← c.peek-b.ensures.value, ← c.escape.ensures, c.in-Bad2.is) (search picks);
     }
 
@@ -87,12 +87,12 @@ unfolding piece_by fresh_of
 returns-in-Bad3 c =
     record {
       result_value =
-        rw (
-          decode_step c.args.name.now c.args.at,
-          ← c.peek-b.ensures.value,
-          ← c.escape.ensures,
-          c.in-Bad3.is,
-        )
-        (search picks);
+          rw (
+            decode_step c.args.name.now c.args.at,
+            ← c.peek-b.ensures.value,
+            ← c.escape.ensures,
+            c.in-Bad3.is,
+          )
+          (search picks);
       is = rw (← c.peek-b.ensures.value, ← c.escape.ensures, c.in-Bad3.is) (search picks);
     }

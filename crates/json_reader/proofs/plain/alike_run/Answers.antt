@@ -1,13 +1,7 @@
 -- `json_reader::plain::alike_run` meets its contract: each turn adds a byte that both texts have and that is in the class (`alike_more`). The measure is what is left
 -- of the text behind so many bytes. Assumes nothing.
-use mathlib.Core.Path.{◌≡◌, sym, subst, ◌∙◌}
-use Prim.Native.Nat.{◌+◌}
+use mathlib.Core.Path.{sym, ◌∙◌}
 use native.Mathlib.Omega.{arith}
-use Rattle.laws.proofs.Picks.{granted, denied}
-use Rattle.laws.proofs.Places.{inside}
-use Rattle.text.specs.Text.{byte_at}
-use Rattle.json_reader.specs.Plain.{Class}
-use Rattle.json_reader.proofs.Eights.{class_plain, alike_more}
 use Rattle.json_reader.proofs.plain.alike_run.Goals as goal
 
 pub returns-then-p-q : goal.returns-then-p-q

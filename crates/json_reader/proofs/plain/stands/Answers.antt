@@ -2,8 +2,7 @@
 use mathlib.Core.Path.{sym}
 use mathlib.Core.Bool.{true, false, true≢false}
 use native.Mathlib.Omega.{arith}
-use Rattle.laws.proofs.Picks.{granted, denied}
-use Rattle.json_reader.specs.Plain.{Plain, Told}
+use Rattle.json_reader.specs.Plain.{Told}
 use Rattle.json_reader.proofs.Eights.{class_plain}
 use Rattle.json_reader.proofs.plain.stands.Goals as goal
 

@@ -17,13 +17,12 @@ passed c = later_run _ _ refl c.written_end-to.ensures
 
 pub returns-then-b-eq-SLASH : goal.returns-then-b-eq-SLASH
 returns-then-b-eq-SLASH c =
-    let k = c in
-    let key = k.args.key.now in
+    let key = c.args.key.now in
     let b = sym c.peek-b.ensures.value ∙ c.if-b-eq-SLASH.true in
-    let next = slash_next key k.written_end-to.result b in
+    let next = slash_next key c.written_end-to.result b in
     let g = goes_later key (passed c) next.0 next.1 in
-    let i = inside key k.written_end-to.result (omega (arith, b)) in
-    record { goes_at = (g.0, omega arith); is = (cursor (k.written_end-to.result + 1) 0 0, g.1, refl) }
+    let i = inside key c.written_end-to.result (omega (arith, b)) in
+    record { goes_at = (g.0, omega arith); is = (cursor (c.written_end-to.result + 1) 0 0, g.1, refl) }
 
 -- what is passed stays in the part
 passed_2 : (c : goal.Then-b-eq-OVER) → let a = c.args in Later a.key.now (cursor a.at 0 0) (cursor c.written_end-to.result 0 0)
@@ -31,9 +30,8 @@ passed_2 c = later_run _ _ refl c.written_end-to.ensures
 
 pub returns-then-b-eq-OVER : goal.returns-then-b-eq-OVER
 returns-then-b-eq-OVER c =
-    let k = c in
-    let key = k.args.key.now in
-    let next = over_next key k.written_end-to.result (sym c.peek-b.ensures.value ∙ c.if-b-eq-OVER.true) in
+    let key = c.args.key.now in
+    let next = over_next key c.written_end-to.result (sym c.peek-b.ensures.value ∙ c.if-b-eq-OVER.true) in
     goes_later key (passed_2 c) next.0 next.1
 
 -- what is passed stays in the part
@@ -45,9 +43,8 @@ onward : (c : goal.In-Last) {r : Onward} → c.next_part.result ≡ r
     → let a = c.args in
     Goes a.key.now (pointer_of (rest a.key.now (cursor a.at 0 0))) r × Crosses a.key.now (cursor a.at 0 0) r
 onward c e =
-    let k = c in
     let g = rw (c.cursor_at.ensures, e) at c.next_part.ensures in
-    goes_later k.args.key.now (passed_3 c) g.0 g.1
+    goes_later c.args.key.now (passed_3 c) g.0 g.1
 
 pub returns-in-Last : goal.returns-in-Last
 returns-in-Last c = onward c c.in-Last.is
@@ -61,22 +58,19 @@ onward_2 : (c : goal.In-Part) {r : Onward} → c.next_part.result ≡ r
     → let a = c.args in
     Goes a.key.now (pointer_of (rest a.key.now (cursor a.at 0 0))) r × Crosses a.key.now (cursor a.at 0 0) r
 onward_2 c e =
-    let k = c in
     let g = rw (c.cursor_at.ensures, e) at c.next_part.ensures in
-    goes_later k.args.key.now (passed_4 c) g.0 g.1
+    goes_later c.args.key.now (passed_4 c) g.0 g.1
 
 pub returns-in-Part : goal.returns-in-Part
 returns-in-Part c =
-    let n = c in
-    let key = n.args.key.now in
+    let key = c.args.key.now in
     let g = onward_2 c c.in-Part.is in
     let f = crossed key g.1 in
     record { goes_at = (rw (← fresh key c.in-Part.c f.0) g.0, f.1); is = (c.in-Part.c, g.1, refl) }
 
 pub overflow_add-next : goal.overflow_add-next
 overflow_add-next c =
-    let k = c in
-    omega (arith, inside k.args.key.now k.written_end-to.result (omega (arith, sym c.peek-b.ensures.value ∙ c.if-b-eq-SLASH.true)))
+    omega (arith, inside c.args.key.now c.written_end-to.result (omega (arith, sym c.peek-b.ensures.value ∙ c.if-b-eq-SLASH.true)))
 
 pub written_end-to-requires : goal.written_end-to-requires
 written_end-to-requires c = tt

@@ -9,13 +9,10 @@ use Rattle.pointers.proofs.keys.clashes.Goals as goal
 pub returns-then-tells : goal.returns-then-tells
 unfolding conts decode_from scan piece_by
 returns-then-tells c =
-    let t = c in
-    let p = c in
-    let k = c in
-    let a = k.args in
+    let a = c.args in
     c.ends_before.ensures
-    ∙ (by_first a.a.now a.b.now k.alike_keys-k.result p.peek-x.ensures t.peek-y.ensures (sym t.tells.ensures ∙ c.if-tells.true)).1
-    ∙ k.alike_keys-k.ensures.clashing
+    ∙ (by_first a.a.now a.b.now c.alike_keys-k.result c.peek-x.ensures c.peek-y.ensures (sym c.tells.ensures ∙ c.if-tells.true)).1
+    ∙ c.alike_keys-k.ensures.clashing
 
 pub returns : goal.returns
 unfolding conts decode_from scan piece_by

@@ -43,7 +43,6 @@ loop-x-smaller c =
     let a = c.args in
     let loop = c.loop-x in
     let next-part = c.next_part in
-    let x2 = c.x2-1 in
     fewer (pointer_of (rest a.a.now loop.x)) (rw c.in-Part.is at next-part.ensures.goes)
 
 pub loop-x-preserved : goal.loop-x-preserved
@@ -53,7 +52,6 @@ loop-x-preserved c =
     let Part-same = c.part_same in
     let if1 = c.if-not-part_same in
     let next-part = c.next_part in
-    let x2 = c.x2-1 in
     let next-part2 = c.next_part-in-loop-x in
     sym (clash_on (pointer_of (rest a.a.now loop.x)) (pointer_of (rest a.b.now loop.y)) (rw c.in-Part.is at next-part.ensures.goes)
     (rw c.in-Part-next_part.is at next-part2.ensures.goes) (sym Part-same.ensures ∙ granted Part-same.result if1.false)) ∙ loop.invariant

@@ -11,15 +11,13 @@ use Rattle.pointers.proofs.parts.written_order.Goals as goal
 
 pub overflow_add-i : goal.overflow_add-i
 overflow_add-i c =
-    let l = c in
-    let g = l.well_formed in
-    omega (arith, c.alike_from-run.ensures.first, l.loop-p.invariant.1, g.1.0.0, g.1.1.0)
+    let g = c.well_formed in
+    omega (arith, c.alike_from-run.ensures.first, c.loop-p.invariant.1, g.1.0.0, g.1.1.0)
 
 pub overflow_add-j : goal.overflow_add-j
 overflow_add-j c =
-    let l = c in
-    let g = l.well_formed in
-    omega (arith, c.alike_from-run.ensures.second, l.loop-p.invariant.2, g.1.1.1.1.0.0, g.1.1.1.1.1.0)
+    let g = c.well_formed in
+    omega (arith, c.alike_from-run.ensures.second, c.loop-p.invariant.2, g.1.1.1.1.0.0, g.1.1.1.1.1.0)
 
 -- behind what they have in common the order is still that from the start
 passed : (c : goal.After-decoded_order)
@@ -54,14 +52,10 @@ passed_3 c = let a = c.args in c.alike_from-run.ensures.ordered a.part a.is-part
 
 pub returns-then-x-y : goal.returns-then-x-y
 returns-then-x-y c =
-    let q = c in
-    let p = c in
-    let k = c in
-    let l = c in
-    let a = l.args in
+    let a = c.args in
     c.order_at.ensures
-    ∙ shown_order a.key.now a.name.now a.part a.is-part (l.loop-p.i + k.alike_from-run.result) (l.loop-p.j + k.alike_from-run.result)
-    p.glyph_at-p.result q.glyph_at-q.result p.glyph_at-p.ensures q.glyph_at-q.ensures c.if-x-eq-CODED.false
+    ∙ shown_order a.key.now a.name.now a.part a.is-part (c.loop-p.i + c.alike_from-run.result) (c.loop-p.j + c.alike_from-run.result)
+    c.glyph_at-p.result c.glyph_at-q.result c.glyph_at-p.ensures c.glyph_at-q.ensures c.if-x-eq-CODED.false
     c.if-y-eq-CODED.false c.if-x-y.true
     ∙ passed_3 c
 
@@ -74,13 +68,9 @@ passed_4 c = let a = c.args in c.alike_from-run.ensures.ordered a.part a.is-part
 
 pub returns-then-x-eq-OVER : goal.returns-then-x-eq-OVER
 returns-then-x-eq-OVER c =
-    let q = c in
-    let p = c in
-    let k = c in
-    let l = c in
-    let a = l.args in
-    shown_ends a.key.now a.name.now a.part a.is-part (l.loop-p.i + k.alike_from-run.result) (l.loop-p.j + k.alike_from-run.result)
-    p.glyph_at-p.result q.glyph_at-q.result p.glyph_at-p.ensures q.glyph_at-q.ensures c.if-x-y.false c.if-x-eq-OVER.true
+    let a = c.args in
+    shown_ends a.key.now a.name.now a.part a.is-part (c.loop-p.i + c.alike_from-run.result) (c.loop-p.j + c.alike_from-run.result)
+    c.glyph_at-p.result c.glyph_at-q.result c.glyph_at-p.ensures c.glyph_at-q.ensures c.if-x-y.false c.if-x-eq-OVER.true
     ∙ passed_4 c
 
 -- a byte is shown, and not the end
@@ -89,9 +79,7 @@ byte c = omega (arith, c.glyph_at-p.ensures.most)
 
 -- the glyphs stand in their bytes
 within_key : (c : goal.After-struct_known-1)
-    → let p = c in
-    let k = c in
-    k.loop-p.i + k.alike_from-run.result + p.glyph_at-p.result.len ≤ length k.args.key.now
+    → c.loop-p.i + c.alike_from-run.result + c.glyph_at-p.result.len ≤ length c.args.key.now
 within_key c = c.glyph_at-p.ensures.within (byte c)
 
 pub overflow_add-i-in-loop-p : goal.overflow_add-i-in-loop-p
@@ -102,22 +90,16 @@ byte_2 : (c : goal.After-struct_known-in-loop-p-1) → c.glyph_at-p.result.value
 byte_2 c = omega (arith, c.glyph_at-p.ensures.most)
 
 within_name : (c : goal.After-struct_known-in-loop-p-1)
-    → let q = c in
-    let k = c in
-    k.loop-p.j + k.alike_from-run.result + q.glyph_at-q.result.len ≤ length k.args.name.now
+    → c.loop-p.j + c.alike_from-run.result + c.glyph_at-q.result.len ≤ length c.args.name.now
 within_name c = c.glyph_at-q.ensures.within (omega (arith, byte_2 c, c.if-x-y.false))
 
 pub overflow_add-j-in-loop-p : goal.overflow_add-j-in-loop-p
 overflow_add-j-in-loop-p c =
-    let e = c in
-    omega (arith, within_name c, e.well_formed.1.1.1.1.0.0)
+    omega (arith, within_name c, c.well_formed.1.1.1.1.0.0)
 
 pub loop-p-smaller : goal.loop-p-smaller
 loop-p-smaller c =
-    let e = c in
-    let p = c in
-    let k = c in
-    omega (arith, ap length (p.glyph_at-p.ensures.byte (byte_2 c)), k.alike_from-run.ensures.fewer k.args.part)
+    omega (arith, ap length (c.glyph_at-p.ensures.byte (byte_2 c)), c.alike_from-run.ensures.fewer c.args.part)
 
 -- behind what they have in common the order is still that from the start
 passed_5 : (c : goal.After-struct_known-in-loop-p-1)
@@ -128,21 +110,14 @@ passed_5 c = let a = c.args in c.alike_from-run.ensures.ordered a.part a.is-part
 
 -- the glyphs stand in their bytes
 within_key_2 : (c : goal.After-struct_known-in-loop-p-1)
-    → let p = c in
-    let k = c in
-    k.loop-p.i + k.alike_from-run.result + p.glyph_at-p.result.len ≤ length k.args.key.now
+    → c.loop-p.i + c.alike_from-run.result + c.glyph_at-p.result.len ≤ length c.args.key.now
 within_key_2 c = c.glyph_at-p.ensures.within (byte_2 c)
 
 pub loop-p-preserved : goal.loop-p-preserved
 loop-p-preserved c =
-    let e = c in
-    let q = c in
-    let p = c in
-    let k = c in
-    let l = c in
-    let a = l.args in (
-      shown_on a.key.now a.name.now a.part a.is-part (l.loop-p.i + k.alike_from-run.result) (l.loop-p.j + k.alike_from-run.result)
-          p.glyph_at-p.result q.glyph_at-q.result p.glyph_at-p.ensures q.glyph_at-q.ensures e.if-x-y.false (byte_2 c)
+    let a = c.args in (
+      shown_on a.key.now a.name.now a.part a.is-part (c.loop-p.i + c.alike_from-run.result) (c.loop-p.j + c.alike_from-run.result)
+          c.glyph_at-p.result c.glyph_at-q.result c.glyph_at-p.ensures c.glyph_at-q.ensures c.if-x-y.false (byte_2 c)
           ∙ passed_5 c,
       omega (arith, within_key_2 c),
       omega (arith, within_name c),
