@@ -119,6 +119,7 @@ inside_still t place to h r u e = elim (dec_le (length t) to) [
 ]
   where
     never : {i n : ℕ} {os : List Bracket} {spot : Spot} (x : State) → going i n os spot ≡ x → Over x → ⊥
+    never {i = i} {n = n} {os = os} {spot = spot} (going at _ opened _) e x3 = elim x3 [ ]
     never (over a) e told = let z : ◌≡◌ {A = ℕ} 0 1 = cc in omega arith
 
 -- ---- a piece within the limit

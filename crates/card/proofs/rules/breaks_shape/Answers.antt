@@ -39,7 +39,7 @@ returns-then-not-counts c =
       ne_eqb a.shape 4 c.if-shape-eq-SEPARATORS.false,
       ← c.rule_word-first.ensures,
       ← c.counts.ensures f s,
-      not-true c.counts.result c.if-not-counts.true,
+      c.if-not-counts.true,
     )
 
 pub breaks_then-requires : goal.breaks_then-requires
@@ -55,5 +55,5 @@ returns c =
       ne_eqb a.shape 4 c.if-shape-eq-SEPARATORS.false,
       ← c.rule_word-first.ensures,
       ← c.counts.ensures f s,
-      not-false c.counts.result c.if-not-counts.false,
+      c.if-not-counts.false,
     ) (c.breaks_then.ensures f s)

@@ -4,10 +4,10 @@ use Rattle.card.proofs.Judging.Separators.{mark_other, mark_second, mark_first}
 use Rattle.card.proofs.rules.marked.Goals as goal
 
 pub returns-then-not-separator : goal.returns-then-not-separator
-returns-then-not-separator c = rw (not-true c.args.separator c.if-not-separator.true) (mark_other c.args.m)
+returns-then-not-separator c = rw c.if-not-separator.true (mark_other c.args.m)
 
 pub returns-then-last : goal.returns-then-last
-returns-then-last c = rw (not-false c.args.separator c.if-not-separator.false) (mark_second c.args.m c.if-last.true)
+returns-then-last c = rw c.if-not-separator.false (mark_second c.args.m c.if-last.true)
 
 pub returns : goal.returns
-returns c = rw (not-false c.args.separator c.if-not-separator.false) (mark_first c.args.m c.if-last.false)
+returns c = rw c.if-not-separator.false (mark_first c.args.m c.if-last.false)

@@ -11,57 +11,6 @@ use Rattle.formats.proofs.counts.is_count.Goals as goal
 pub loop-i-init : goal.loop-i-init
 loop-i-init c = (sym (count_start _ _ _), omega arith, omega arith)
 
-pub returns-then-not-is_digit : goal.returns-then-not-is_digit
-returns-then-not-is_digit c =
-    let a = c.args in
-    let loop = c.loop-i in
-    let loop-test = c.loop-i-test in
-    let t = a.token.now in
-    let i = loop.i in
-    sym (sym loop.invariant.0 ∙ ap (count_after a.low a.high loop.value) (digits_from t i loop-test.true)
-    ∙ count_other _ _ _ _ _ (sym c.is_digit.ensures ∙ not-true _ c.if-not-is_digit.true))
-
-pub overflow_sub-value : goal.overflow_sub-value
-overflow_sub-value c =
-    let a = c.args in
-    let loop = c.loop-i in
-    omega (arith, digit_range (get_or a.token.now loop.i 0) (sym c.is_digit.ensures ∙ not-false _ c.if-not-is_digit.false))
-
-pub overflow_cast-value : goal.overflow_cast-value
-overflow_cast-value c =
-    let a = c.args in
-    let loop = c.loop-i in
-    omega (arith, digit_range (get_or a.token.now loop.i 0) (sym c.is_digit.ensures ∙ not-false _ c.if-not-is_digit.false))
-
-pub overflow_add-value : goal.overflow_add-value
-overflow_add-value c =
-    let a = c.args in
-    let loop = c.loop-i in
-    omega (arith, digit_range (get_or a.token.now loop.i 0) (sym c.is_digit.ensures ∙ not-false _ c.if-not-is_digit.false))
-
-pub returns-then-value-gt-LARGEST : goal.returns-then-value-gt-LARGEST
-returns-then-value-gt-LARGEST c =
-    let a = c.args in
-    let loop = c.loop-i in
-    let loop-test = c.loop-i-test in
-    let t = a.token.now in
-    let i = loop.i in
-    sym (sym loop.invariant.0 ∙ ap (count_after a.low a.high loop.value) (digits_from t i loop-test.true)
-    ∙ count_on _ _ _ _ _ (sym c.is_digit.ensures ∙ not-false _ c.if-not-is_digit.false) ∙ count_over _ _ _ _ c.if-value-gt-LARGEST.true)
-
-pub loop-i-preserved : goal.loop-i-preserved
-loop-i-preserved c =
-    let a = c.args in
-    let loop = c.loop-i in
-    let loop-test = c.loop-i-test in
-    let t = a.token.now in
-    let i = loop.i in (
-      sym (count_on _ _ _ _ _ (sym c.is_digit.ensures ∙ not-false _ c.if-not-is_digit.false))
-          ∙ ap (count_after a.low a.high loop.value) (sym (digits_from t i loop-test.true)) ∙ loop.invariant.0,
-      omega arith,
-      omega arith,
-    )
-
 pub returns-then-value-low : goal.returns-then-value-low
 returns-then-value-low c =
     let a = c.args in
@@ -75,3 +24,36 @@ returns c =
     let loop = c.loop-i in
     sym (sym loop.invariant.0 ∙ ap (count_after a.low a.high loop.value) (drop_of_length-le a.token.now c.loop-i-test.false)
     ∙ count_end _ _ _ loop.invariant.1 ∙ search picks)
+
+pub loop-i-preserved : goal.loop-i-preserved
+loop-i-preserved c =
+    let a = c.args in
+    let loop = c.loop-i in
+    let loop-test = c.loop-i-test in
+    let t = a.token.now in
+    let i = loop.i in (
+      sym (count_on _ _ _ _ _ (sym c.is_digit.ensures ∙ c.if-not-is_digit.false))
+          ∙ ap (count_after a.low a.high loop.value) (sym (digits_from t i loop-test.true)) ∙ loop.invariant.0,
+      omega arith,
+      omega arith,
+    )
+
+pub returns-then-value-gt-LARGEST : goal.returns-then-value-gt-LARGEST
+returns-then-value-gt-LARGEST c =
+    let a = c.args in
+    let loop = c.loop-i in
+    let loop-test = c.loop-i-test in
+    let t = a.token.now in
+    let i = loop.i in
+    sym (sym loop.invariant.0 ∙ ap (count_after a.low a.high loop.value) (digits_from t i loop-test.true)
+    ∙ count_on _ _ _ _ _ (sym c.is_digit.ensures ∙ c.if-not-is_digit.false) ∙ count_over _ _ _ _ c.if-value-gt-LARGEST.true)
+
+pub returns-then-not-is_digit : goal.returns-then-not-is_digit
+returns-then-not-is_digit c =
+    let a = c.args in
+    let loop = c.loop-i in
+    let loop-test = c.loop-i-test in
+    let t = a.token.now in
+    let i = loop.i in
+    sym (sym loop.invariant.0 ∙ ap (count_after a.low a.high loop.value) (digits_from t i loop-test.true)
+    ∙ count_other _ _ _ _ _ (sym c.is_digit.ensures ∙ c.if-not-is_digit.true))

@@ -18,9 +18,6 @@ returns-in-Over c =
     let loop = c.loop-b in
     rw (← loop.invariant, none_left a.content.now loop.at c.next_byte.ensures.result_value c.in-Over.is)
 
-pub closes-requires : goal.closes-requires
-closes-requires c = sym c.is_digit.ensures ∙ not-true _ c.if-not-is_digit.true
-
 pub returns-then-not-is_digit : goal.returns-then-not-is_digit
 returns-then-not-is_digit c =
     let a = c.args in
@@ -41,4 +38,4 @@ loop-b-preserved c =
     let loop = c.loop-b in
     let next_byte = c.next_byte in
     rw (← loop.invariant, byte_left a.content.now loop.at next_byte.ensures.result_value c.in-Byte.is)
-    (sym (fraction_on loop.last c.in-Byte.b _ (sym c.is_digit.ensures ∙ not-false _ c.if-not-is_digit.false)))
+    (sym (fraction_on loop.last c.in-Byte.b _ (sym c.is_digit.ensures ∙ c.if-not-is_digit.false)))

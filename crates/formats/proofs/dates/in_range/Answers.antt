@@ -4,40 +4,6 @@ use borrow.Author.Tests.{not-true, not-false, lt-ltb, le-ltb}
 use Rattle.contact.specs.Dates.{in_range}
 use Rattle.formats.proofs.dates.in_range.Goals as goal
 
-pub returns-then-not-is_day : goal.returns-then-not-is_day
-unfolding in_range
-returns-then-not-is_day c =
-    let two_at = c.two_at in
-    let two-at2 = c.two_at-2 in
-    let two-at3 = c.two_at-3 in
-    rw (
-      ← two_at.ensures.0,
-      ← two-at2.ensures.0,
-      ← two-at3.ensures.0,
-      ← c.two_at-4.ensures.0,
-      ← c.is_day.ensures,
-      not-true c.is_day.result c.if-not-is_day.true,
-    )
-
-pub returns-then-two_at-gt23 : goal.returns-then-two_at-gt23
-unfolding in_range
-returns-then-two_at-gt23 c =
-    let two_at = c.two_at in
-    let two-at2 = c.two_at-2 in
-    let two-at3 = c.two_at-3 in
-    let two-at4 = c.two_at-4 in
-    let is-day = c.is_day in
-    rw (
-      ← two_at.ensures.0,
-      ← two-at2.ensures.0,
-      ← two-at3.ensures.0,
-      ← two-at4.ensures.0,
-      ← is-day.ensures,
-      not-false is-day.result c.if-not-is_day.false,
-      ← c.two_at-5.ensures.0,
-      le-ltb c.two_at-5.result 24 c.if-two_at-gt23.true,
-    )
-
 pub returns-then-two_at-gt59 : goal.returns-then-two_at-gt59
 unfolding in_range
 returns-then-two_at-gt59 c =
@@ -54,7 +20,7 @@ returns-then-two_at-gt59 c =
       ← two-at3.ensures.0,
       ← two-at4.ensures.0,
       ← is-day.ensures,
-      not-false is-day.result if1.false,
+      if1.false,
       ← two-at5.ensures.0,
       lt-ltb two-at5.result 24 (omega arith),
       ← c.two_at-6.ensures.0,
@@ -78,10 +44,44 @@ returns c =
       ← two-at3.ensures.0,
       ← two-at4.ensures.0,
       ← is-day.ensures,
-      not-false is-day.result if1.false,
+      if1.false,
       ← two-at5.ensures.0,
       lt-ltb two-at5.result 24 (omega arith),
       ← two-at6.ensures.0,
       lt-ltb two-at6.result 60 (omega arith),
       ← c.two_at-7.ensures.0,
+    )
+
+pub returns-then-two_at-gt23 : goal.returns-then-two_at-gt23
+unfolding in_range
+returns-then-two_at-gt23 c =
+    let two_at = c.two_at in
+    let two-at2 = c.two_at-2 in
+    let two-at3 = c.two_at-3 in
+    let two-at4 = c.two_at-4 in
+    let is-day = c.is_day in
+    rw (
+      ← two_at.ensures.0,
+      ← two-at2.ensures.0,
+      ← two-at3.ensures.0,
+      ← two-at4.ensures.0,
+      ← is-day.ensures,
+      c.if-not-is_day.false,
+      ← c.two_at-5.ensures.0,
+      le-ltb c.two_at-5.result 24 c.if-two_at-gt23.true,
+    )
+
+pub returns-then-not-is_day : goal.returns-then-not-is_day
+unfolding in_range
+returns-then-not-is_day c =
+    let two_at = c.two_at in
+    let two-at2 = c.two_at-2 in
+    let two-at3 = c.two_at-3 in
+    rw (
+      ← two_at.ensures.0,
+      ← two-at2.ensures.0,
+      ← two-at3.ensures.0,
+      ← c.two_at-4.ensures.0,
+      ← c.is_day.ensures,
+      c.if-not-is_day.true,
     )

@@ -19,6 +19,17 @@ returns-in_default c =
     sym (begun_over loop.invariant loop-test.true
     (none_left a.content.now loop.at c.next_byte.ensures.result_value c.in_default.is))
 
+pub slice_bounds-in_range-end : goal.slice_bounds-in_range-end
+slice_bounds-in_range-end c = sym c.loop-i.invariant.full
+
+pub returns : goal.returns
+returns c =
+    let loop = c.loop-i in
+    let loop-test = c.loop-i-test in
+    let within_range = c.in_range in
+    c.time_ends.ensures
+    ∙ sym (begun_done loop.invariant loop-test.false ∙ rw (← within_range.ensures, c.if-not-in_range.false))
+
 pub returns-then-not-suits : goal.returns-then-not-suits
 returns-then-not-suits c =
     let a = c.args in
@@ -26,7 +37,7 @@ returns-then-not-suits c =
     let loop-test = c.loop-i-test in
     let next_byte = c.next_byte in
     sym (begun_other loop.invariant loop-test.true (byte_left a.content.now loop.at next_byte.ensures.result_value c.in-Byte.is)
-    (sym c.suits.ensures ∙ not-true _ c.if-not-suits.true))
+    (sym c.suits.ensures ∙ c.if-not-suits.true))
 
 pub loop-i-preserved : goal.loop-i-preserved
 loop-i-preserved c =
@@ -35,21 +46,10 @@ loop-i-preserved c =
     let loop-test = c.loop-i-test in
     let next_byte = c.next_byte in
     begun_on loop.invariant loop-test.true (byte_left a.content.now loop.at next_byte.ensures.result_value c.in-Byte.is)
-    (sym c.suits.ensures ∙ not-false _ c.if-not-suits.false)
-
-pub slice_bounds-in_range-end : goal.slice_bounds-in_range-end
-slice_bounds-in_range-end c = sym c.loop-i.invariant.full
+    (sym c.suits.ensures ∙ c.if-not-suits.false)
 
 pub returns-then-not-in_range : goal.returns-then-not-in_range
 returns-then-not-in_range c =
     let loop = c.loop-i in
     let loop-test = c.loop-i-test in
-    sym (begun_done loop.invariant loop-test.false ∙ rw (← c.in_range.ensures, not-true c.in_range.result c.if-not-in_range.true))
-
-pub returns : goal.returns
-returns c =
-    let loop = c.loop-i in
-    let loop-test = c.loop-i-test in
-    let within_range = c.in_range in
-    c.time_ends.ensures
-    ∙ sym (begun_done loop.invariant loop-test.false ∙ rw (← within_range.ensures, not-false within_range.result c.if-not-in_range.false))
+    sym (begun_done loop.invariant loop-test.false ∙ rw (← c.in_range.ensures, c.if-not-in_range.true))

@@ -28,14 +28,6 @@ returns-then-passed-eq-LONGEST c =
     rw (← loop.invariant.0, byte_left a.name.now loop.at next_byte.ensures.result_value c.in-Byte.is)
     (sym (id_long loop.passed c.in-Byte.b _ c.if-passed-eq-LONGEST.true))
 
-pub returns-then-not-id_byte : goal.returns-then-not-id_byte
-returns-then-not-id_byte c =
-    let a = c.args in
-    let loop = c.loop-b in
-    let next_byte = c.next_byte in
-    rw (← loop.invariant.0, byte_left a.name.now loop.at next_byte.ensures.result_value c.in-Byte.is)
-    (sym (id_other loop.passed c.in-Byte.b _ (sym c.id_byte.ensures ∙ not-true _ c.if-not-id_byte.true)))
-
 pub loop-b-smaller : goal.loop-b-smaller
 loop-b-smaller c =
     let a = c.args in
@@ -43,12 +35,20 @@ loop-b-smaller c =
     let next_byte = c.next_byte in
     omega (arith, ap length (byte_left a.name.now loop.at next_byte.ensures.result_value c.in-Byte.is))
 
+pub returns-then-not-id_byte : goal.returns-then-not-id_byte
+returns-then-not-id_byte c =
+    let a = c.args in
+    let loop = c.loop-b in
+    let next_byte = c.next_byte in
+    rw (← loop.invariant.0, byte_left a.name.now loop.at next_byte.ensures.result_value c.in-Byte.is)
+    (sym (id_other loop.passed c.in-Byte.b _ (sym c.id_byte.ensures ∙ c.if-not-id_byte.true)))
+
 pub loop-b-preserved : goal.loop-b-preserved
 loop-b-preserved c =
     let a = c.args in
     let loop = c.loop-b in
     let next_byte = c.next_byte in
-    let fits = sym c.id_byte.ensures ∙ not-false _ c.if-not-id_byte.false in (
+    let fits = sym c.id_byte.ensures ∙ c.if-not-id_byte.false in (
       rw (← loop.invariant.0, byte_left a.name.now loop.at next_byte.ensures.result_value c.in-Byte.is)
           (sym (id_on loop.passed c.in-Byte.b _ fits)),
       omega (arith, c.if-passed-eq-LONGEST.false),

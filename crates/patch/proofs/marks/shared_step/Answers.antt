@@ -9,7 +9,7 @@ returns c some alike =
     let one = c.all_at in
     let slash = rw c.key_at-key.ensures at (c.behind_slash.ensures some) in
     shared_on c.args.cues.now (omega (arith, c.if-hi-lo-lt2.false))
-    (one.ensures (not-false one.result c.if-not-all_at.false)) slash alike
+    (one.ensures c.if-not-all_at.false) slash alike
 
 pub returns-then-hi-lo-lt2 : goal.returns-then-hi-lo-lt2
 returns-then-hi-lo-lt2 c = absurd (omega arith)

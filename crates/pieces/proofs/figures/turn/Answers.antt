@@ -34,4 +34,4 @@ returns-in-6 c = rw (c.in-6.is, c.digit_or-in-6.ensures, turn_either)
 
 pub returns-in_default : goal.returns-in_default
 unfolding turn_of figure_at
-returns-in_default c = let k = c.args.k in rw (figure_last k (past 7 k c.in_default.rest), c.digit_or-in_default.ensures, turn_either)
+returns-in_default c = let k = c.args.k in rw (figure_last k (past 7 k c.in_default.in_default-own.rest), c.digit_or-in_default.ensures, turn_either)

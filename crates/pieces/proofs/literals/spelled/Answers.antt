@@ -38,5 +38,5 @@ returns-in-7 c = rw c.in-7.is c.expect-in-7.ensures
 pub returns-in_default : goal.returns-in_default
 returns-in_default c =
     let k = c.args.k in
-    let h = past 8 k c.in_default.rest in
+    let h = past 8 k c.in_default.in_default-own.rest in
     rw (awaited_last k h, behind_last k h) c.expect-in_default.ensures

@@ -5,7 +5,7 @@ use Rattle.pieces.proofs.Ways.{past, inner_last}
 use Rattle.pieces.proofs.spots.inner_at.Goals as goal
 
 pub returns-in_default : goal.returns-in_default
-returns-in_default c = let a = c.args in sym (inner_last a.k a.from a.bits a.high (past 15 a.k c.in_default.rest))
+returns-in_default c = let a = c.args in sym (inner_last a.k a.from a.bits a.high (past 15 a.k c.in_default.in_default-own.rest))
 
 pub returns-in-0 : goal.returns-in-0
 unfolding inner_at
