@@ -1,11 +1,9 @@
 -- `pointers::parts::written_order` meets its contract: the order of what is left at the two places is that of what was left at first. Each turn passes
 -- what they have in common and reads a glyph of each, and the laws of two glyphs say what follows. The measure is what is left of the part. Assumes nothing.
 use Prim.Native.Nat.{◌+◌, ◌<◌, ◌≤◌}
-use mathlib.Core.Path.{◌≡◌, refl, ap, ◌∙◌}
+use mathlib.Core.Path.{refl, ap, ◌∙◌}
 use native.Mathlib.Omega.{arith}
 use lib.ListN.{length}
-use Rattle.laws.specs.Order.{order_of}
-use Rattle.pointers.specs.Parts.{left_at}
 use Rattle.pointers.proofs.Laws.Glyphs.{shown_order, shown_ends, shown_on}
 use Rattle.pointers.proofs.parts.written_order.Goals as goal
 
@@ -19,59 +17,33 @@ overflow_add-j c =
     let g = c.well_formed in
     omega (arith, c.alike_from-run.ensures.second, c.loop-p.invariant.2, g.1.1.1.1.0.0, g.1.1.1.1.1.0)
 
--- behind what they have in common the order is still that from the start
-passed : (c : goal.After-decoded_order)
-    → let a = c.args in
-    order_of (left_at a.part a.key.now (c.loop-p.i + c.alike_from-run.result)) (left_at a.is-part a.name.now (c.loop-p.j + c.alike_from-run.result))
-    ≡ order_of (left_at a.part a.key.now a.from) (left_at a.is-part a.name.now a.name-from)
-passed c = let a = c.args in c.alike_from-run.ensures.ordered a.part a.is-part ∙ c.loop-p.invariant.0
-
 pub returns-then-x-eq-CODED : goal.returns-then-x-eq-CODED
 returns-then-x-eq-CODED c =
     c.decoded_order.ensures
-    ∙ rw (c.cursor_at.ensures, c.cursor_at-then-x-eq-CODED.ensures) (passed c)
-
--- behind what they have in common the order is still that from the start
-passed_2 : (c : goal.After-decoded_order-then-y-eq-CODED)
-    → let a = c.args in
-    order_of (left_at a.part a.key.now (c.loop-p.i + c.alike_from-run.result)) (left_at a.is-part a.name.now (c.loop-p.j + c.alike_from-run.result))
-    ≡ order_of (left_at a.part a.key.now a.from) (left_at a.is-part a.name.now a.name-from)
-passed_2 c = let a = c.args in c.alike_from-run.ensures.ordered a.part a.is-part ∙ c.loop-p.invariant.0
+    ∙ rw (c.cursor_at.ensures, c.cursor_at-then-x-eq-CODED.ensures)
+    (c.alike_from-run.ensures.ordered c.args.part c.args.is_part ∙ c.loop-p.invariant.0)
 
 pub returns-then-y-eq-CODED : goal.returns-then-y-eq-CODED
 returns-then-y-eq-CODED c =
     c.decoded_order-then-y-eq-CODED.ensures
-    ∙ rw (c.cursor_at-then-y-eq-CODED.ensures, c.cursor_at-then-y-eq-CODED-2.ensures) (passed_2 c)
-
--- behind what they have in common the order is still that from the start
-passed_3 : (c : goal.After-order_at)
-    → let a = c.args in
-    order_of (left_at a.part a.key.now (c.loop-p.i + c.alike_from-run.result)) (left_at a.is-part a.name.now (c.loop-p.j + c.alike_from-run.result))
-    ≡ order_of (left_at a.part a.key.now a.from) (left_at a.is-part a.name.now a.name-from)
-passed_3 c = let a = c.args in c.alike_from-run.ensures.ordered a.part a.is-part ∙ c.loop-p.invariant.0
+    ∙ rw (c.cursor_at-then-y-eq-CODED.ensures, c.cursor_at-then-y-eq-CODED-2.ensures)
+    (c.alike_from-run.ensures.ordered c.args.part c.args.is_part ∙ c.loop-p.invariant.0)
 
 pub returns-then-x-y : goal.returns-then-x-y
 returns-then-x-y c =
     let a = c.args in
     c.order_at.ensures
-    ∙ shown_order a.key.now a.name.now a.part a.is-part (c.loop-p.i + c.alike_from-run.result) (c.loop-p.j + c.alike_from-run.result)
+    ∙ shown_order a.key.now a.name.now a.part a.is_part (c.loop-p.i + c.alike_from-run.result) (c.loop-p.j + c.alike_from-run.result)
     c.glyph_at-p.result c.glyph_at-q.result c.glyph_at-p.ensures c.glyph_at-q.ensures c.if-x-eq-CODED.false
     c.if-y-eq-CODED.false c.if-x-y.true
-    ∙ passed_3 c
-
--- behind what they have in common the order is still that from the start
-passed_4 : (c : goal.Then-x-eq-OVER)
-    → let a = c.args in
-    order_of (left_at a.part a.key.now (c.loop-p.i + c.alike_from-run.result)) (left_at a.is-part a.name.now (c.loop-p.j + c.alike_from-run.result))
-    ≡ order_of (left_at a.part a.key.now a.from) (left_at a.is-part a.name.now a.name-from)
-passed_4 c = let a = c.args in c.alike_from-run.ensures.ordered a.part a.is-part ∙ c.loop-p.invariant.0
+    ∙ c.alike_from-run.ensures.ordered c.args.part c.args.is_part ∙ c.loop-p.invariant.0
 
 pub returns-then-x-eq-OVER : goal.returns-then-x-eq-OVER
 returns-then-x-eq-OVER c =
     let a = c.args in
-    shown_ends a.key.now a.name.now a.part a.is-part (c.loop-p.i + c.alike_from-run.result) (c.loop-p.j + c.alike_from-run.result)
+    shown_ends a.key.now a.name.now a.part a.is_part (c.loop-p.i + c.alike_from-run.result) (c.loop-p.j + c.alike_from-run.result)
     c.glyph_at-p.result c.glyph_at-q.result c.glyph_at-p.ensures c.glyph_at-q.ensures c.if-x-y.false c.if-x-eq-OVER.true
-    ∙ passed_4 c
+    ∙ c.alike_from-run.ensures.ordered c.args.part c.args.is_part ∙ c.loop-p.invariant.0
 
 -- a byte is shown, and not the end
 byte : (c : goal.After-struct_known-1) → c.glyph_at-p.result.value < 256
@@ -101,25 +73,13 @@ pub loop-p-smaller : goal.loop-p-smaller
 loop-p-smaller c =
     omega (arith, ap length (c.glyph_at-p.ensures.byte (byte_2 c)), c.alike_from-run.ensures.fewer c.args.part)
 
--- behind what they have in common the order is still that from the start
-passed_5 : (c : goal.After-struct_known-in-loop-p-1)
-    → let a = c.args in
-    order_of (left_at a.part a.key.now (c.loop-p.i + c.alike_from-run.result)) (left_at a.is-part a.name.now (c.loop-p.j + c.alike_from-run.result))
-    ≡ order_of (left_at a.part a.key.now a.from) (left_at a.is-part a.name.now a.name-from)
-passed_5 c = let a = c.args in c.alike_from-run.ensures.ordered a.part a.is-part ∙ c.loop-p.invariant.0
-
--- the glyphs stand in their bytes
-within_key_2 : (c : goal.After-struct_known-in-loop-p-1)
-    → c.loop-p.i + c.alike_from-run.result + c.glyph_at-p.result.len ≤ length c.args.key.now
-within_key_2 c = c.glyph_at-p.ensures.within (byte_2 c)
-
 pub loop-p-preserved : goal.loop-p-preserved
 loop-p-preserved c =
     let a = c.args in (
-      shown_on a.key.now a.name.now a.part a.is-part (c.loop-p.i + c.alike_from-run.result) (c.loop-p.j + c.alike_from-run.result)
+      shown_on a.key.now a.name.now a.part a.is_part (c.loop-p.i + c.alike_from-run.result) (c.loop-p.j + c.alike_from-run.result)
           c.glyph_at-p.result c.glyph_at-q.result c.glyph_at-p.ensures c.glyph_at-q.ensures c.if-x-y.false (byte_2 c)
-          ∙ passed_5 c,
-      omega (arith, within_key_2 c),
+          ∙ c.alike_from-run.ensures.ordered c.args.part c.args.is_part ∙ c.loop-p.invariant.0,
+      omega (arith, c.glyph_at-p.ensures.within (byte_2 c)),
       omega (arith, within_name c),
     )
 
