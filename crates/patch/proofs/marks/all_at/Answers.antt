@@ -1,5 +1,5 @@
 -- `patch::marks::all_at` meets its contract: up to the place at hand all are the cue. Assumes nothing.
-use Prim.Native.Nat.{ℕ, ◌<◌}
+use Prim.Native.Nat.{◌<◌}
 use native.Mathlib.Omega.{arith}
 use lib.ListN.{length}
 use Rattle.patch.proofs.Listing.Steps.{between_more}

@@ -1,6 +1,5 @@
 -- `patch::marks::shared_step` meets its contract: what ends the part of the first ends that of each. Assumes nothing.
 use native.Mathlib.Omega.{arith}
-use borrow.Author.Tests.{not-false}
 use Rattle.patch.proofs.Listing.Steps.{shared_on}
 use Rattle.patch.proofs.marks.shared_step.Goals as goal
 
