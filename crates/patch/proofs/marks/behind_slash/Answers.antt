@@ -26,4 +26,4 @@ pub place_word-requires : goal.place_word-requires
 place_word-requires c = tt
 
 pub returns : goal.returns
-returns c = absurd (omega arith)
+returns c some = absurd (omega arith)

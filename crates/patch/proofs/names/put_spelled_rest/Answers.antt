@@ -16,7 +16,7 @@ pub loop-b-init : goal.loop-b-init
 loop-b-init c = left_all
 
 pub shape_of-out-in_default : goal.shape_of-out-in_default
-shape_of-out-in_default c = c.put_byte.auto.0 ∙ left_length c.loop-b.invariant
+shape_of-out-in_default c = c.put_byte.auto.out ∙ left_length c.loop-b.invariant
 
 pub returns-in_default : goal.returns-in_default
 returns-in_default c =

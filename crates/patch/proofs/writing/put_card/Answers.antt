@@ -44,10 +44,10 @@ clear_words-requires c = tt
 
 pub shape_of-cues : goal.shape_of-cues
 shape_of-cues c = let a = c.args in
-    c.put_value.auto.1.1.1.1.1.1.1.0 ∙ rw (zeros_2 c) (cleared_same a.n a.cues.now c.requires.0.1)
+    c.put_value.auto.cues ∙ rw (zeros_2 c) (cleared_same a.n a.cues.now c.requires.0.1)
 
 pub shape_of-walks : goal.shape_of-walks
-shape_of-walks c = c.put_value.auto.1.1.1.1.1.1.1.1.0
+shape_of-walks c = c.put_value.auto.walks
 
 pub shape_of-out : goal.shape_of-out
-shape_of-out c = c.put_value.auto.1.1.1.1.1.1.1.1.1.1.0
+shape_of-out c = c.put_value.auto.out
