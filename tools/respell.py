@@ -264,6 +264,9 @@ def tables(root):
 
 def main(argv):
     root = os.getcwd()
+    if not all(os.path.isdir(os.path.join(root, "crates", old)) for old in CRATES):
+        print("respell: this tree has the new spelling already, or isn't the top of the repository: nothing was changed")
+        return 2
     ours = set(os.listdir(os.path.join(root, "crates")))
     table, own, modules = tables(root)
     write = "--check" not in argv

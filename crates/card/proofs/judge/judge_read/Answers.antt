@@ -4,10 +4,8 @@ use Rattle.card.proofs.judge.judge_read.Goals as goal
 
 pub judge_rows-requires : goal.judge_rows-requires
 judge_rows-requires c =
-    let s = c in
-    let a = s.args in
-    let (L, lent, was) = s.requires in
-    let g = c.read-in-Rows-1.given in
+    let a = c.args in
+    let (L, lent, was) = c.requires in
     let (f, h, is) = read_into L a.text.now lent a.table.now c.in-Rows.n was.long (rw c.in-Rows.is at was.reads) in
     (L, f, h)
 
@@ -15,14 +13,12 @@ pub returns-in-Refused : goal.returns-in-Refused
 returns-in-Refused c =
     λ L lent was.
     let a = c.args in
-    let g = c.read-1.given in
     text_refused L a.text.now lent a.table.now c.in-Refused.r (rw c.in-Refused.is at was.reads)
 
 pub returns-in-Rows : goal.returns-in-Rows
 returns-in-Rows c =
     λ L lent was.
     let a = c.args in
-    let g = c.read-in-Rows-1.given in
     let k = c.judge_rows in
     let (f, h, is) = read_into L a.text.now lent a.table.now c.in-Rows.n was.long (rw c.in-Rows.is at was.reads) in
     rows_judged L a.text.now lent a.table.now k.new.table c.in-Rows.n f k.result was.long h is (k.ensures L f h)

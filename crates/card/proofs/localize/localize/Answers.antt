@@ -11,6 +11,5 @@ slice_bounds-clear_bytes-start c = used_fits c.localize_in-a.ensures c.bytes_use
 
 pub returns : goal.returns
 returns c =
-    let bytes-used = c in
-    let localize-in = bytes-used.localize_in-a in
-    localizes localize-in.ensures (omega arith) bytes-used.bytes_used-used.ensures c.clear_bytes.ensures
+    let localize-in = c.localize_in-a in
+    localizes localize-in.ensures (omega arith) c.bytes_used-used.ensures c.clear_bytes.ensures

@@ -28,7 +28,6 @@ pub returns-then-kind_fits : goal.returns-then-kind_fits
 returns-then-kind_fits c =
     λ f s.
     let a = c.args in
-    let k = c.k-1 in
     let found = standing (rw c.in-Row.is at (c.find.ensures f s)) in
     let type_in_lem = c.type_in-code in
     fitting a.text.now a.table.now a.object.end a.name.now f a.object.of c.in-Row.k found (type_at type_in_lem.result)
@@ -39,7 +38,6 @@ pub returns : goal.returns
 returns c =
     λ f s.
     let a = c.args in
-    let k = c.k-1 in
     let found = standing (rw c.in-Row.is at (c.find.ensures f s)) in
     let type_in_lem = c.type_in-code in
     unfitting a.text.now a.table.now a.object.end a.name.now f a.object.of c.in-Row.k found (type_at type_in_lem.result)

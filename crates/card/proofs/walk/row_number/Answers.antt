@@ -51,7 +51,6 @@ returns-in-As c =
     λ f v k.
     let a = c.args in
     let kind_fits = c.kind_fits in
-    let o = c.o-1 in
     let ty : type_at c.args.code ≡ object_of c.in-As.o = rw (c.in-As.is, c.type_of-ty.ensures) at c.role_of.ensures in
     rw ty
     (c.object_number.ensures (inside_at f)
@@ -69,7 +68,6 @@ returns-in-Between c =
     λ f v k.
     let a = c.args in
     let kind_fits = c.kind_fits in
-    let given = c.enum_told-1.given in
     let ty : type_at c.args.code ≡ by_type c.in-Between.field-0 c.in-Between.field-1 =
     rw (c.in-Between.is, c.type_of-ty.ensures) at c.role_of.ensures in
     c.value_number.ensures f v k ∙ rw ty (row_choice a.text.now f v.some c.in-Between.field-0 c.in-Between.field-1 a.key

@@ -7,5 +7,4 @@ returns-after-loop-at c = counted c.args.line.now c.loop-at.at c.loop-at.invaria
 
 pub returns-then-line-at : goal.returns-then-line-at
 returns-then-line-at c =
-    let turn = c in
-    counted turn.args.line.now turn.loop-at.at turn.loop-at.invariant
+    counted c.args.line.now c.loop-at.at c.loop-at.invariant

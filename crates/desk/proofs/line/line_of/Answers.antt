@@ -5,11 +5,9 @@ use Rattle.desk.proofs.line.line_of.Goals as goal
 
 pub returns-then-more : goal.returns-then-more
 returns-then-more c =
-    let start = c in
-    says_over start.args.text.now (length start.args.table.now) c.if-more.true c.clear_words.ensures
+    says_over c.args.text.now (length c.args.table.now) c.if-more.true c.clear_words.ensures
 
 pub returns : goal.returns
 returns c =
-    let start = c in
-    says_judged start.args.text.now start.args.table.now c.if-more.false c.verdict_on_paper.ensures
+    says_judged c.args.text.now c.args.table.now c.if-more.false c.verdict_on_paper.ensures
     c.judge.ensures

@@ -19,15 +19,13 @@ told : (c : goal.After-order_at)
 told c stops =
     let a = c.args in
     let l = c.loop-i in
-    let known = c in
     rw (c.peek-p.ensures.value, c.peek-q.ensures.value)
-    (run_told a.a.now a.b.now l.i l.invariant (omega (arith, known.type_inv.a l.i)) (omega (arith, known.type_inv.b l.i))
+    (run_told a.a.now a.b.now l.i l.invariant (omega (arith, c.type_inv.a l.i)) (omega (arith, c.type_inv.b l.i))
     (omega (arith, c.peek-p.ensures)) (omega (arith, c.peek-q.ensures)) stops)
 
 pub returns-then-p-q : goal.returns-then-p-q
 returns-then-p-q c =
-    let k = c in
-    c.order_at.ensures ∙ told c (λ e. absurd (c.if-p-q.true (k.peek-p.ensures.value ∙ e ∙ sym k.peek-q.ensures.value)))
+    c.order_at.ensures ∙ told c (λ e. absurd (c.if-p-q.true (c.peek-p.ensures.value ∙ e ∙ sym c.peek-q.ensures.value)))
 
 -- the bytes at a place decide, from where the second one was looked at
 told_2 : (c : goal.Then-p-eq-OVER)
@@ -37,26 +35,23 @@ told_2 : (c : goal.Then-p-eq-OVER)
 told_2 c stops =
     let a = c.args in
     let l = c.loop-i in
-    let known = c in
     rw (c.peek-p.ensures.value, c.peek-q.ensures.value)
-    (run_told a.a.now a.b.now l.i l.invariant (omega (arith, known.type_inv.a l.i)) (omega (arith, known.type_inv.b l.i))
+    (run_told a.a.now a.b.now l.i l.invariant (omega (arith, c.type_inv.a l.i)) (omega (arith, c.type_inv.b l.i))
     (omega (arith, c.peek-p.ensures)) (omega (arith, c.peek-q.ensures)) stops)
 
 pub returns-then-p-eq-OVER : goal.returns-then-p-eq-OVER
 unfolding order_at
 returns-then-p-eq-OVER c =
-    let k = c in
-    rw (eq-eqb k.peek-p.result k.peek-q.result c.if-p-q.false) at (told_2 c (λ e. sym k.peek-p.ensures.value ∙ c.if-p-eq-OVER.true))
+    rw (eq-eqb c.peek-p.result c.peek-q.result c.if-p-q.false) at (told_2 c (λ e. sym c.peek-p.ensures.value ∙ c.if-p-eq-OVER.true))
 
 -- where the byte is not the end, it stands in the first run
-byte : (c : goal.Else-p-eq-OVER) → let l = c in byte_at l.args.a.now l.loop-i.i < 256
-byte c = let p = c.peek-p in let n = c.if-p-eq-OVER.false in omega (arith, p.ensures.value, p.ensures.small)
+byte : (c : goal.Else-p-eq-OVER) → byte_at c.args.a.now c.loop-i.i < 256
+byte c = let p = c.peek-p in omega (arith, p.ensures.value, p.ensures.small)
 
 pub loop-i-preserved : goal.loop-i-preserved
 loop-i-preserved c =
-    let l = c in
-    let a = l.args in
-    run_more a.a.now a.b.now l.loop-i.i l.loop-i.invariant (sym c.peek-p.ensures.value ∙ c.if-p-q.false ∙ c.peek-q.ensures.value) (byte c)
+    let a = c.args in
+    run_more a.a.now a.b.now c.loop-i.i c.loop-i.invariant (sym c.peek-p.ensures.value ∙ c.if-p-q.false ∙ c.peek-q.ensures.value) (byte c)
 
 pub loop-i-init : goal.loop-i-init
 loop-i-init c = refl
@@ -70,8 +65,8 @@ peek-q-requires c = tt
 pub order_at-requires : goal.order_at-requires
 order_at-requires c = tt
 
-in_first : (c : goal.Else-p-eq-OVER) → let l = c in l.loop-i.i < length l.args.a.now
-in_first c = let l = c in inside l.args.a.now l.loop-i.i (byte c)
+in_first : (c : goal.Else-p-eq-OVER) → c.loop-i.i < length c.args.a.now
+in_first c = inside c.args.a.now c.loop-i.i (byte c)
 
 pub overflow_add-i : goal.overflow_add-i
 overflow_add-i c = omega (arith, in_first c)

@@ -8,21 +8,19 @@ use Rattle.fields.proofs.Members.{listing_start, listing_room, listing_more, lis
 use Rattle.fields.proofs.walk.list_names.Goals as goal
 
 pub loop-at-init : goal.loop-at-init
-loop-at-init c = let s = c in let a = s.args in listing_start a.packed.now a.from a.end a.store.now s.requires.head
+loop-at-init c = let a = c.args in listing_start a.packed.now a.from a.end a.store.now c.requires.head
 
 pub loop-at-preserved : goal.loop-at-preserved
 loop-at-preserved c =
-    let s = c in
-    let a = s.args in
+    let a = c.args in
     let l = c.loop-at in
-    listing_more a.packed.now a.from a.end s.requires l.invariant c.next_at-at.result (c.next_at-at.ensures.value ∙ ap (next_at a.packed.now) c.next_at-value.ensures.value)
+    listing_more a.packed.now a.from a.end c.requires l.invariant c.next_at-at.result (c.next_at-at.ensures.value ∙ ap (next_at a.packed.now) c.next_at-value.ensures.value)
     c.loop-at-test.true
 
 pub returns : goal.returns
 returns c =
-    let s = c in
-    let a = s.args in
-    listing_end a.packed.now a.from a.end s.requires c.loop-at.invariant c.loop-at-test.false
+    let a = c.args in
+    listing_end a.packed.now a.from a.end c.requires c.loop-at.invariant c.loop-at-test.false
 
 -- inside the loop a place is short of the end, and there is room for it
 short : (c : goal.In-loop-at) → c.loop-at.at < 65538
@@ -33,10 +31,9 @@ overflow_cast-store c = omega (arith, short c)
 
 room : (c : goal.In-loop-at) → (c.loop-at.n < length c.loop-at.store) × (c.loop-at.n < 65538)
 room c =
-    let s = c in
-    let a = s.args in
+    let a = c.args in
     let l = c.loop-at in
-    (listing_room a.packed.now a.from a.end s.requires l.invariant c.loop-at-test.true, omega (arith, short c, l.invariant.spread))
+    (listing_room a.packed.now a.from a.end c.requires l.invariant c.loop-at-test.true, omega (arith, short c, l.invariant.spread))
 
 pub offset_bounds-store-n : goal.offset_bounds-store-n
 offset_bounds-store-n c = omega (arith, (room c).1)

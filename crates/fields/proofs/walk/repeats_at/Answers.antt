@@ -6,10 +6,7 @@ use Rattle.fields.proofs.walk.repeats_at.Goals as goal
 pub returns-then-peek-eq-OBJECT : goal.returns-then-peek-eq-OBJECT
 unfolding repeats_at
 returns-then-peek-eq-OBJECT c =
-    let k = c in
-    let b = c in
-    let s = c in
-    rw (← b.peek.ensures.value, eq-eqb _ _ b.if-peek-eq-OBJECT.true, ← s.requires.ends) k.repeats_in.ensures
+    rw (← c.peek.ensures.value, eq-eqb _ _ c.if-peek-eq-OBJECT.true, ← c.requires.ends) c.repeats_in.ensures
 
 pub returns : goal.returns
 unfolding repeats_at

@@ -23,14 +23,12 @@ lent c = let e : c.list_names-n.result - 0 ≡ c.list_names-n.result = omega ari
 
 pub repeat_among-requires : goal.repeat_among-requires
 repeat_among-requires c =
-    let k = c in
-    let s = c in
-    let a = s.args in
-    let n = k.list_names-n.ensures in
-    let e : k.list_names-n.result - 0 ≡ k.list_names-n.result = omega arith in
+    let a = c.args in
+    let n = c.list_names-n.ensures in
+    let e : c.list_names-n.result - 0 ≡ c.list_names-n.result = omega arith in
     record {
       climbs = rw (lent c) (places_climb a.packed.now a.next (a.at + 3));
-      fits = rw e (omega (arith, length-take-le k.list_names-n.result k.list_names-n.new.store n.inside, n.few, s.requires.inside, s.requires.roomy.scratch_fits));
+      fits = rw e (omega (arith, length-take-le c.list_names-n.result c.list_names-n.new.store n.inside, n.few, c.requires.inside, c.requires.roomy.scratch_fits));
     }
 
 -- what is lent to the search is the places
@@ -41,10 +39,8 @@ lent_2 c = let e : c.list_names-n.result - 0 ≡ c.list_names-n.result = omega a
 
 pub returns : goal.returns
 returns c =
-    let k = c in
-    let m = c in
-    let a = m.args in
-    k.repeat_among.ensures ∙ ap (λ (l : List ℕ). is_found (first_repeat (name_at a.packed.now) l)) (lent_2 c)
+    let a = c.args in
+    c.repeat_among.ensures ∙ ap (λ (l : List ℕ). is_found (first_repeat (name_at a.packed.now) l)) (lent_2 c)
 
 pub overflow_add-at : goal.overflow_add-at
 overflow_add-at c = let p = c.requires in omega (arith, p.ends, p.inside, p.roomy.short)

@@ -17,10 +17,10 @@ unfolding survey_of
 returns-then-n-gt-LONGEST c = rw (lt-ltb longest (length c.args.packed.now) c.if-n-gt-LONGEST.true)
 
 pub returns-then-n : goal.returns-then-n
-returns-then-n c = let s = c in c.survey_few.ensures ∙ walked s.args.packed.now (omega arith)
+returns-then-n c = c.survey_few.ensures ∙ walked c.args.packed.now (omega arith)
 
 pub returns-then-n-2 : goal.returns-then-n-2
-returns-then-n-2 c = let s = c in c.survey_some.ensures ∙ walked s.args.packed.now (omega arith)
+returns-then-n-2 c = c.survey_some.ensures ∙ walked c.args.packed.now (omega arith)
 
 pub returns : goal.returns
-returns c = let s = c in c.survey_most.ensures ∙ walked s.args.packed.now (omega arith)
+returns c = c.survey_most.ensures ∙ walked c.args.packed.now (omega arith)

@@ -12,79 +12,65 @@ loop-at-init c = let a = c.args in walking_start a.packed.now a.store.now a.scra
 
 pub returns-then-packed-next : goal.returns-then-packed-next
 returns-then-packed-next c =
-    let l = c in
-    let a = l.args in
-    sym (survey_torn a.packed.now l.loop-at.at l.loop-at.n c.loop-at-test.true (omega (arith, c.next_at-next.ensures.value, c.if-packed-next.true)))
-    ∙ l.loop-at.invariant.goes
+    let a = c.args in
+    sym (survey_torn a.packed.now c.loop-at.at c.loop-at.n c.loop-at-test.true (omega (arith, c.next_at-next.ensures.value, c.if-packed-next.true)))
+    ∙ c.loop-at.invariant.goes
 
 pub repeats_at-requires : goal.repeats_at-requires
 repeats_at-requires c =
-    let b = c in
-    let l = c in
-    let p = l.requires in
-    let w = l.loop-at.invariant in
+    let p = c.requires in
+    let w = c.loop-at.invariant in
     record {
       roomy = record { short = p.short; store_fits = rw w.store_long p.store_fits; scratch_fits = rw w.scratch_long p.scratch_fits };
-      ends = b.next_at-next.ensures.value;
-      inside = b.if-packed-next.false;
+      ends = c.next_at-next.ensures.value;
+      inside = c.if-packed-next.false;
     }
 
 -- a field that is not cut off ends inside
 whole : (c : goal.Then-repeats_at)
-    → let l = c in let a = l.args in
-    next_at a.packed.now l.loop-at.at ≤ length a.packed.now
+    → let a = c.args in
+    next_at a.packed.now c.loop-at.at ≤ length a.packed.now
 whole c = omega (arith, c.next_at-next.ensures.value, c.if-packed-next.false)
 
 pub returns-then-repeats_at : goal.returns-then-repeats_at
 returns-then-repeats_at c =
-    let k = c in
-    let b = c in
-    let l = c in
-    let a = l.args in
-    sym (survey_twice a.packed.now l.loop-at.at l.loop-at.n b.loop-at-test.true (whole c) (sym k.repeats_at.ensures ∙ c.if-repeats_at.true))
-    ∙ l.loop-at.invariant.goes
+    let a = c.args in
+    sym (survey_twice a.packed.now c.loop-at.at c.loop-at.n c.loop-at-test.true (whole c) (sym c.repeats_at.ensures ∙ c.if-repeats_at.true))
+    ∙ c.loop-at.invariant.goes
 
 short : (c : goal.After-values_at-n) → c.loop-at.at < 65538
 short c = let p = c.requires in omega (arith, c.loop-at-test.true, p.short)
 
 pub overflow_add-n : goal.overflow_add-n
 overflow_add-n c =
-    let b = c in
-    let l = c in
-    let a = l.args in
-    omega (arith, short c, l.loop-at.invariant.few, c.values_at-n.ensures, values_most a.packed.now l.loop-at.at)
+    let a = c.args in
+    omega (arith, short c, c.loop-at.invariant.few, c.values_at-n.ensures, values_most a.packed.now c.loop-at.at)
 
 pub onward-at-requires : goal.onward-at-requires
 onward-at-requires c =
-    let b = c in (omega (arith, short c), b.next_at-next.ensures.value)
+    (omega (arith, short c), c.next_at-next.ensures.value)
 
 pub loop-at-smaller : goal.loop-at-smaller
 loop-at-smaller c =
-    let b = c in
-    let l = c in
-    let a = l.args in
-    omega (arith, b.loop-at-test.true, c.onward-at.ensures, onward_later a.packed.now l.loop-at.at)
+    let a = c.args in
+    omega (arith, c.loop-at-test.true, c.onward-at.ensures, onward_later a.packed.now c.loop-at.at)
 
 -- a field that is not cut off ends inside
 whole_2 : (c : goal.After-onward-at)
-    → let l = c in let a = l.args in
-    next_at a.packed.now l.loop-at.at ≤ length a.packed.now
+    → let a = c.args in
+    next_at a.packed.now c.loop-at.at ≤ length a.packed.now
 whole_2 c = omega (arith, c.next_at-next.ensures.value, c.if-packed-next.false)
 
 pub loop-at-preserved : goal.loop-at-preserved
 loop-at-preserved c =
-    let b = c in
-    let l = c in
-    let t = c in
-    let k = c in
-    walking_on l.loop-at.invariant (omega arith) (omega arith)
-    b.loop-at-test.true (whole_2 c) (sym k.repeats_at.ensures ∙ t.if-repeats_at.false) c.onward-at.result _ c.onward-at.ensures (ap (λ (v : ℕ). l.loop-at.n + v) c.values_at-n.ensures)
+    walking_on c.loop-at.invariant (omega arith) (omega arith) c.loop-at-test.true (whole_2 c)
+    (sym c.repeats_at.ensures ∙ c.if-repeats_at.false) c.onward-at.result _ c.onward-at.ensures
+    (ap (λ (v : ℕ). c.loop-at.n + v) c.values_at-n.ensures)
 
 pub returns : goal.returns
 returns c =
-    let l = c in
-    let a = l.args in
-    sym (survey_end a.packed.now l.loop-at.at l.loop-at.n c.loop-at-test.false) ∙ l.loop-at.invariant.goes
+    let a = c.args in
+    sym (survey_end a.packed.now c.loop-at.at c.loop-at.n c.loop-at-test.false) ∙ c.loop-at.invariant.goes
 
 short_2 : (c : goal.In-loop-at) → c.loop-at.at < 65538
 short_2 c = let p = c.requires in omega (arith, c.loop-at-test.true, p.short)

@@ -26,7 +26,6 @@ returns-then-not-is_digit c =
     let a = c.args in
     let loop = c.loop-b in
     let next_byte = c.next_byte in
-    let b = c.b-1 in
     rw (← loop.invariant, byte_left a.content.now loop.at next_byte.ensures.result_value c.in-Byte.is) c.closes.ensures
 
 pub loop-b-smaller : goal.loop-b-smaller
@@ -34,7 +33,6 @@ loop-b-smaller c =
     let a = c.args in
     let loop = c.loop-b in
     let next_byte = c.next_byte in
-    let b = c.b-1 in
     omega (arith, ap length (byte_left a.content.now loop.at next_byte.ensures.result_value c.in-Byte.is))
 
 pub loop-b-preserved : goal.loop-b-preserved
@@ -42,6 +40,5 @@ loop-b-preserved c =
     let a = c.args in
     let loop = c.loop-b in
     let next_byte = c.next_byte in
-    let b = c.b-1 in
     rw (← loop.invariant, byte_left a.content.now loop.at next_byte.ensures.result_value c.in-Byte.is)
     (sym (fraction_on loop.last c.in-Byte.b _ (sym c.is_digit.ensures ∙ not-false _ c.if-not-is_digit.false)))

@@ -25,7 +25,6 @@ returns-then-not-suits c =
     let loop = c.loop-i in
     let loop-test = c.loop-i-test in
     let next_byte = c.next_byte in
-    let b = c.b-1 in
     sym (begun_other loop.invariant loop-test.true (byte_left a.content.now loop.at next_byte.ensures.result_value c.in-Byte.is)
     (sym c.suits.ensures ∙ not-true _ c.if-not-suits.true))
 
@@ -35,7 +34,6 @@ loop-i-preserved c =
     let loop = c.loop-i in
     let loop-test = c.loop-i-test in
     let next_byte = c.next_byte in
-    let b = c.b-1 in
     begun_on loop.invariant loop-test.true (byte_left a.content.now loop.at next_byte.ensures.result_value c.in-Byte.is)
     (sym c.suits.ensures ∙ not-false _ c.if-not-suits.false)
 

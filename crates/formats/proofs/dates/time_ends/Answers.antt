@@ -15,7 +15,6 @@ pub returns-then-b-eq46 : goal.returns-then-b-eq46
 returns-then-b-eq46 c =
     let a = c.args in
     let next_byte = c.next_byte in
-    let b = c.b-1 in
     rw (byte_left a.content.now a.from next_byte.ensures.result_value c.in-Byte.is)
     (c.fraction_ends.ensures ∙ sym (ends_fraction _ _ c.if-b-eq46.true))
 
@@ -23,7 +22,6 @@ pub returns-then-b-ne90 : goal.returns-then-b-ne90
 returns-then-b-ne90 c =
     let a = c.args in
     let next_byte = c.next_byte in
-    let b = c.b-1 in
     rw (byte_left a.content.now a.from next_byte.ensures.result_value c.in-Byte.is) (sym (ends_other _ _ c.if-b-eq46.false c.if-b-ne90.true))
 
 pub returns-in-Over : goal.returns-in-Over
@@ -31,7 +29,6 @@ returns-in-Over c =
     let a = c.args in
     let content = a.content.now in
     let next_byte = c.next_byte in
-    let b = c.b-1 in
     let if2 = c.if-b-ne90 in
     rw (byte_left content a.from next_byte.ensures.result_value c.in-Byte.is)
     (sym (ends_here _ _ if2.false (none_left content _ c.next_byte-2.ensures.result_value c.in-Over.is)))
@@ -41,7 +38,6 @@ returns-in-Byte-next_byte c =
     let a = c.args in
     let content = a.content.now in
     let next_byte = c.next_byte in
-    let b = c.b-1 in
     let if2 = c.if-b-ne90 in
     rw (byte_left content a.from next_byte.ensures.result_value c.in-Byte.is)
     (sym (ends_later _ _ if2.false (byte_left content _ c.next_byte-2.ensures.result_value c.in-Byte-next_byte.is)))

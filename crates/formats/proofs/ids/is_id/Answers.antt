@@ -25,7 +25,6 @@ returns-then-passed-eq-LONGEST c =
     let a = c.args in
     let loop = c.loop-b in
     let next_byte = c.next_byte in
-    let b = c.b-1 in
     rw (← loop.invariant.0, byte_left a.name.now loop.at next_byte.ensures.result_value c.in-Byte.is)
     (sym (id_long loop.passed c.in-Byte.b _ c.if-passed-eq-LONGEST.true))
 
@@ -34,7 +33,6 @@ returns-then-not-id_byte c =
     let a = c.args in
     let loop = c.loop-b in
     let next_byte = c.next_byte in
-    let b = c.b-1 in
     rw (← loop.invariant.0, byte_left a.name.now loop.at next_byte.ensures.result_value c.in-Byte.is)
     (sym (id_other loop.passed c.in-Byte.b _ (sym c.id_byte.ensures ∙ not-true _ c.if-not-id_byte.true)))
 
@@ -43,7 +41,6 @@ loop-b-smaller c =
     let a = c.args in
     let loop = c.loop-b in
     let next_byte = c.next_byte in
-    let b = c.b-1 in
     omega (arith, ap length (byte_left a.name.now loop.at next_byte.ensures.result_value c.in-Byte.is))
 
 pub loop-b-preserved : goal.loop-b-preserved
@@ -51,7 +48,6 @@ loop-b-preserved c =
     let a = c.args in
     let loop = c.loop-b in
     let next_byte = c.next_byte in
-    let b = c.b-1 in
     let fits = sym c.id_byte.ensures ∙ not-false _ c.if-not-id_byte.false in (
       rw (← loop.invariant.0, byte_left a.name.now loop.at next_byte.ensures.result_value c.in-Byte.is)
           (sym (id_on loop.passed c.in-Byte.b _ fits)),

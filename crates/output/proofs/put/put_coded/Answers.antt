@@ -9,8 +9,7 @@ use Rattle.output.proofs.put.put_coded.Goals as goal
 pub returns : goal.returns
 unfolding part_of
 returns c =
-    let early = c in
-    let a = early.args in
+    let a = c.args in
     let put-run = c.put_run-p in
     let small-hex = c.small_hex in
     let put_byte = c.put_byte-q in

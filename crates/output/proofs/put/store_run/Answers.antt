@@ -13,18 +13,16 @@ returns-then-out-at c = let a = c.args in sym (sets_out (part_of a.text.now a.fr
 
 pub overflow_add-stop : goal.overflow_add-stop
 overflow_add-stop c =
-    let start = c in
-    let a = start.args in
-    omega (arith, (least (a.to - a.from) (length a.out.now - a.at) c.smaller.ensures).first, start.requires.0, start.requires.1)
+    let a = c.args in
+    omega (arith, (least (a.to - a.from) (length a.out.now - a.at) c.smaller.ensures).first, c.requires.0, c.requires.1)
 
 pub loop-i-init : goal.loop-i-init
-loop-i-init c = let start = c in storing start.requires.0 start.requires.1 (omega arith) (least _ _ c.smaller.ensures) refl
+loop-i-init c = storing c.requires.0 c.requires.1 (omega arith) (least _ _ c.smaller.ensures) refl
 
 pub bounds-text-i : goal.bounds-text-i
 bounds-text-i c =
     let s = c.loop-i.invariant in
-    let start = c in
-    omega (arith, s.stops.first, s.above, start.requires.0, start.requires.1, c.loop-i-test.true)
+    omega (arith, s.stops.first, s.above, c.requires.0, c.requires.1, c.loop-i-test.true)
 
 pub bounds-out-p : goal.bounds-out-p
 bounds-out-p c =
@@ -39,13 +37,11 @@ overflow_add-p c = omega (arith, bounds-out-p c)
 
 pub loop-i-preserved : goal.loop-i-preserved
 loop-i-preserved c =
-    let start = c in
-    stored_next start.requires.0 start.requires.1 (omega (arith, c.if-out-at.false)) c.loop-i.invariant c.loop-i-test.true
+    stored_next c.requires.0 c.requires.1 (omega (arith, c.if-out-at.false)) c.loop-i.invariant c.loop-i-test.true
 
 pub shape_of-out : goal.shape_of-out
 shape_of-out c = c.loop-i.invariant.long
 
 pub returns : goal.returns
 returns c =
-    let start = c in
-    stored_all start.requires.0 start.requires.1 (omega (arith, c.if-out-at.false)) c.loop-i.invariant (omega arith)
+    stored_all c.requires.0 c.requires.1 (omega (arith, c.if-out-at.false)) c.loop-i.invariant (omega arith)

@@ -11,17 +11,15 @@ returns-then-kind-ne-OBJECT c = λ g limit h. no_child h.value _ _ (λ e. c.if-k
 
 pub overflow_add-first : goal.overflow_add-first
 overflow_add-first c =
-    let start = c in
-    let row = row_inside start.args.table.now start.args.row (omega (arith, c.kind.ensures, c.if-kind-ne-OBJECT.false)) in
-    omega (arith, row, start.well_formed.1.0)
+    let row = row_inside c.args.table.now c.args.row (omega (arith, c.kind.ensures, c.if-kind-ne-OBJECT.false)) in
+    omega (arith, row, c.well_formed.1.0)
 
 pub returns : goal.returns
 returns c =
     λ g limit h.
-    let start = c in
     let kind = c.kind in
     let if1 = c.if-kind-ne-OBJECT in
-    let row = row_inside start.args.table.now start.args.row (omega (arith, kind.ensures, if1.false)) in
-    let next = row_after_lem start.args.table.now start.args.row c.next_row-end.ensures (omega (arith, row, start.well_formed.1.0)) in
+    let row = row_inside c.args.table.now c.args.row (omega (arith, kind.ensures, if1.false)) in
+    let next = row_after_lem c.args.table.now c.args.row c.next_row-end.ensures (omega (arith, row, c.well_formed.1.0)) in
     child_is h _ _ (sym kind.ensures ∙ if1.false) c.find.result
     (rw next at (c.find.ensures (inside_at g) (members_stand h.value.some h.value.stands next)))

@@ -12,37 +12,31 @@ returns-in_default c =
 
 pub returns-in_default-child_row : goal.returns-in_default-child_row
 returns-in_default-child_row c =
-    let all = c in
-    let child-row = all.child_row in
+    let child-row = c.child_row in
     let child-row2 = c.child_row-2 in
-    let a = all.args in
-    for_nothing a.language.now child-row.ensures all.in-Row.is child-row2.result child-row2.ensures _ c.in_default-child_row.is
+    let a = c.args in
+    for_nothing a.language.now child-row.ensures c.in-Row.is child-row2.result child-row2.ensures _ c.in_default-child_row.is
 
 pub returns-then-kind-ne-OBJECT : goal.returns-then-kind-ne-OBJECT
 returns-then-kind-ne-OBJECT c =
-    let all = c in
-    let child-row = all.child_row in
+    let child-row = c.child_row in
     let child-row2 = c.child_row-2 in
-    let patch = c.patch-1 in
-    let a = all.args in
-    for_other a.language.now child-row.ensures all.in-Row.is child-row2.result child-row2.ensures c.in-Row-child_row.is _
+    let a = c.args in
+    for_other a.language.now child-row.ensures c.in-Row.is child-row2.result child-row2.ensures c.in-Row-child_row.is _
     (λ e. c.if-kind-ne-OBJECT.true (c.kind.ensures ∙ e))
 
 pub compose-requires : goal.compose-requires
 compose-requires c =
     let a = c.args in
-    let patch = c.patch-1 in
     omega (arith, row_inside a.table.now c.in-Row-child_row.patch (omega (arith, c.kind.ensures, c.if-kind-ne-OBJECT.false)))
 
 pub returns : goal.returns
 returns c =
-    let all = c in
-    let child-row = all.child_row in
+    let child-row = c.child_row in
     let child-row2 = c.child_row-2 in
-    let patch = c.patch-1 in
     let kind = c.kind in
     let if1 = c.if-kind-ne-OBJECT in
     let compose = c.compose in
-    let a = all.args in
-    for_object a.language.now child-row.ensures all.in-Row.is child-row2.result child-row2.ensures c.in-Row-child_row.is _ _
+    let a = c.args in
+    for_object a.language.now child-row.ensures c.in-Row.is child-row2.result child-row2.ensures c.in-Row-child_row.is _ _
     compose.result (sym kind.ensures ∙ if1.false) compose.ensures

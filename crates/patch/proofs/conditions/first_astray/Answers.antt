@@ -4,21 +4,19 @@ use Rattle.patch.proofs.conditions.first_astray.Goals as goal
 
 pub returns-in-Broken : goal.returns-in-Broken
 returns-in-Broken c place d ms l p w =
-    let array = c in
-    let a = array.args in
+    let a = c.args in
     rw (
       ← walks_said a.text.now a.table.now a.rows.now a.n a.walks.now place p d ms l w,
-      ← array.one_condition.ensures,
+      ← c.one_condition.ensures,
       c.in-Broken.is,
     )
 
 pub returns : goal.returns
 returns c place d ms l p w =
-    let array = c in
-    let a = array.args in
+    let a = c.args in
     rw (
       ← walks_said a.text.now a.table.now a.rows.now a.n a.walks.now place p d ms l w,
-      ← array.one_condition.ensures,
+      ← c.one_condition.ensures,
       c.in_default.is,
     )
     c.one_condition-2.ensures

@@ -15,13 +15,12 @@ overflow_cast-row c = omega (arith, c.type_inv.rows (c.loop-i.i - 1))
 
 pub loop-i-preserved-then-at_fault : goal.loop-i-preserved-then-at_fault
 loop-i-preserved-then-at_fault c =
-    let tested = c in
-    let loop = tested.loop-i in
-    let a = tested.args in (
+    let loop = c.loop-i in
+    let a = c.args in (
       omega arith,
       c.smaller_key-best.ensures
           ∙ least_more a.fault a.text.now a.table.now a.rows.now a.n a.walks.now loop.i (omega arith) loop.invariant.0 loop.invariant.1
-          (sym tested.at_fault.ensures ∙ tested.if-at_fault.true),
+          (sym c.at_fault.ensures ∙ c.if-at_fault.true),
     )
 
 pub loop-i-preserved : goal.loop-i-preserved

@@ -8,6 +8,4 @@ returns-in_default c = rw (← c.least.ensures, c.in_default.is)
 
 pub returns : goal.returns
 returns c =
-    let quote = c in
-    let row = c in
-    rw (← row.least.ensures, row.in-Row.is, ← quote.quote_at.ensures) (ap Broken c.refusal.ensures)
+    rw (← c.least.ensures, c.in-Row.is, ← c.quote_at.ensures) (ap Broken c.refusal.ensures)

@@ -13,9 +13,8 @@ returns-in_default c = rw c.in_default.is
 -- by the order of the best so far and the row
 asked : (c : goal.In-Less) {o : Order}
     → c.name_order.result ≡ o
-    → let best = c in
-    let a = best.args in
-    smaller_row a.text.now a.table.now a.row a.best ≡ cond (is_less o) (Row best.in-Row.other) (Row a.row)
+    → let a = c.args in
+    smaller_row a.text.now a.table.now a.row a.best ≡ cond (is_less o) (Row c.in-Row.other) (Row a.row)
 asked c e =
     rw (
       c.in-Row.is,
@@ -31,9 +30,8 @@ returns-in-Less c = sym (asked c c.in-Less.is)
 -- by the order of the best so far and the row
 asked_2 : (c : goal.In-Same) {o : Order}
     → c.name_order.result ≡ o
-    → let best = c in
-    let a = best.args in
-    smaller_row a.text.now a.table.now a.row a.best ≡ cond (is_less o) (Row best.in-Row.other) (Row a.row)
+    → let a = c.args in
+    smaller_row a.text.now a.table.now a.row a.best ≡ cond (is_less o) (Row c.in-Row.other) (Row a.row)
 asked_2 c e =
     rw (
       c.in-Row.is,
@@ -49,9 +47,8 @@ returns-in-Same c = sym (asked_2 c c.in-Same.is)
 -- by the order of the best so far and the row
 asked_3 : (c : goal.In-More) {o : Order}
     → c.name_order.result ≡ o
-    → let best = c in
-    let a = best.args in
-    smaller_row a.text.now a.table.now a.row a.best ≡ cond (is_less o) (Row best.in-Row.other) (Row a.row)
+    → let a = c.args in
+    smaller_row a.text.now a.table.now a.row a.best ≡ cond (is_less o) (Row c.in-Row.other) (Row a.row)
 asked_3 c e =
     rw (
       c.in-Row.is,

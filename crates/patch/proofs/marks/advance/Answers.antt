@@ -6,5 +6,4 @@ use Rattle.patch.proofs.marks.advance.Goals as goal
 pub returns : goal.returns
 returns c =
     let fill = c.fill.ensures in
-    let test = c in
-    record { all = λ alike. filled_on (test.shared_step-next.ensures (omega (arith, test.if-next-eq0.false)) alike) fill; around = fill.around }
+    record { all = λ alike. filled_on (c.shared_step-next.ensures (omega (arith, c.if-next-eq0.false)) alike) fill; around = fill.around }

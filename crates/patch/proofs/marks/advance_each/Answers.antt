@@ -12,11 +12,10 @@ within c = omega (arith, c.loop-i.invariant.0, c.requires.1, c.loop-i-test.true)
 
 pub loop-i-preserved : goal.loop-i-preserved
 loop-i-preserved c =
-    let turn = c in
-    let inv = turn.loop-i.invariant in (
+    let inv = c.loop-i.invariant in (
       rw length-set inv.0,
       omega (arith, inv.1),
-      omega (arith, turn.loop-i-test.true),
+      omega (arith, c.loop-i-test.true),
       advance_one inv.3 inv.1 (within c) (rw c.key_at-key.ensures at c.next_cue.ensures),
     )
 

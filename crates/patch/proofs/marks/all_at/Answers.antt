@@ -7,8 +7,7 @@ use Rattle.patch.proofs.marks.all_at.Goals as goal
 
 pub loop-i-preserved : goal.loop-i-preserved
 loop-i-preserved c =
-    let turn = c in
-    let inv = turn.loop-i.invariant in
+    let inv = c.loop-i.invariant in
     (omega (arith, inv.0), omega arith, between_more _ inv.2 c.if-cues-i.false)
 
 pub returns : goal.returns

@@ -6,16 +6,14 @@ use Rattle.patch.proofs.marks.behind_slash.Goals as goal
 
 pub returns-then-peek-eq-SLASH : goal.returns-then-peek-eq-SLASH
 returns-then-peek-eq-SLASH c some =
-    let turn = c in
-    let inv = turn.loop-to.invariant in
-    let key = turn.args.key.now in
+    let inv = c.loop-to.invariant in
+    let key = c.args.key.now in
     let here = sym c.peek.ensures.value ∙ c.if-peek-eq-SLASH.true in
     slash_found key inv.0 (omega arith) inv.1 here c.place_word.ensures some
 
 pub loop-to-preserved : goal.loop-to-preserved
 loop-to-preserved c =
-    let turn = c in
-    let inv = turn.loop-to.invariant in
+    let inv = c.loop-to.invariant in
     (omega (arith, inv.0), between_more _ inv.1 (λ e. c.if-peek-eq-SLASH.false (c.peek.ensures.value ∙ e)))
 
 pub loop-to-init : goal.loop-to-init

@@ -6,12 +6,10 @@ use Rattle.patch.proofs.marks.shared_step.Goals as goal
 
 pub returns : goal.returns
 returns c some alike =
-    let tests = c in
-    let s = c in
-    let one = tests.all_at in
+    let one = c.all_at in
     let slash = rw c.key_at-key.ensures at (c.behind_slash.ensures some) in
-    shared_on s.args.cues.now (omega (arith, tests.if-hi-lo-lt2.false))
-    (one.ensures (not-false one.result tests.if-not-all_at.false)) slash alike
+    shared_on c.args.cues.now (omega (arith, c.if-hi-lo-lt2.false))
+    (one.ensures (not-false one.result c.if-not-all_at.false)) slash alike
 
 pub returns-then-hi-lo-lt2 : goal.returns-then-hi-lo-lt2
 returns-then-hi-lo-lt2 c = absurd (omega arith)

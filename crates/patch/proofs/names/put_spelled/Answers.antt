@@ -14,23 +14,20 @@ use Rattle.patch.proofs.names.put_spelled.Goals as goal
 
 pub returns-then-from-ne0 : goal.returns-then-from-ne0
 returns-then-from-ne0 c =
-    let b = c in
-    let a = b.args in
-    wrote_then (34 ∷ []) (spelled_rest (part_left (rest a.key.now a.from))) b.put_byte-p.ensures c.put_spelled_rest.ensures
+    let a = c.args in
+    wrote_then (34 ∷ []) (spelled_rest (part_left (rest a.key.now a.from))) c.put_byte-p.ensures c.put_spelled_rest.ensures
 
 pub returns : goal.returns
 returns c =
-    let b = c in
-    let a = b.args in
+    let a = c.args in
     let key = a.key.now in
     let own = c.own_end-end in
     let run = c.put_run-q in
-    let start = c.if-from-ne0.false in
     let left = spelled_rest (part_left (rest key (cursor own.result 0 0))) in
     let last = rw c.cursor_at.ensures at c.put_spelled_rest-2.ensures in
     let is : spelled_rest (part_left (rest key a.from)) ≡ part_of key a.from.at own.result ++ left =
     ap (λ (l : List ℕ). spelled_rest (part_left l)) (fresh key a.from (omega arith)) ∙ own_spelled key own.ensures in
-    wrote_then (34 ∷ []) (spelled_rest (part_left (rest key a.from))) b.put_byte-p.ensures
+    wrote_then (34 ∷ []) (spelled_rest (part_left (rest key a.from))) c.put_byte-p.ensures
     (rw is (wrote_then (part_of key a.from.at own.result) left run.ensures last))
 
 pub put_byte-p-requires : goal.put_byte-p-requires

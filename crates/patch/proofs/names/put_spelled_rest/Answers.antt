@@ -20,29 +20,23 @@ shape_of-out-in_default c = c.put_byte.auto.0 ∙ left_length c.loop-b.invariant
 
 pub returns-in_default : goal.returns-in_default
 returns-in_default c =
-    let l = c in
-    let none = over l.args.key.now l.loop-b.c c.part_byte.ensures.result_value c.in_default.is in
-    left_last (34 ∷ []) (left_as (ap spelled_rest none) l.loop-b.invariant) c.put_byte.ensures
+    let none = over c.args.key.now c.loop-b.c c.part_byte.ensures.result_value c.in_default.is in
+    left_last (34 ∷ []) (left_as (ap spelled_rest none) c.loop-b.invariant) c.put_byte.ensures
 
 -- the byte that is handed out, and those after it
-handed : (c : goal.After-slice_known-in-loop-b-1) → let l = c in
-    let key = l.args.key.now in
-    let b = c.b-1 in
-    part_left (rest key l.loop-b.c) ≡ c.in-Byte.b ∷ part_left (rest key c.in-Byte.on)
+handed : (c : goal.After-slice_known-in-loop-b-1) → let key = c.args.key.now in
+    part_left (rest key c.loop-b.c) ≡ c.in-Byte.b ∷ part_left (rest key c.in-Byte.on)
 handed c =
-    let l = c in
-    taken l.args.key.now l.loop-b.c c.part_byte.ensures.result_value c.in-Byte.is
+    taken c.args.key.now c.loop-b.c c.part_byte.ensures.result_value c.in-Byte.is
 
 pub loop-b-smaller : goal.loop-b-smaller
 loop-b-smaller c = omega (arith, ap length (handed c))
 
 pub loop-b-preserved : goal.loop-b-preserved
 loop-b-preserved c =
-    let l = c in
-    let b = c.b-1.given.0 in
-    let n = part_left (rest l.args.key.now c.in-Byte.on) in
+    let n = part_left (rest c.args.key.now c.in-Byte.on) in
     left_on (spelled_byte c.in-Byte.b) (spelled_rest n)
-    (left_as (ap spelled_rest (handed c) ∙ append_assoc (spelled_byte c.in-Byte.b) (spelled_bytes n) (34 ∷ [])) l.loop-b.invariant)
+    (left_as (ap spelled_rest (handed c) ∙ append_assoc (spelled_byte c.in-Byte.b) (spelled_bytes n) (34 ∷ [])) c.loop-b.invariant)
     c.put_spelled_byte-p.ensures
 
 pub part_byte-requires : goal.part_byte-requires

@@ -7,17 +7,14 @@ use Rattle.patch.proofs.runs.bound.Goals as goal
 
 pub loop-a-init : goal.loop-a-init
 loop-a-init c =
-    let s = c in
-    let a = s.args in
+    let a = c.args in
     halved_start
     (before_by_cue a.text.now a.table.now a.ptext.now a.ptable.now a.rows.now a.cues.now (decode a.name.now) a.past)
-    a.lo a.hi s.requires.0.0
+    a.lo a.hi c.requires.0.0
 
 pub stands_before-requires : goal.stands_before-requires
 stands_before-requires c =
     let p = c.requires in
-    let m = c.probe-m.ensures.1 in
-    let high = c.loop-a.invariant.high in
     (omega (arith, p.0.1), omega (arith, p.1))
 
 pub loop-a-preserved-then-stands_before : goal.loop-a-preserved-then-stands_before

@@ -15,10 +15,9 @@ returns-then-cue-ge-MET c =
 pub returns : goal.returns
 unfolding part_at
 returns c =
-    let early = c in
     let a = c.args in
     c.part_order_at.ensures
-    ∙ rw (c.key_at-key.ensures, lt-ltb (get_or a.cues.now a.i 0) met (omega (arith, early.if-cue-ge-MET.false)))
+    ∙ rw (c.key_at-key.ensures, lt-ltb (get_or a.cues.now a.i 0) met (omega (arith, c.if-cue-ge-MET.false)))
 
 pub overflow_cast-cue : goal.overflow_cast-cue
 overflow_cast-cue c = omega (arith, c.type_inv.cues c.args.i)

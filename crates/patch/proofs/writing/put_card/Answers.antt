@@ -11,8 +11,7 @@ use Rattle.patch.proofs.writing.put_card.Goals as goal
 -- the cleared words are the first n
 zeros : (c : goal.After-put_value-arg-3-1) → let a = c.args in c.clear_words.new.table ≡ replicate a.n 0
 zeros c =
-    let s = c in
-    c.clear_words.ensures ∙ ap (λ k. replicate k 0) (length-take-le s.args.n s.args.cues.now s.requires.0.1)
+    c.clear_words.ensures ∙ ap (λ k. replicate k 0) (length-take-le c.args.n c.args.cues.now c.requires.0.1)
 
 pub put_value-requires : goal.put_value-requires
 put_value-requires c =
@@ -23,8 +22,7 @@ put_value-requires c =
 -- the cleared words are the first n
 zeros_2 : (c : goal.After-slice_known-7-1) → let a = c.args in c.clear_words.new.table ≡ replicate a.n 0
 zeros_2 c =
-    let s = c in
-    c.clear_words.ensures ∙ ap (λ k. replicate k 0) (length-take-le s.args.n s.args.cues.now s.requires.0.1)
+    c.clear_words.ensures ∙ ap (λ k. replicate k 0) (length-take-le c.args.n c.args.cues.now c.requires.0.1)
 
 pub returns : goal.returns
 returns c =

@@ -8,8 +8,7 @@ use Rattle.patch.proofs.writing.put_head.Goals as goal
 
 pub returns-then-kind-eq-OBJECT : goal.returns-then-kind-eq-OBJECT
 returns-then-kind-eq-OBJECT c =
-    let early = c in
-    let a = early.args in
+    let a = c.args in
     let put-comma = c.put_comma-a in
     let if1 = c.if-kind-eq-OBJECT in
     let name_starts = c.name_start-ns in

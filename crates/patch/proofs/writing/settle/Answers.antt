@@ -42,11 +42,9 @@ follows c {parts = parts} {h = h} v m =
 
 pub returns-then-is_nothing : goal.returns-then-is_nothing
 returns-then-is_nothing c =
-    let start = c in
-    let a = start.args in
+    let a = c.args in
     let pt = a.ptext.now in
     let key = key_bytes pt a.ptable.now (get_or a.rows.now a.i 0) in
-    let after = c in
     record {
       around = set_around 0 (omega arith) (around_start a.walks.now a.i);
       is =
@@ -54,10 +52,10 @@ returns-then-is_nothing c =
           let f = follows c v m in
           let p = pointer_in pt parts h in
           let d = doc_of pt h in
-          let ends = ended_by key after.after_part.result f.0 (sym c.is_nothing.ensures ∙ c.if-is_nothing.true) in
+          let ends = ended_by key c.after_part.result f.0 (sym c.is_nothing.ensures ∙ c.if-is_nothing.true) in
           let put = rw f.1 at (c.put_addition.ensures h d v) in (
             rw (adds_lacking all p (change_of d) d f.2 ends) put,
-            get_or-set_same a.walks.now a.i 0 0 start.requires.1 ∙ sym (ap walk_code (walk_ends all (point_in pt a.rows.now parts a.i v ∙ ends))),
+            get_or-set_same a.walks.now a.i 0 0 c.requires.1 ∙ sym (ap walk_code (walk_ends all (point_in pt a.rows.now parts a.i v ∙ ends))),
           );
     }
 
@@ -81,21 +79,19 @@ follows_2 c {parts = parts} {h = h} v m =
 
 pub returns : goal.returns
 returns c =
-    let start = c in
-    let a = start.args in
+    let a = c.args in
     let pt = a.ptext.now in
     let key = key_bytes pt a.ptable.now (get_or a.rows.now a.i 0) in
-    let after = c in
     record {
       around = set_around 2 (omega arith) (around_start a.walks.now a.i);
       is =
           λ t table parts all h v m.
           let f = follows_2 c v m in
           let p = pointer_in pt parts h in
-          let goes = gone_by key after.after_part.result f.0 (sym c.is_nothing.ensures ∙ c.if-is_nothing.false) in
+          let goes = gone_by key c.after_part.result f.0 (sym c.is_nothing.ensures ∙ c.if-is_nothing.false) in
           let here = point_in pt a.rows.now parts a.i v in (
-            passed_none a.from (omega (arith, start.well_formed.1.1.1.1.1.1.0.1)) (adds_down all p (change_of (doc_of pt h)) goes.1),
-            get_or-set_same a.walks.now a.i 2 0 start.requires.1 ∙ sym (ap walk_code (ap (λ (q : Pointer). walk q (object all)) here ∙ walk_lost all f.2 goes.1)),
+            passed_none a.from (omega (arith, c.well_formed.1.1.1.1.1.1.0.1)) (adds_down all p (change_of (doc_of pt h)) goes.1),
+            get_or-set_same a.walks.now a.i 2 0 c.requires.1 ∙ sym (ap walk_code (ap (λ (q : Pointer). walk q (object all)) here ∙ walk_lost all f.2 goes.1)),
           );
     }
 

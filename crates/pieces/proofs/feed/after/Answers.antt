@@ -9,13 +9,11 @@ use Rattle.pieces.proofs.feed.after.Goals as goal
 pub returns-then-is_space : goal.returns-then-is_space
 unfolding after_of spot_at
 returns-then-is_space c =
-    let s = c in
-    let a = s.args in
-    rw (sym s.is_space.ensures ∙ c.if-is_space.true) (moved_way a.at a.h a.b 4 c.moved.result (omega arith) c.moved.ensures)
+    let a = c.args in
+    rw (sym c.is_space.ensures ∙ c.if-is_space.true) (moved_way a.at a.h a.b 4 c.moved.result (omega arith) c.moved.ensures)
 
 pub returns : goal.returns
 returns c =
-    let s = c in
-    let a = s.args in
+    let a = c.args in
     c.closes.ensures
-    ∙ sym (after_is a.at a.h.values (opened_of a.h.depth a.h.opened) a.b (sym s.is_space.ensures ∙ c.if-is_space.false))
+    ∙ sym (after_is a.at a.h.values (opened_of a.h.depth a.h.opened) a.b (sym c.is_space.ensures ∙ c.if-is_space.false))

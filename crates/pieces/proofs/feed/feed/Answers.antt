@@ -9,23 +9,17 @@ use Rattle.pieces.proofs.feed.feed.Goals as goal
 
 pub returns-then-h-lt-NUMBERS : goal.returns-then-h-lt-NUMBERS
 returns-then-h-lt-NUMBERS c =
-    let i = c in
-    let s = c in
-    let a = s.args in
+    let a = c.args in
     let h = a.h in
-    let low = i.if-h-lt-LITERALS.false in
     c.in_literal.ensures
-    ∙ feed_at a.at h a.b (literal_at (h.spot - 5)) s.requires (spot_literal h.spot h.from h.bits h.high (omega arith) i.if-h-lt-NUMBERS.true)
+    ∙ feed_at a.at h a.b (literal_at (h.spot - 5)) c.requires (spot_literal h.spot h.from h.bits h.high (omega arith) c.if-h-lt-NUMBERS.true)
 
 pub returns-then-h-lt-TEXTS : goal.returns-then-h-lt-TEXTS
 returns-then-h-lt-TEXTS c =
-    let i = c in
-    let s = c in
-    let a = s.args in
+    let a = c.args in
     let h = a.h in
-    let low = i.if-h-lt-NUMBERS.false in
     c.in_number.ensures
-    ∙ feed_at a.at h a.b (number (figure_at (h.spot - 14))) s.requires (spot_number h.spot h.from h.bits h.high (omega arith) i.if-h-lt-TEXTS.true)
+    ∙ feed_at a.at h a.b (number (figure_at (h.spot - 14))) c.requires (spot_number h.spot h.from h.bits h.high (omega arith) c.if-h-lt-TEXTS.true)
 
 pub returns-then-h-lt-LITERALS : goal.returns-then-h-lt-LITERALS
 returns-then-h-lt-LITERALS c = c.between.ensures

@@ -11,20 +11,18 @@ use Rattle.pieces.proofs.feed.in_number.Goals as goal
 pub returns-then-next-eq-AFTER : goal.returns-then-next-eq-AFTER
 unfolding on_turn
 returns-then-next-eq-AFTER c =
-    let s = c in
-    let a = s.args in
-    let next = s.turn-next.result in
-    rw (number_is a.at a.h.values (opened_of a.h.depth a.h.opened) a.b a.k next s.turn-next.ensures, eq-eqb next 4 c.if-next-eq-AFTER.true)
+    let a = c.args in
+    let next = c.turn-next.result in
+    rw (number_is a.at a.h.values (opened_of a.h.depth a.h.opened) a.b a.k next c.turn-next.ensures, eq-eqb next 4 c.if-next-eq-AFTER.true)
     c.after.ensures
 
 pub returns-then-next-lt-NUMBERS : goal.returns-then-next-lt-NUMBERS
 unfolding on_turn
 returns-then-next-lt-NUMBERS c =
-    let s = c in
-    let a = s.args in
-    let next = s.turn-next.result in
+    let a = c.args in
+    let next = c.turn-next.result in
     rw (
-      number_is a.at a.h.values (opened_of a.h.depth a.h.opened) a.b a.k next s.turn-next.ensures,
+      number_is a.at a.h.values (opened_of a.h.depth a.h.opened) a.b a.k next c.turn-next.ensures,
       ne_eqb next 4 c.if-next-eq-AFTER.false,
       lt-ltb next 14 c.if-next-lt-NUMBERS.true,
     )
@@ -33,14 +31,12 @@ returns-then-next-lt-NUMBERS c =
 pub returns-then-next-lt-TEXTS : goal.returns-then-next-lt-TEXTS
 unfolding on_turn
 returns-then-next-lt-TEXTS c =
-    let s = c in
-    let a = s.args in
+    let a = c.args in
     let h = a.h in
-    let next = s.turn-next.result in
-    let low = c.if-next-lt-NUMBERS.false in
+    let next = c.turn-next.result in
     let high = c.if-next-lt-TEXTS.true in
     rw (
-      number_is a.at h.values (opened_of h.depth h.opened) a.b a.k next s.turn-next.ensures,
+      number_is a.at h.values (opened_of h.depth h.opened) a.b a.k next c.turn-next.ensures,
       ne_eqb next 4 c.if-next-eq-AFTER.false,
       le-ltb next 14 (omega arith),
       lt-ltb next 22 high,
@@ -51,13 +47,10 @@ returns-then-next-lt-TEXTS c =
 pub returns : goal.returns
 unfolding on_turn
 returns c =
-    let s = c in
-    let a = s.args in
-    let next = s.turn-next.result in
-    let low = c.if-next-lt-NUMBERS.false in
-    let high = c.if-next-lt-TEXTS.false in
+    let a = c.args in
+    let next = c.turn-next.result in
     rw (
-      number_is a.at a.h.values (opened_of a.h.depth a.h.opened) a.b a.k next s.turn-next.ensures,
+      number_is a.at a.h.values (opened_of a.h.depth a.h.opened) a.b a.k next c.turn-next.ensures,
       ne_eqb next 4 c.if-next-eq-AFTER.false,
       le-ltb next 14 (omega arith),
       le-ltb next 22 (omega arith),

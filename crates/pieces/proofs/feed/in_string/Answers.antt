@@ -24,27 +24,22 @@ closed at n os start f g k = ap (going (at + 1) n os) (spot_plain (behind_of sta
 pub returns-then-h-first : goal.returns-then-h-first
 unfolding move_of inner_at
 returns-then-h-first c =
-    let q = c in
-    let f = c in
-    let s = c in
-    let a = s.args in
+    let a = c.args in
     let h = a.h in
-    let quote : a.b ≡ 34 = q.if-b.true in
-    let at_first : h.spot ≡ first_of h.spot = q.if-h-first.true ∙ f.first_of-first.ensures in
+    let quote : a.b ≡ 34 = c.if-b.true in
+    let at_first : h.spot ≡ first_of h.spot = c.if-h-first.true ∙ c.first_of-first.ensures in
     let zero_th : h.spot - first_of h.spot ≡ 0 = omega arith in
-    let start : c.behind.result ≡ behind_of (first_of h.spot) = c.behind.ensures ∙ ap behind_of f.first_of-first.ensures in
+    let start : c.behind.result ≡ behind_of (first_of h.spot) = c.behind.ensures ∙ ap behind_of c.first_of-first.ensures in
     let small = behind_plain (first_of h.spot) in
     moved_way a.at h a.b (behind_of (first_of h.spot)) c.moved.result (omega arith) (rw start at c.moved.ensures)
     ∙ closed a.at h.values (opened_of h.depth h.opened) (first_of h.spot) h.from h.bits h.high
-    ∙ sym (string_way a.at h a.b Closed s.requires.le_spot s.requires.going (rw (zero_th, quote)))
+    ∙ sym (string_way a.at h a.b Closed c.requires.le_spot c.requires.going (rw (zero_th, quote)))
 
 -- what the byte does
 moves : (c : goal.After-inside) → let a = c.args in
     c.step.result ≡ move_of a.at (inner_at (a.h.spot - first_of a.h.spot) a.h.from a.h.bits a.h.high) a.b
 moves c =
-    let i = c in
-    let f = c in
-    rw (← f.first_of-first.ensures, ← i.inner_at.ensures) c.step.ensures
+    rw (← c.first_of-first.ensures, ← c.inner_at.ensures) c.step.ensures
 
 -- what stands inside fits its words
 fits : (c : goal.After-inside) (s : Inner) → c.step.result ≡ Still s → InnerFits s
@@ -56,70 +51,53 @@ fits c s e =
 pub returns-in-Still : goal.returns-in-Still
 unfolding on_move
 returns-in-Still c =
-    let t = c in
-    let f = c in
-    let s = c in
-    let a = s.args in
+    let a = c.args in
     let h = a.h in
     let still = c.in-Still.is in
-    still_way a.at h a.b _ c.inside.result (fits c _ still) (rw f.first_of-first.ensures at c.inside.ensures)
-    ∙ sym (string_way a.at h a.b _ s.requires.le_spot s.requires.going (sym still ∙ moves c))
+    still_way a.at h a.b _ c.inside.result (fits c _ still) (rw c.first_of-first.ensures at c.inside.ensures)
+    ∙ sym (string_way a.at h a.b _ c.requires.le_spot c.requires.going (sym still ∙ moves c))
 
 -- what the byte does
 moves_2 : (c : goal.After-moved-in-Closed) → let a = c.args in
     c.step.result ≡ move_of a.at (inner_at (a.h.spot - first_of a.h.spot) a.h.from a.h.bits a.h.high) a.b
 moves_2 c =
-    let i = c in
-    let f = c in
-    rw (← f.first_of-first.ensures, ← i.inner_at.ensures) c.step.ensures
+    rw (← c.first_of-first.ensures, ← c.inner_at.ensures) c.step.ensures
 
 pub returns-in-Closed : goal.returns-in-Closed
 returns-in-Closed c =
-    let b = c in
-    let t = c in
-    let f = c in
-    let s = c in
-    let a = s.args in
+    let a = c.args in
     let h = a.h in
-    let start : b.behind-in-Closed.result ≡ behind_of (first_of h.spot) = b.behind-in-Closed.ensures ∙ ap behind_of f.first_of-first.ensures in
+    let start : c.behind-in-Closed.result ≡ behind_of (first_of h.spot) = c.behind-in-Closed.ensures ∙ ap behind_of c.first_of-first.ensures in
     let small = behind_plain (first_of h.spot) in
     moved_way a.at h a.b (behind_of (first_of h.spot)) c.moved-in-Closed.result (omega arith) (rw start at c.moved-in-Closed.ensures)
     ∙ closed a.at h.values (opened_of h.depth h.opened) (first_of h.spot) h.from h.bits h.high
-    ∙ sym (string_way a.at h a.b Closed s.requires.le_spot s.requires.going (sym b.in-Closed.is ∙ moves_2 c))
+    ∙ sym (string_way a.at h a.b Closed c.requires.le_spot c.requires.going (sym c.in-Closed.is ∙ moves_2 c))
 
 -- what the byte does
 moves_3 : (c : goal.After-told) → let a = c.args in
     c.step.result ≡ move_of a.at (inner_at (a.h.spot - first_of a.h.spot) a.h.from a.h.bits a.h.high) a.b
 moves_3 c =
-    let i = c in
-    let f = c in
-    rw (← f.first_of-first.ensures, ← i.inner_at.ensures) c.step.ensures
+    rw (← c.first_of-first.ensures, ← c.inner_at.ensures) c.step.ensures
 
 pub returns-in-Wrong2 : goal.returns-in-Wrong2
 unfolding on_move
 returns-in-Wrong2 c =
-    let t = c in
-    let s = c in
-    let a = s.args in
+    let a = c.args in
     refused_way a.at a.h a.b _ c.told.result c.told.ensures
-    ∙ sym (string_way a.at a.h a.b _ s.requires.le_spot s.requires.going (sym c.in-Wrong2.is ∙ moves_3 c))
+    ∙ sym (string_way a.at a.h a.b _ c.requires.le_spot c.requires.going (sym c.in-Wrong2.is ∙ moves_3 c))
 
 -- what the byte does
 moves_4 : (c : goal.After-told-in-Wrong3) → let a = c.args in
     c.step.result ≡ move_of a.at (inner_at (a.h.spot - first_of a.h.spot) a.h.from a.h.bits a.h.high) a.b
 moves_4 c =
-    let i = c in
-    let f = c in
-    rw (← f.first_of-first.ensures, ← i.inner_at.ensures) c.step.ensures
+    rw (← c.first_of-first.ensures, ← c.inner_at.ensures) c.step.ensures
 
 pub returns-in-Wrong3 : goal.returns-in-Wrong3
 unfolding on_move
 returns-in-Wrong3 c =
-    let t = c in
-    let s = c in
-    let a = s.args in
+    let a = c.args in
     character_way a.at a.h a.b _ c.told-in-Wrong3.result c.told-in-Wrong3.ensures
-    ∙ sym (string_way a.at a.h a.b _ s.requires.le_spot s.requires.going (sym c.in-Wrong3.is ∙ moves_4 c))
+    ∙ sym (string_way a.at a.h a.b _ c.requires.le_spot c.requires.going (sym c.in-Wrong3.is ∙ moves_4 c))
 
 -- the numbers of its places begin at or below its own
 below : (c : goal.After-struct_known-2-1) → (c.first_of-first.result ≤ c.args.h.spot) × (c.first_of-first.result ≤ 38)

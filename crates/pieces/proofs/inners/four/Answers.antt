@@ -17,7 +17,7 @@ pub overflow_mul-v : goal.overflow_mul-v
 overflow_mul-v c = search rules
 
 pub overflow_add-v : goal.overflow_add-v
-overflow_add-v c = let h = c.digit-d.ensures in omega (arith, digit_most c.args.b)
+overflow_add-v c = omega (arith, digit_most c.args.b)
 
 pub one_digit-requires : goal.one_digit-requires
 one_digit-requires c = search rules

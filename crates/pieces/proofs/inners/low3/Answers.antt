@@ -17,7 +17,7 @@ pub overflow_mul-w : goal.overflow_mul-w
 overflow_mul-w c = search rules
 
 pub overflow_add-w : goal.overflow_add-w
-overflow_add-w c = let h = c.digit-d.ensures in omega (arith, digit_most c.args.b)
+overflow_add-w c = omega (arith, digit_most c.args.b)
 
 pub returns : goal.returns
 unfolding move_of

@@ -23,10 +23,10 @@ pub overflow_mul-v : goal.overflow_mul-v
 overflow_mul-v c = search rules
 
 pub overflow_add-v : goal.overflow_add-v
-overflow_add-v c = let h = c.digit-d.ensures in omega (arith, digit_most c.args.b)
+overflow_add-v c = omega (arith, digit_most c.args.b)
 
 pub overflow_add-high-2 : goal.overflow_add-high-2
-overflow_add-high-2 c = let h = c.digit-d.ensures in omega (arith, digit_most c.args.b)
+overflow_add-high-2 c = omega (arith, digit_most c.args.b)
 
 pub check-requires : goal.check-requires
 check-requires c = search rules

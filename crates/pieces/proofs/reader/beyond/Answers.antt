@@ -9,14 +9,12 @@ use Rattle.pieces.proofs.reader.beyond.Goals as goal
 
 pub returns-then-h-ge-OVER : goal.returns-then-h-ge-OVER
 returns-then-h-ge-OVER c =
-    let i = c in
-    let h = i.args.h in
-    let o = at_over h.place h i.if-h-ge-OVER.true in
+    let h = c.args.h in
+    let o = at_over h.place h c.if-h-ge-OVER.true in
     c.tidy.ensures ∙ ap held_of (o ∙ sym (ap cut_off o))
 
 pub returns : goal.returns
 unfolding held_of paper refused
 returns c =
     let h = c.args.h in
-    let u = c.if-h-ge-OVER.false in
     rw (at_going h.place h (omega arith))

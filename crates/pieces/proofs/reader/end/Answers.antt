@@ -10,9 +10,8 @@ use Rattle.pieces.proofs.reader.end.Goals as goal
 pub returns-then-held-ge-OVER : goal.returns-then-held-ge-OVER
 unfolding feed
 returns-then-held-ge-OVER c =
-    let i = c in
-    let h = i.args.held in
-    let o = at_over h.place h i.if-held-ge-OVER.true in
+    let h = c.args.held in
+    let o = at_over h.place h c.if-held-ge-OVER.true in
     c.tidy.ensures ∙ ap held_of (o ∙ sym (ap (finish base) o))
 
 pub returns : goal.returns
@@ -20,7 +19,7 @@ unfolding feeds
 returns c = c.tidy-2.ensures ∙ ap held_of c.feed_all.ensures
 
 pub feed_all-requires : goal.feed_all-requires
-feed_all-requires c = let u = c.if-held-ge-OVER.false in record { text_len_bound = omega arith; going = omega arith; once = omega arith }
+feed_all-requires c = record { text_len_bound = omega arith; going = omega arith; once = omega arith }
 
 pub slice_bounds-feed_all-end : goal.slice_bounds-feed_all-end
 slice_bounds-feed_all-end c = refl

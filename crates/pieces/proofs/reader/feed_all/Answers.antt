@@ -13,107 +13,76 @@ use Rattle.pieces.proofs.reader.feed_all.Goals as goal
 
 -- behind the run
 at_run : (c : goal.After-at_place)
-    → let r = c in
-    let a = r.args in
-    After (state_of a.start) a.text.now a.start.place r.run-run.result.to c.moved-h.result
+    → let a = c.args in
+    After (state_of a.start) a.text.now a.start.place c.run-run.result.to c.moved-h.result
 at_run c =
-    let r = c in
-    let l = c in
-    let a = l.args in
-    run_at (state_of a.start) a.text.now a.start.place l.loop-start.i r.run-run.result.spot r.run-run.result.to l.loop-start.h c.moved-h.result l.loop-start.invariant.0
-    l.loop-start.invariant.2 r.run-run.ensures c.moved-h.ensures
+    let a = c.args in
+    run_at (state_of a.start) a.text.now a.start.place c.loop-start.i c.run-run.result.spot c.run-run.result.to c.loop-start.h c.moved-h.result c.loop-start.invariant.0
+    c.loop-start.invariant.2 c.run-run.ensures c.moved-h.ensures
 
 pub returns-then-to-stop : goal.returns-then-to-stop
 returns-then-to-stop c =
-    let i = c in
-    let m = c in
-    let r = c in
-    let a = r.args in
-    all_fed (state_of a.start) a.text.now a.start.place r.run-run.result.to a.last m.moved-h.result c.at_place.result r.run-run.ensures.inside
-    i.if-to-stop.true (at_run c) c.at_place.ensures
+    let a = c.args in
+    all_fed (state_of a.start) a.text.now a.start.place c.run-run.result.to a.last c.moved-h.result c.at_place.result c.run-run.ensures.inside
+    c.if-to-stop.true (at_run c) c.at_place.ensures
 
 -- behind the run
 at_run_2 : (c : goal.Then-h-ge-OVER)
-    → let r = c in
-    let a = r.args in
-    After (state_of a.start) a.text.now a.start.place r.run-run.result.to c.moved-h.result
+    → let a = c.args in
+    After (state_of a.start) a.text.now a.start.place c.run-run.result.to c.moved-h.result
 at_run_2 c =
-    let r = c in
-    let l = c in
-    let a = l.args in
-    run_at (state_of a.start) a.text.now a.start.place l.loop-start.i r.run-run.result.spot r.run-run.result.to l.loop-start.h c.moved-h.result l.loop-start.invariant.0
-    l.loop-start.invariant.2 r.run-run.ensures c.moved-h.ensures
+    let a = c.args in
+    run_at (state_of a.start) a.text.now a.start.place c.loop-start.i c.run-run.result.spot c.run-run.result.to c.loop-start.h c.moved-h.result c.loop-start.invariant.0
+    c.loop-start.invariant.2 c.run-run.ensures c.moved-h.ensures
 
 -- the byte behind it
 at_byte : (c : goal.Then-h-ge-OVER)
-    → let m = c in
-    let r = c in
-    let a = r.args in
-    state_at (a.start.place + r.run-run.result.to + 1) c.feed-h.result ≡ feed base (state_at (a.start.place + r.run-run.result.to) m.moved-h.result) (byte_at a.text.now r.run-run.result.to)
+    → let a = c.args in
+    state_at (a.start.place + c.run-run.result.to + 1) c.feed-h.result ≡ feed base (state_at (a.start.place + c.run-run.result.to) c.moved-h.result) (byte_at a.text.now c.run-run.result.to)
 at_byte c = rw (← c.peek.ensures.value) c.feed-h.ensures
 
 pub returns-then-h-ge-OVER : goal.returns-then-h-ge-OVER
 returns-then-h-ge-OVER c =
-    let f = c in
-    let i = c in
-    let m = c in
-    let r = c in
-    let a = r.args in
-    over_all (state_of a.start) a.text.now a.start.place r.run-run.result.to a.last m.moved-h.result f.feed-h.result r.run-run.ensures.inside
-    i.if-to-stop.false c.if-h-ge-OVER.true (at_run_2 c) (at_byte c)
+    let a = c.args in
+    over_all (state_of a.start) a.text.now a.start.place c.run-run.result.to a.last c.moved-h.result c.feed-h.result c.run-run.ensures.inside
+    c.if-to-stop.false c.if-h-ge-OVER.true (at_run_2 c) (at_byte c)
 
 -- the byte behind it
 at_byte_2 : (c : goal.Else-h-ge-OVER)
-    → let m = c in
-    let r = c in
-    let a = r.args in
-    state_at (a.start.place + r.run-run.result.to + 1) c.feed-h.result ≡ feed base (state_at (a.start.place + r.run-run.result.to) m.moved-h.result) (byte_at a.text.now r.run-run.result.to)
+    → let a = c.args in
+    state_at (a.start.place + c.run-run.result.to + 1) c.feed-h.result ≡ feed base (state_at (a.start.place + c.run-run.result.to) c.moved-h.result) (byte_at a.text.now c.run-run.result.to)
 at_byte_2 c = rw (← c.peek.ensures.value) c.feed-h.ensures
 
 -- where there is no answer, the byte stood in the text
 inside : (c : goal.Else-h-ge-OVER)
-    → let r = c in
-    let a = r.args in
-    r.run-run.result.to < length a.text.now
+    → let a = c.args in
+    c.run-run.result.to < length a.text.now
 inside c =
-    let f = c in
-    let m = c in
-    let r = c in
-    let a = r.args in
-    let u = c.if-h-ge-OVER.false in
-    inside_still a.text.now (a.start.place + r.run-run.result.to) r.run-run.result.to m.moved-h.result f.feed-h.result (omega arith) (at_byte_2 c)
+    let a = c.args in
+    inside_still a.text.now (a.start.place + c.run-run.result.to) c.run-run.result.to c.moved-h.result c.feed-h.result (omega arith) (at_byte_2 c)
 
 pub loop-start-smaller : goal.loop-start-smaller
 loop-start-smaller c =
-    let r = c in
-    omega (arith, inside c, r.run-run.ensures.later)
+    omega (arith, inside c, c.run-run.ensures.later)
 
 -- behind the run
 at_run_3 : (c : goal.Else-h-ge-OVER)
-    → let r = c in
-    let a = r.args in
-    After (state_of a.start) a.text.now a.start.place r.run-run.result.to c.moved-h.result
+    → let a = c.args in
+    After (state_of a.start) a.text.now a.start.place c.run-run.result.to c.moved-h.result
 at_run_3 c =
-    let r = c in
-    let l = c in
-    let a = l.args in
-    run_at (state_of a.start) a.text.now a.start.place l.loop-start.i r.run-run.result.spot r.run-run.result.to l.loop-start.h c.moved-h.result l.loop-start.invariant.0
-    l.loop-start.invariant.2 r.run-run.ensures c.moved-h.ensures
+    let a = c.args in
+    run_at (state_of a.start) a.text.now a.start.place c.loop-start.i c.run-run.result.spot c.run-run.result.to c.loop-start.h c.moved-h.result c.loop-start.invariant.0
+    c.loop-start.invariant.2 c.run-run.ensures c.moved-h.ensures
 
 pub loop-start-preserved : goal.loop-start-preserved
 loop-start-preserved c =
-    let f = c in
-    let m = c in
-    let r = c in
-    let a = r.args in
-    let u = c.if-h-ge-OVER.false in
+    let a = c.args in
     let l = inside c in
-    (omega arith, omega arith, one_more (state_of a.start) a.text.now a.start.place r.run-run.result.to m.moved-h.result f.feed-h.result l (at_run_3 c) (at_byte_2 c))
+    (omega arith, omega arith, one_more (state_of a.start) a.text.now a.start.place c.run-run.result.to c.moved-h.result c.feed-h.result l (at_run_3 c) (at_byte_2 c))
 
 pub loop-start-init : goal.loop-start-init
 loop-start-init c =
-    let s = c in
-    (s.requires.going, omega arith, none_yet (state_of s.args.start) s.args.text.now s.args.start.place s.args.start refl)
+    (c.requires.going, omega arith, none_yet (state_of c.args.start) c.args.text.now c.args.start.place c.args.start refl)
 
 pub overflow_add-stop : goal.overflow_add-stop
 overflow_add-stop c = omega (arith, c.requires.text_len_bound, c.requires.once)
@@ -123,8 +92,7 @@ run-run-requires c = record { from_in_bounds = c.loop-start.invariant.1; going =
 
 pub feed-h-requires : goal.feed-h-requires
 feed-h-requires c =
-    let m = c in
-    rw m.moved-h.ensures m.run-run.ensures.going_on
+    rw c.moved-h.ensures c.run-run.ensures.going_on
 
 -- the limit leaves room for all of the text
 room : (c : goal.After-moved-h)

@@ -19,7 +19,6 @@ words : (c : goal.After-struct_known-2-1) → let h = c.args.held in
     (100 ≤ c.tidy_answer-told.result.spot) × (numbers (c.tidy_answer-told.result.spot - 100) c.tidy_answer-told.result.from 0 ≡ answer_of (state_of h))
 words c =
     let h = c.args.held in
-    let u = c.if-held-lt-OVER.false in
     answer_is h c.tidy_answer-told.result (omega arith) c.tidy_answer-told.ensures
 
 pub overflow_sub-result : goal.overflow_sub-result
@@ -30,7 +29,6 @@ words_2 : (c : goal.After-struct_known-3-1) → let h = c.args.held in
     (100 ≤ c.tidy_answer-told.result.spot) × (numbers (c.tidy_answer-told.result.spot - 100) c.tidy_answer-told.result.from 0 ≡ answer_of (state_of h))
 words_2 c =
     let h = c.args.held in
-    let u = c.if-held-lt-OVER.false in
     answer_is h c.tidy_answer-told.result (omega arith) c.tidy_answer-told.ensures
 
 pub returns : goal.returns

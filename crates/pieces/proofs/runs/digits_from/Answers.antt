@@ -5,11 +5,9 @@ use Rattle.pieces.proofs.runs.digits_from.Goals as goal
 
 pub returns-in-16 : goal.returns-in-16
 returns-in-16 c =
-    let s = c in
-    let a = s.args in
-    rw c.digits_end.ensures (lead_digits (follows c.in-16.is) a.text.now a.from s.requires.from_in_bounds)
+    let a = c.args in
+    rw c.digits_end.ensures (lead_digits (follows c.in-16.is) a.text.now a.from c.requires.from_in_bounds)
 
 pub returns-in_default : goal.returns-in_default
 returns-in_default c =
-    let s = c in
-    lead_none s.args.spot s.args.text.now s.args.from s.requires.from_in_bounds (omega (arith, s.requires.going))
+    lead_none c.args.spot c.args.text.now c.args.from c.requires.from_in_bounds (omega (arith, c.requires.going))

@@ -6,19 +6,16 @@ use Rattle.pieces.proofs.words.tidy.Goals as goal
 -- between tokens, in a literal, in a number
 pub returns-then-h-lt-TEXTS : goal.returns-then-h-lt-TEXTS
 returns-then-h-lt-TEXTS c =
-    let kept = c in
-    rw (c.«open».ensures, kept.low_bits.ensures) (low_held kept.args.h (omega arith))
+    rw (c.«open».ensures, c.low_bits.ensures) (low_held c.args.h (omega arith))
 
 -- in a string that is a value
 pub returns-then-h-lt-KEYS : goal.returns-then-h-lt-KEYS
 returns-then-h-lt-KEYS c =
-    let kept = c in
-    rw (c.inside.ensures, kept.low_bits.ensures, c.inner_at.ensures)
-    (text_held kept.args.h (omega arith) (omega arith))
+    rw (c.inside.ensures, c.low_bits.ensures, c.inner_at.ensures)
+    (text_held c.args.h (omega arith) (omega arith))
 
 -- in a name
 pub returns : goal.returns
 returns c =
-    let kept = c in
-    rw (c.inside-2.ensures, kept.low_bits.ensures, c.inner_at-2.ensures)
-    (key_held kept.args.h (omega arith) (omega arith))
+    rw (c.inside-2.ensures, c.low_bits.ensures, c.inner_at-2.ensures)
+    (key_held c.args.h (omega arith) (omega arith))

@@ -7,16 +7,14 @@ use Rattle.pointers.proofs.keys.alike_keys.Goals as goal
 
 pub returns-then-peek-eq-TILDE : goal.returns-then-peek-eq-TILDE
 returns-then-peek-eq-TILDE c =
-    let r = c in
-    let a = r.args in
-    alike_to_tilde a.a.now a.b.now r.alike_written-k.result r.alike_written-k.ensures (omega (arith, c.if-k-eq0.false))
+    let a = c.args in
+    alike_to_tilde a.a.now a.b.now c.alike_written-k.result c.alike_written-k.ensures (omega (arith, c.if-k-eq0.false))
     (sym c.peek.ensures.value ∙ c.if-peek-eq-TILDE.true)
 
 pub returns : goal.returns
 returns c =
-    let r = c in
-    let a = r.args in
-    alike_past a.a.now a.b.now r.alike_written-k.result r.alike_written-k.ensures (omega (arith, c.if-k-eq0.false))
+    let a = c.args in
+    alike_past a.a.now a.b.now c.alike_written-k.result c.alike_written-k.ensures (omega (arith, c.if-k-eq0.false))
     (λ e. c.if-peek-eq-TILDE.false (c.peek.ensures.value ∙ e))
 
 pub alike_written-k-requires : goal.alike_written-k-requires

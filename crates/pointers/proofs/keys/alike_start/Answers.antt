@@ -1,19 +1,12 @@
 -- `pointers::keys::alike_start` meets its contract: plain bytes that both keys have (`same_plain`). Assumes nothing.
-use native.Mathlib.Omega.{arith}
 use Rattle.pointers.proofs.Laws.Beginnings.{same_plain}
 use Rattle.pointers.proofs.keys.alike_start.Goals as goal
 
 pub is_short-requires : goal.is_short-requires
 is_short-requires c = tt
 
-pub returns-then-is_short : goal.returns-then-is_short
-returns-then-is_short c = absurd (omega arith)
-
 pub is_short-requires-2 : goal.is_short-requires-2
 is_short-requires-2 c = tt
-
-pub returns-then-is_short-2 : goal.returns-then-is_short-2
-returns-then-is_short-2 c = absurd (omega arith)
 
 pub alike_plain_from-requires : goal.alike_plain_from-requires
 alike_plain_from-requires c = tt

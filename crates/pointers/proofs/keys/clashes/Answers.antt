@@ -6,17 +6,6 @@ use Rattle.text.specs.Utf8.{conts}
 use Rattle.pointers.proofs.Laws.Beginnings.{by_first}
 use Rattle.pointers.proofs.keys.clashes.Goals as goal
 
-pub returns-then-tells : goal.returns-then-tells
-unfolding conts decode_from scan piece_by
-returns-then-tells c =
-    let t = c in
-    let p = c in
-    let k = c in
-    let a = k.args in
-    c.ends_before.ensures
-    ∙ (by_first a.a.now a.b.now k.alike_keys-k.result p.peek-x.ensures t.peek-y.ensures (sym t.tells.ensures ∙ c.if-tells.true)).1
-    ∙ k.alike_keys-k.ensures.clashing
-
 pub returns : goal.returns
 unfolding conts decode_from scan piece_by
 returns c = c.parts_clash.ensures ∙ c.alike_keys-k.ensures.clashing
@@ -38,3 +27,12 @@ ends_before-requires c = tt
 
 pub parts_clash-requires : goal.parts_clash-requires
 parts_clash-requires c = tt
+
+pub returns-then-tells : goal.returns-then-tells
+unfolding conts decode_from scan piece_by
+returns-then-tells c =
+    let a = c.args in
+    c.ends_before.ensures
+    ∙ (by_first a.a.now a.b.now c.alike_keys-k.result (c.peek-x.ensures.value, c.peek-x.ensures.small)
+    (c.peek-y.ensures.value, c.peek-y.ensures.small) (sym c.tells.ensures ∙ c.if-tells.true)).1
+    ∙ c.alike_keys-k.ensures.clashing

@@ -20,8 +20,7 @@ passed c = as_tilded_past _ _ c.past_written.ensures
 
 pub returns-in_default : goal.returns-in_default
 returns-in_default c =
-    let n = c in
-    rw (← n.loop-b.invariant, ← (passed c).follows, ← n.next_byte.ensures.result_value, c.in_default.is)
+    rw (← c.loop-b.invariant, ← (passed c).follows, ← c.next_byte.ensures.result_value, c.in_default.is)
 
 -- no bad `~` stands in what is passed
 passed_2 : (c : goal.Then-not-zero_or_one) → AsTilded c.args.key.now c.loop-b.c c.past_written.result
@@ -29,9 +28,7 @@ passed_2 c = as_tilded_past _ _ c.past_written.ensures
 
 pub returns-then-not-zero_or_one : goal.returns-then-not-zero_or_one
 returns-then-not-zero_or_one c =
-    let b = c in
-    let n = c in
-    rw (← n.loop-b.invariant, ← (passed_2 c).follows, ← n.next_byte.ensures.result_value, b.in-Byte.is, c.if-b-eq126.true, ← c.zero_or_one.ensures, c.if-not-zero_or_one.true)
+    rw (← c.loop-b.invariant, ← (passed_2 c).follows, ← c.next_byte.ensures.result_value, c.in-Byte.is, c.if-b-eq126.true, ← c.zero_or_one.ensures, c.if-not-zero_or_one.true)
 
 -- no bad `~` stands in what is passed
 passed_3 : (c : goal.Else-not-zero_or_one) → AsTilded c.args.key.now c.loop-b.c c.past_written.result
@@ -39,15 +36,12 @@ passed_3 c = as_tilded_past _ _ c.past_written.ensures
 
 -- where a byte was read, less is left than the turn began with
 less : (c : goal.Else-not-zero_or_one)
-    → let l = c in
-    let key = l.args.key.now in
-    length (rest key c.in-Byte.on) < length (rest key l.loop-b.c)
+    → let key = c.args.key.now in
+    length (rest key c.in-Byte.on) < length (rest key c.loop-b.c)
 less c =
-    let n = c in
-    let k = c in
     omega (
       arith,
-      ap length (byte_left k.args.key.now k.past_written.result n.next_byte.ensures.result_value c.in-Byte.is),
+      ap length (byte_left c.args.key.now c.past_written.result c.next_byte.ensures.result_value c.in-Byte.is),
       (passed_3 c).fewer,
     )
 
@@ -56,9 +50,7 @@ loop-b-smaller-else-not-zero_or_one c = less c
 
 pub loop-b-preserved-else-not-zero_or_one : goal.loop-b-preserved-else-not-zero_or_one
 loop-b-preserved-else-not-zero_or_one c =
-    let b = c in
-    let n = c in
-    rw (← n.loop-b.invariant, ← (passed_3 c).follows, ← n.next_byte.ensures.result_value, b.in-Byte.is, c.if-b-eq126.true, ← c.zero_or_one.ensures, c.if-not-zero_or_one.false)
+    rw (← c.loop-b.invariant, ← (passed_3 c).follows, ← c.next_byte.ensures.result_value, c.in-Byte.is, c.if-b-eq126.true, ← c.zero_or_one.ensures, c.if-not-zero_or_one.false)
 
 -- no bad `~` stands in what is passed
 passed_4 : (c : goal.Else-b-eq126) → AsTilded c.args.key.now c.loop-b.c c.past_written.result
@@ -66,15 +58,12 @@ passed_4 c = as_tilded_past _ _ c.past_written.ensures
 
 -- where a byte was read, less is left than the turn began with
 less_2 : (c : goal.Else-b-eq126)
-    → let l = c in
-    let key = l.args.key.now in
-    length (rest key c.in-Byte.on) < length (rest key l.loop-b.c)
+    → let key = c.args.key.now in
+    length (rest key c.in-Byte.on) < length (rest key c.loop-b.c)
 less_2 c =
-    let n = c in
-    let k = c in
     omega (
       arith,
-      ap length (byte_left k.args.key.now k.past_written.result n.next_byte.ensures.result_value c.in-Byte.is),
+      ap length (byte_left c.args.key.now c.past_written.result c.next_byte.ensures.result_value c.in-Byte.is),
       (passed_4 c).fewer,
     )
 
@@ -83,6 +72,4 @@ loop-b-smaller c = less_2 c
 
 pub loop-b-preserved : goal.loop-b-preserved
 loop-b-preserved c =
-    let b = c in
-    let n = c in
-    rw (← n.loop-b.invariant, ← (passed_4 c).follows, ← n.next_byte.ensures.result_value, b.in-Byte.is, ne_eqb _ 126 c.if-b-eq126.false)
+    rw (← c.loop-b.invariant, ← (passed_4 c).follows, ← c.next_byte.ensures.result_value, c.in-Byte.is, ne_eqb _ 126 c.if-b-eq126.false)

@@ -6,18 +6,6 @@ use Rattle.text.specs.Utf8.{conts}
 use Rattle.pointers.proofs.Laws.Beginnings.{by_first}
 use Rattle.pointers.proofs.keys.key_order.Goals as goal
 
-pub returns-then-tells : goal.returns-then-tells
-unfolding conts decode_from scan piece_by
-returns-then-tells c =
-    let r = c in
-    let t = c in
-    let p = c in
-    let k = c in
-    let a = k.args in
-    rw (r.rank.ensures, c.rank-then-tells.ensures) at c.order_at.ensures
-    ∙ (by_first a.a.now a.b.now k.alike_keys-k.result p.peek-x.ensures t.peek-y.ensures (sym t.tells.ensures ∙ r.if-tells.true)).0
-    ∙ k.alike_keys-k.ensures.order
-
 pub returns : goal.returns
 unfolding conts decode_from scan piece_by
 returns c = c.parts_order.ensures ∙ c.alike_keys-k.ensures.order
@@ -45,3 +33,12 @@ order_at-requires c = tt
 
 pub parts_order-requires : goal.parts_order-requires
 parts_order-requires c = tt
+
+pub returns-then-tells : goal.returns-then-tells
+unfolding conts decode_from scan piece_by
+returns-then-tells c =
+    let a = c.args in
+    rw (c.rank.ensures, c.rank-then-tells.ensures) at c.order_at.ensures
+    ∙ (by_first a.a.now a.b.now c.alike_keys-k.result (c.peek-x.ensures.value, c.peek-x.ensures.small)
+    (c.peek-y.ensures.value, c.peek-y.ensures.small) (sym c.tells.ensures ∙ c.if-tells.true)).0
+    ∙ c.alike_keys-k.ensures.order

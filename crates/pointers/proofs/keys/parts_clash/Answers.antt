@@ -1,5 +1,4 @@
 -- `pointers::keys::parts_clash` meets its contract. Assumes nothing.
-use Rattle.laws.proofs.Picks.{granted, denied}
 use mathlib.Core.Path.{refl, sym, ◌∙◌}
 use Rattle.json_reader.specs.Cursors.{rest}
 use Rattle.text.specs.Utf8.{conts}
@@ -16,7 +15,7 @@ returns-then-not-part_same c =
     let a = c.args in
     let loop = c.loop-x in
     sym (clash_differ (pointer_of (rest a.a.now loop.x)) (pointer_of (rest a.b.now loop.y))
-    (sym c.part_same.ensures ∙ denied c.part_same.result c.if-not-part_same.true)) ∙ loop.invariant
+    (sym c.part_same.ensures ∙ c.if-not-part_same.true)) ∙ loop.invariant
 
 pub returns-in_default : goal.returns-in_default
 returns-in_default c =
@@ -25,7 +24,7 @@ returns-in_default c =
     let Part-same = c.part_same in
     let if1 = c.if-not-part_same in
     sym (clash_left (pointer_of (rest a.a.now loop.x)) (pointer_of (rest a.b.now loop.y))
-    (rw c.in_default.is at c.next_part.ensures.goes) (sym Part-same.ensures ∙ granted Part-same.result if1.false))
+    (rw c.in_default.is at c.next_part.ensures.goes) (sym Part-same.ensures ∙ if1.false))
     ∙ loop.invariant
 
 pub returns-in_default-next_part : goal.returns-in_default-next_part
@@ -35,7 +34,7 @@ returns-in_default-next_part c =
     let Part-same = c.part_same in
     let if1 = c.if-not-part_same in
     sym (clash_right (pointer_of (rest a.a.now loop.x)) (pointer_of (rest a.b.now loop.y))
-    (rw c.in_default-next_part.is at c.next_part-in-loop-x.ensures.goes) (sym Part-same.ensures ∙ granted Part-same.result if1.false))
+    (rw c.in_default-next_part.is at c.next_part-in-loop-x.ensures.goes) (sym Part-same.ensures ∙ if1.false))
     ∙ loop.invariant
 
 pub loop-x-smaller : goal.loop-x-smaller
@@ -43,7 +42,6 @@ loop-x-smaller c =
     let a = c.args in
     let loop = c.loop-x in
     let next-part = c.next_part in
-    let x2 = c.x2-1 in
     fewer (pointer_of (rest a.a.now loop.x)) (rw c.in-Part.is at next-part.ensures.goes)
 
 pub loop-x-preserved : goal.loop-x-preserved
@@ -53,7 +51,6 @@ loop-x-preserved c =
     let Part-same = c.part_same in
     let if1 = c.if-not-part_same in
     let next-part = c.next_part in
-    let x2 = c.x2-1 in
     let next-part2 = c.next_part-in-loop-x in
     sym (clash_on (pointer_of (rest a.a.now loop.x)) (pointer_of (rest a.b.now loop.y)) (rw c.in-Part.is at next-part.ensures.goes)
-    (rw c.in-Part-next_part.is at next-part2.ensures.goes) (sym Part-same.ensures ∙ granted Part-same.result if1.false)) ∙ loop.invariant
+    (rw c.in-Part-next_part.is at next-part2.ensures.goes) (sym Part-same.ensures ∙ if1.false)) ∙ loop.invariant

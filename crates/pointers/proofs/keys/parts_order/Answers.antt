@@ -30,9 +30,7 @@ returns-in-Last-next_part c =
     let a = c.args in
     let loop = c.loop-x2 in
     let part-order = c.part_order in
-    let enum-told3 = c.enum_told-in-Same-1 in
     let next-part = c.next_part in
-    let enum-told4 = c.enum_told-in-Last-1 in
     sym (order_ends (pointer_of (rest a.a.now loop.x)) (pointer_of (rest a.b.now loop.y))
     (sym part-order.ensures ∙ c.in-Same.is) (rw c.in-Last.is at next-part.ensures.goes)
     (rw c.in-Last-next_part.is at c.next_part-in-Last.ensures.goes)) ∙ loop.invariant
@@ -42,9 +40,7 @@ returns-in-Part-next_part c =
     let a = c.args in
     let loop = c.loop-x2 in
     let part-order = c.part_order in
-    let enum-told3 = c.enum_told-in-Same-1 in
     let next-part = c.next_part in
-    let enum-told4 = c.enum_told-in-Last-1 in
     sym (order_left (pointer_of (rest a.a.now loop.x)) (pointer_of (rest a.b.now loop.y))
     (sym part-order.ensures ∙ c.in-Same.is) (rw c.in-Last.is at next-part.ensures.goes)
     (rw c.in-Part-next_part.is at c.next_part-in-Last.ensures.goes)) ∙ loop.invariant
@@ -54,31 +50,24 @@ returns-in-Last-next_part-2 c =
     let a = c.args in
     let loop = c.loop-x2 in
     let part-order = c.part_order in
-    let enum-told3 = c.enum_told-in-Same-1 in
     let next-part = c.next_part in
-    let x2 = c.x2-1 in
     sym (order_right (pointer_of (rest a.a.now loop.x)) (pointer_of (rest a.b.now loop.y))
     (sym part-order.ensures ∙ c.in-Same.is) (rw c.in-Part.is at next-part.ensures.goes)
     (rw c.in-Last-next_part-2.is at c.next_part-in-Part.ensures.goes)) ∙ loop.invariant
 
 pub loop-x2-smaller : goal.loop-x2-smaller
 loop-x2-smaller c =
-    let early = c in
-    let a = early.args in
+    let a = c.args in
     let loop = c.loop-x2 in
     let next-part = c.next_part in
-    let x2 = c.x2-1 in
     fewer (pointer_of (rest a.a.now loop.x)) (rw c.in-Part.is at next-part.ensures.goes)
 
 pub loop-x2-preserved : goal.loop-x2-preserved
 loop-x2-preserved c =
-    let early = c in
-    let a = early.args in
+    let a = c.args in
     let loop = c.loop-x2 in
     let part-order = c.part_order in
-    let enum-told3 = c.enum_told-in-Same-1 in
     let next-part = c.next_part in
-    let x2 = c.x2-1 in
     let next-part3 = c.next_part-in-Part in
     sym (order_on (pointer_of (rest a.a.now loop.x)) (pointer_of (rest a.b.now loop.y))
     (sym part-order.ensures ∙ c.in-Same.is) (rw c.in-Part.is at next-part.ensures.goes)

@@ -2,62 +2,10 @@
 use mathlib.Core.Path.{◌≡◌}
 use mathlib.Core.List.{◌∷◌}
 use native.Mathlib.Omega.{arith}
-use Rattle.laws.proofs.Picks.{granted, denied}
 use Rattle.json_reader.specs.Cursors.{rest, cursor}
 use Rattle.json_reader.proofs.Unread.{byte_left}
 use Rattle.pointers.proofs.Laws.Glyphs.{slash_read, name_read, part_read}
 use Rattle.pointers.proofs.parts.coded_at.Goals as goal
-
--- the byte that is read stands before all that the cursor has left
-read : (c : goal.Then-not-part)
-    → let a = c.args in
-    rest a.key.now (cursor a.at 0 0) ≡ c.in-Byte.b ∷ rest a.key.now c.in-Byte.on
-read c =
-    let n = c in
-    let a = n.args in
-    rw n.cursor_at.ensures at (byte_left a.key.now n.cursor_at.result n.next_byte.ensures.result_value c.in-Byte.is)
-
-pub returns-then-not-part : goal.returns-then-not-part
-returns-then-not-part c =
-    let i = c in
-    let k = c in
-    let a = k.args in
-    rw (denied a.part c.if-not-part.true)
-    (name_read a.key.now a.at k.in-Byte.b k.in-Byte.on (read c) (omega arith) i.if-on-ne0.false (omega arith) (omega arith))
-
--- the byte that is read stands before all that the cursor has left
-read_2 : (c : goal.Then-value-eq-SLASH)
-    → let a = c.args in
-    rest a.key.now (cursor a.at 0 0) ≡ c.in-Byte.b ∷ rest a.key.now c.in-Byte.on
-read_2 c =
-    let n = c in
-    let a = n.args in
-    rw n.cursor_at.ensures at (byte_left a.key.now n.cursor_at.result n.next_byte.ensures.result_value c.in-Byte.is)
-
-pub returns-then-value-eq-SLASH : goal.returns-then-value-eq-SLASH
-returns-then-value-eq-SLASH c =
-    let i = c in
-    let k = c in
-    let a = k.args in
-    rw (granted a.part c.if-not-part.false) (slash_read a.key.now a.at k.in-Byte.b k.in-Byte.on (read_2 c) c.if-value-eq-SLASH.true)
-
--- the byte that is read stands before all that the cursor has left
-read_3 : (c : goal.Else-value-eq-TILDE)
-    → let a = c.args in
-    rest a.key.now (cursor a.at 0 0) ≡ c.in-Byte.b ∷ rest a.key.now c.in-Byte.on
-read_3 c =
-    let n = c in
-    let a = n.args in
-    rw n.cursor_at.ensures at (byte_left a.key.now n.cursor_at.result n.next_byte.ensures.result_value c.in-Byte.is)
-
-pub returns : goal.returns
-returns c =
-    let i = c in
-    let k = c in
-    let a = k.args in
-    rw (granted a.part c.if-not-part.false)
-    (part_read a.key.now a.at k.in-Byte.b k.in-Byte.on (read_3 c) (omega arith) i.if-on-ne0.false (omega arith) (omega arith)
-    c.if-value-eq-SLASH.false c.if-value-eq-TILDE.false)
 
 pub cursor_at-requires : goal.cursor_at-requires
 cursor_at-requires c = tt
@@ -94,3 +42,27 @@ untold-requires-then-value-eq-TILDE c = tt
 
 pub returns-then-value-eq-TILDE : goal.returns-then-value-eq-TILDE
 returns-then-value-eq-TILDE c = c.untold-then-value-eq-TILDE.ensures _ _ _
+
+pub returns-then-not-part : goal.returns-then-not-part
+returns-then-not-part c =
+    let a = c.args in
+    let read : rest a.key.now (cursor a.at 0 0) ≡ c.in-Byte.b ∷ rest a.key.now c.in-Byte.on =
+    rw c.cursor_at.ensures at (byte_left a.key.now c.cursor_at.result c.next_byte.ensures.result_value c.in-Byte.is) in
+    rw c.if-not-part.true
+    (name_read a.key.now a.at c.in-Byte.b c.in-Byte.on read (omega arith) c.if-on-ne0.false (omega arith) (omega arith))
+
+pub returns-then-value-eq-SLASH : goal.returns-then-value-eq-SLASH
+returns-then-value-eq-SLASH c =
+    let a = c.args in
+    let read : rest a.key.now (cursor a.at 0 0) ≡ c.in-Byte.b ∷ rest a.key.now c.in-Byte.on =
+    rw c.cursor_at.ensures at (byte_left a.key.now c.cursor_at.result c.next_byte.ensures.result_value c.in-Byte.is) in
+    rw c.if-not-part.false (slash_read a.key.now a.at c.in-Byte.b c.in-Byte.on read c.if-value-eq-SLASH.true)
+
+pub returns : goal.returns
+returns c =
+    let a = c.args in
+    let read : rest a.key.now (cursor a.at 0 0) ≡ c.in-Byte.b ∷ rest a.key.now c.in-Byte.on =
+    rw c.cursor_at.ensures at (byte_left a.key.now c.cursor_at.result c.next_byte.ensures.result_value c.in-Byte.is) in
+    rw c.if-not-part.false
+    (part_read a.key.now a.at c.in-Byte.b c.in-Byte.on read (omega arith) c.if-on-ne0.false (omega arith) (omega arith)
+    c.if-value-eq-SLASH.false c.if-value-eq-TILDE.false)

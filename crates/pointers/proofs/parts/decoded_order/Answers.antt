@@ -15,7 +15,6 @@ unfolding order_of
 returns-in-Over-name_byte c =
     let loop = c.loop-p in
     let name-byte = c.name_byte in
-    let enum_told = c.enum_told-1 in
     rw (← loop.invariant, ← name-byte.ensures, c.in-Over.is, ← c.name_byte-in-Over.ensures, c.in-Over-name_byte.is)
 
 pub returns-in-Byte-name_byte : goal.returns-in-Byte-name_byte
@@ -23,7 +22,6 @@ unfolding order_of
 returns-in-Byte-name_byte c =
     let loop = c.loop-p in
     let name-byte = c.name_byte in
-    let enum_told = c.enum_told-1 in
     rw (← loop.invariant, ← name-byte.ensures, c.in-Over.is, ← c.name_byte-in-Over.ensures, c.in-Byte-name_byte.is)
 
 pub returns-in-Over-name_byte-2 : goal.returns-in-Over-name_byte-2
@@ -31,7 +29,6 @@ unfolding order_of
 returns-in-Over-name_byte-2 c =
     let loop = c.loop-p in
     let name-byte = c.name_byte in
-    let p = c.p-1 in
     rw (← loop.invariant, ← name-byte.ensures, c.in-Byte.is, ← c.name_byte-in-Byte.ensures, c.in-Over-name_byte-2.is)
 
 pub returns-then-p-q : goal.returns-then-p-q
@@ -39,7 +36,6 @@ unfolding order_of
 returns-then-p-q c =
     let loop = c.loop-p in
     let name-byte = c.name_byte in
-    let p = c.p-1 in
     let name-byte3 = c.name_byte-in-Byte in
     rw (← loop.invariant, ← name-byte.ensures, c.in-Byte.is, ← name-byte3.ensures, c.in-Byte-name_byte-2.is) (search picks)
 
@@ -48,17 +44,13 @@ unfolding order_of
 returns-then-q-p c =
     let loop = c.loop-p in
     let name-byte = c.name_byte in
-    let p = c.p-1 in
     let name-byte3 = c.name_byte-in-Byte in
-    let q = c.q-1 in
     rw (← loop.invariant, ← name-byte.ensures, c.in-Byte.is, ← name-byte3.ensures, c.in-Byte-name_byte-2.is) (search picks)
 
 pub loop-p-smaller : goal.loop-p-smaller
 loop-p-smaller c =
     let a = c.args in
-    let loop = c.loop-p in
     let name-byte = c.name_byte in
-    let p = c.p-1 in
     omega (arith, ap length (sym name-byte.ensures ∙ ap (name_unread a.part a.key.now) c.in-Byte.is))
 
 pub loop-p-preserved : goal.loop-p-preserved
@@ -66,7 +58,5 @@ unfolding order_of
 loop-p-preserved c =
     let loop = c.loop-p in
     let name-byte = c.name_byte in
-    let p = c.p-1 in
     let name-byte3 = c.name_byte-in-Byte in
-    let q = c.q-1 in
     rw (← loop.invariant, ← name-byte.ensures, c.in-Byte.is, ← name-byte3.ensures, c.in-Byte-name_byte-2.is) (search picks)

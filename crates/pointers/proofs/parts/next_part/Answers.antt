@@ -33,7 +33,7 @@ returns-then-b-eq47 c =
     let next_byte = c.next_byte in
     let run = passed_2 c in
     let loop = c.loop-b in
-    let b = c.b-1 in record { goes = goes _ _ (rw (← loop.invariant.0, ← run.follows, ← next_byte.ensures.result_value, c.in-Byte.is, c.if-b-eq47.true)); is = loop.invariant.1 _ (run.leads _ (at_slash (sym next_byte.ensures.is ∙ c.in-Byte.is ∙ ap (λ n. Byte n c.in-Byte.on) c.if-b-eq47.true))) }
+    record { goes = goes _ _ (rw (← loop.invariant.0, ← run.follows, ← next_byte.ensures.result_value, c.in-Byte.is, c.if-b-eq47.true)); is = loop.invariant.1 _ (run.leads _ (at_slash (sym next_byte.ensures.is ∙ c.in-Byte.is ∙ ap (λ n. Byte n c.in-Byte.on) c.if-b-eq47.true))) }
 
 -- what is passed stays in the part
 passed_3 : (c : goal.Else-b-eq47) → Later c.args.key.now c.loop-b.c c.past_written.result
@@ -52,7 +52,6 @@ loop-b-preserved c =
     let run = passed_3 c in
     let loop = c.loop-b in
     let a = c.args in
-    let b = c.b-1 in
     let slash = c.if-b-eq47.false in (
       rw (← loop.invariant.0, ← run.follows, ← next_byte.ensures.result_value, c.in-Byte.is) (sym (tail_on _ (rest a.key.now c.in-Byte.on) slash)),
       λ r x. loop.invariant.1 r (run.leads r (past (sym next_byte.ensures.is ∙ c.in-Byte.is) slash x)),

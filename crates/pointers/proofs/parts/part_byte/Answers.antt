@@ -24,7 +24,6 @@ pub returns-then-b-eq126 : goal.returns-then-b-eq126
 unfolding part_by
 returns-then-b-eq126 c =
     let next_byte = c.next_byte in
-    let b = c.b-1 in
     let tilde = c.if-b-eq126.true in record { result_value = rw (← next_byte.ensures.result_value, c.in-Byte.is, tilde) (c.tilde_byte.ensures.result_value ∙ sym (part_tilde _)); is = rw (← next_byte.ensures.is, c.in-Byte.is, tilde) c.tilde_byte.ensures.is }
 
 pub returns : goal.returns
@@ -32,6 +31,5 @@ unfolding part_by
 returns c =
     let a = c.args in
     let next_byte = c.next_byte in
-    let b = c.b-1 in
     let slash = c.if-b-eq47.false in
     let tilde = c.if-b-eq126.false in record { result_value = rw (← next_byte.ensures.result_value, c.in-Byte.is) (sym (part_plain _ (rest a.key.now c.in-Byte.on) slash tilde)); is = rw (← next_byte.ensures.is, c.in-Byte.is, ne_eqb _ 47 slash, ne_eqb _ 126 tilde) }

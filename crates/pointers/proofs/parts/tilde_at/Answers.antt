@@ -5,23 +5,20 @@ use Rattle.pointers.proofs.Laws.Glyphs.{tilde_inside, tilde_one, tilde_zero, til
 use Rattle.pointers.proofs.parts.tilde_at.Goals as goal
 
 pub overflow_add-at : goal.overflow_add-at
-overflow_add-at c = let s = c in omega (arith, tilde_inside s.args.key.now s.args.at s.requires)
+overflow_add-at c = omega (arith, tilde_inside c.args.key.now c.args.at c.requires)
 
 pub returns-then-b-eq-ONE : goal.returns-then-b-eq-ONE
 returns-then-b-eq-ONE c =
-    let s = c in
-    tilde_one s.args.key.now s.args.at s.requires (sym c.peek-b.ensures.value ∙ c.if-b-eq-ONE.true)
+    tilde_one c.args.key.now c.args.at c.requires (sym c.peek-b.ensures.value ∙ c.if-b-eq-ONE.true)
 
 pub returns-then-b-eq-ZERO : goal.returns-then-b-eq-ZERO
 returns-then-b-eq-ZERO c =
-    let s = c in
-    tilde_zero s.args.key.now s.args.at s.requires (sym c.peek-b.ensures.value ∙ c.if-b-eq-ZERO.true)
+    tilde_zero c.args.key.now c.args.at c.requires (sym c.peek-b.ensures.value ∙ c.if-b-eq-ZERO.true)
 
 pub returns : goal.returns
 returns c =
     let p = c.peek-b in
-    let s = c in
-    tilde_alone s.args.key.now s.args.at s.requires (omega (arith, p.ensures.value, p.ensures.small)) (λ z. c.if-b-eq-ONE.false (p.ensures.value ∙ z))
+    tilde_alone c.args.key.now c.args.at c.requires (omega (arith, p.ensures.value, p.ensures.small)) (λ z. c.if-b-eq-ONE.false (p.ensures.value ∙ z))
     (λ z. c.if-b-eq-ZERO.false (p.ensures.value ∙ z)) (λ z. c.if-b-eq-BACKSLASH.false (p.ensures.value ∙ z))
 
 pub peek-b-requires : goal.peek-b-requires

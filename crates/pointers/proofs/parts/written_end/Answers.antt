@@ -10,14 +10,12 @@ use Rattle.pointers.specs.Parts.{no_byte, one_more}
 use Rattle.pointers.proofs.parts.written_end.Goals as goal
 
 -- a byte stands at the place
-byte : (c : goal.Else-b-eq-OVER) → let l = c in byte_at l.args.key.now l.loop-from.at < 256
+byte : (c : goal.Else-b-eq-OVER) → byte_at c.args.key.now c.loop-from.at < 256
 byte c = let p = c.peek-b in omega (arith, p.ensures.value, p.ensures.small)
 
 pub loop-from-preserved : goal.loop-from-preserved
 loop-from-preserved c =
-    let k = c in
-    let l = c in
-    one_more l.loop-from.invariant (byte c) (λ z. c.if-b-eq-BACKSLASH.false (k.peek-b.ensures.value ∙ z)) (λ z. c.if-b-stop.false (k.peek-b.ensures.value ∙ z))
+    one_more c.loop-from.invariant (byte c) (λ z. c.if-b-eq-BACKSLASH.false (c.peek-b.ensures.value ∙ z)) (λ z. c.if-b-stop.false (c.peek-b.ensures.value ∙ z))
 
 pub loop-from-init : goal.loop-from-init
 loop-from-init c = no_byte
@@ -34,8 +32,8 @@ returns-then-b-eq-BACKSLASH c = c.loop-from.invariant
 pub returns-then-b-eq-OVER : goal.returns-then-b-eq-OVER
 returns-then-b-eq-OVER c = c.loop-from.invariant
 
-in_key : (c : goal.Else-b-eq-OVER) → let l = c in l.loop-from.at < length l.args.key.now
-in_key c = let l = c in inside l.args.key.now l.loop-from.at (byte c)
+in_key : (c : goal.Else-b-eq-OVER) → c.loop-from.at < length c.args.key.now
+in_key c = inside c.args.key.now c.loop-from.at (byte c)
 
 pub overflow_add-at : goal.overflow_add-at
 overflow_add-at c = omega (arith, in_key c)

@@ -1,87 +1,49 @@
 -- `pointers::parts::written_order` meets its contract: the order of what is left at the two places is that of what was left at first. Each turn passes
 -- what they have in common and reads a glyph of each, and the laws of two glyphs say what follows. The measure is what is left of the part. Assumes nothing.
 use Prim.Native.Nat.{◌+◌, ◌<◌, ◌≤◌}
-use mathlib.Core.Path.{◌≡◌, refl, ap, ◌∙◌}
+use mathlib.Core.Path.{refl, ap, ◌∙◌}
 use native.Mathlib.Omega.{arith}
 use lib.ListN.{length}
-use Rattle.laws.specs.Order.{order_of}
-use Rattle.pointers.specs.Parts.{left_at}
 use Rattle.pointers.proofs.Laws.Glyphs.{shown_order, shown_ends, shown_on}
 use Rattle.pointers.proofs.parts.written_order.Goals as goal
 
 pub overflow_add-i : goal.overflow_add-i
 overflow_add-i c =
-    let l = c in
-    let g = l.well_formed in
-    omega (arith, c.alike_from-run.ensures.first, l.loop-p.invariant.1, g.1.0.0, g.1.1.0)
+    let g = c.well_formed in
+    omega (arith, c.alike_from-run.ensures.first, c.loop-p.invariant.1, g.1.0.0, g.1.1.0)
 
 pub overflow_add-j : goal.overflow_add-j
 overflow_add-j c =
-    let l = c in
-    let g = l.well_formed in
-    omega (arith, c.alike_from-run.ensures.second, l.loop-p.invariant.2, g.1.1.1.1.0.0, g.1.1.1.1.1.0)
-
--- behind what they have in common the order is still that from the start
-passed : (c : goal.After-decoded_order)
-    → let a = c.args in
-    order_of (left_at a.part a.key.now (c.loop-p.i + c.alike_from-run.result)) (left_at a.is-part a.name.now (c.loop-p.j + c.alike_from-run.result))
-    ≡ order_of (left_at a.part a.key.now a.from) (left_at a.is-part a.name.now a.name-from)
-passed c = let a = c.args in c.alike_from-run.ensures.ordered a.part a.is-part ∙ c.loop-p.invariant.0
+    let g = c.well_formed in
+    omega (arith, c.alike_from-run.ensures.second, c.loop-p.invariant.2, g.1.1.1.1.0.0, g.1.1.1.1.1.0)
 
 pub returns-then-x-eq-CODED : goal.returns-then-x-eq-CODED
 returns-then-x-eq-CODED c =
     c.decoded_order.ensures
-    ∙ rw (c.cursor_at.ensures, c.cursor_at-then-x-eq-CODED.ensures) (passed c)
-
--- behind what they have in common the order is still that from the start
-passed_2 : (c : goal.After-decoded_order-then-y-eq-CODED)
-    → let a = c.args in
-    order_of (left_at a.part a.key.now (c.loop-p.i + c.alike_from-run.result)) (left_at a.is-part a.name.now (c.loop-p.j + c.alike_from-run.result))
-    ≡ order_of (left_at a.part a.key.now a.from) (left_at a.is-part a.name.now a.name-from)
-passed_2 c = let a = c.args in c.alike_from-run.ensures.ordered a.part a.is-part ∙ c.loop-p.invariant.0
+    ∙ rw (c.cursor_at.ensures, c.cursor_at-then-x-eq-CODED.ensures)
+    (c.alike_from-run.ensures.ordered c.args.part c.args.is_part ∙ c.loop-p.invariant.0)
 
 pub returns-then-y-eq-CODED : goal.returns-then-y-eq-CODED
 returns-then-y-eq-CODED c =
     c.decoded_order-then-y-eq-CODED.ensures
-    ∙ rw (c.cursor_at-then-y-eq-CODED.ensures, c.cursor_at-then-y-eq-CODED-2.ensures) (passed_2 c)
-
--- behind what they have in common the order is still that from the start
-passed_3 : (c : goal.After-order_at)
-    → let a = c.args in
-    order_of (left_at a.part a.key.now (c.loop-p.i + c.alike_from-run.result)) (left_at a.is-part a.name.now (c.loop-p.j + c.alike_from-run.result))
-    ≡ order_of (left_at a.part a.key.now a.from) (left_at a.is-part a.name.now a.name-from)
-passed_3 c = let a = c.args in c.alike_from-run.ensures.ordered a.part a.is-part ∙ c.loop-p.invariant.0
+    ∙ rw (c.cursor_at-then-y-eq-CODED.ensures, c.cursor_at-then-y-eq-CODED-2.ensures)
+    (c.alike_from-run.ensures.ordered c.args.part c.args.is_part ∙ c.loop-p.invariant.0)
 
 pub returns-then-x-y : goal.returns-then-x-y
 returns-then-x-y c =
-    let q = c in
-    let p = c in
-    let k = c in
-    let l = c in
-    let a = l.args in
+    let a = c.args in
     c.order_at.ensures
-    ∙ shown_order a.key.now a.name.now a.part a.is-part (l.loop-p.i + k.alike_from-run.result) (l.loop-p.j + k.alike_from-run.result)
-    p.glyph_at-p.result q.glyph_at-q.result p.glyph_at-p.ensures q.glyph_at-q.ensures c.if-x-eq-CODED.false
+    ∙ shown_order a.key.now a.name.now a.part a.is_part (c.loop-p.i + c.alike_from-run.result) (c.loop-p.j + c.alike_from-run.result)
+    c.glyph_at-p.result c.glyph_at-q.result c.glyph_at-p.ensures c.glyph_at-q.ensures c.if-x-eq-CODED.false
     c.if-y-eq-CODED.false c.if-x-y.true
-    ∙ passed_3 c
-
--- behind what they have in common the order is still that from the start
-passed_4 : (c : goal.Then-x-eq-OVER)
-    → let a = c.args in
-    order_of (left_at a.part a.key.now (c.loop-p.i + c.alike_from-run.result)) (left_at a.is-part a.name.now (c.loop-p.j + c.alike_from-run.result))
-    ≡ order_of (left_at a.part a.key.now a.from) (left_at a.is-part a.name.now a.name-from)
-passed_4 c = let a = c.args in c.alike_from-run.ensures.ordered a.part a.is-part ∙ c.loop-p.invariant.0
+    ∙ c.alike_from-run.ensures.ordered c.args.part c.args.is_part ∙ c.loop-p.invariant.0
 
 pub returns-then-x-eq-OVER : goal.returns-then-x-eq-OVER
 returns-then-x-eq-OVER c =
-    let q = c in
-    let p = c in
-    let k = c in
-    let l = c in
-    let a = l.args in
-    shown_ends a.key.now a.name.now a.part a.is-part (l.loop-p.i + k.alike_from-run.result) (l.loop-p.j + k.alike_from-run.result)
-    p.glyph_at-p.result q.glyph_at-q.result p.glyph_at-p.ensures q.glyph_at-q.ensures c.if-x-y.false c.if-x-eq-OVER.true
-    ∙ passed_4 c
+    let a = c.args in
+    shown_ends a.key.now a.name.now a.part a.is_part (c.loop-p.i + c.alike_from-run.result) (c.loop-p.j + c.alike_from-run.result)
+    c.glyph_at-p.result c.glyph_at-q.result c.glyph_at-p.ensures c.glyph_at-q.ensures c.if-x-y.false c.if-x-eq-OVER.true
+    ∙ c.alike_from-run.ensures.ordered c.args.part c.args.is_part ∙ c.loop-p.invariant.0
 
 -- a byte is shown, and not the end
 byte : (c : goal.After-struct_known-1) → c.glyph_at-p.result.value < 256
@@ -89,9 +51,7 @@ byte c = omega (arith, c.glyph_at-p.ensures.most)
 
 -- the glyphs stand in their bytes
 within_key : (c : goal.After-struct_known-1)
-    → let p = c in
-    let k = c in
-    k.loop-p.i + k.alike_from-run.result + p.glyph_at-p.result.len ≤ length k.args.key.now
+    → c.loop-p.i + c.alike_from-run.result + c.glyph_at-p.result.len ≤ length c.args.key.now
 within_key c = c.glyph_at-p.ensures.within (byte c)
 
 pub overflow_add-i-in-loop-p : goal.overflow_add-i-in-loop-p
@@ -102,49 +62,24 @@ byte_2 : (c : goal.After-struct_known-in-loop-p-1) → c.glyph_at-p.result.value
 byte_2 c = omega (arith, c.glyph_at-p.ensures.most)
 
 within_name : (c : goal.After-struct_known-in-loop-p-1)
-    → let q = c in
-    let k = c in
-    k.loop-p.j + k.alike_from-run.result + q.glyph_at-q.result.len ≤ length k.args.name.now
+    → c.loop-p.j + c.alike_from-run.result + c.glyph_at-q.result.len ≤ length c.args.name.now
 within_name c = c.glyph_at-q.ensures.within (omega (arith, byte_2 c, c.if-x-y.false))
 
 pub overflow_add-j-in-loop-p : goal.overflow_add-j-in-loop-p
 overflow_add-j-in-loop-p c =
-    let e = c in
-    omega (arith, within_name c, e.well_formed.1.1.1.1.0.0)
+    omega (arith, within_name c, c.well_formed.1.1.1.1.0.0)
 
 pub loop-p-smaller : goal.loop-p-smaller
 loop-p-smaller c =
-    let e = c in
-    let p = c in
-    let k = c in
-    omega (arith, ap length (p.glyph_at-p.ensures.byte (byte_2 c)), k.alike_from-run.ensures.fewer k.args.part)
-
--- behind what they have in common the order is still that from the start
-passed_5 : (c : goal.After-struct_known-in-loop-p-1)
-    → let a = c.args in
-    order_of (left_at a.part a.key.now (c.loop-p.i + c.alike_from-run.result)) (left_at a.is-part a.name.now (c.loop-p.j + c.alike_from-run.result))
-    ≡ order_of (left_at a.part a.key.now a.from) (left_at a.is-part a.name.now a.name-from)
-passed_5 c = let a = c.args in c.alike_from-run.ensures.ordered a.part a.is-part ∙ c.loop-p.invariant.0
-
--- the glyphs stand in their bytes
-within_key_2 : (c : goal.After-struct_known-in-loop-p-1)
-    → let p = c in
-    let k = c in
-    k.loop-p.i + k.alike_from-run.result + p.glyph_at-p.result.len ≤ length k.args.key.now
-within_key_2 c = c.glyph_at-p.ensures.within (byte_2 c)
+    omega (arith, ap length (c.glyph_at-p.ensures.byte (byte_2 c)), c.alike_from-run.ensures.fewer c.args.part)
 
 pub loop-p-preserved : goal.loop-p-preserved
 loop-p-preserved c =
-    let e = c in
-    let q = c in
-    let p = c in
-    let k = c in
-    let l = c in
-    let a = l.args in (
-      shown_on a.key.now a.name.now a.part a.is-part (l.loop-p.i + k.alike_from-run.result) (l.loop-p.j + k.alike_from-run.result)
-          p.glyph_at-p.result q.glyph_at-q.result p.glyph_at-p.ensures q.glyph_at-q.ensures e.if-x-y.false (byte_2 c)
-          ∙ passed_5 c,
-      omega (arith, within_key_2 c),
+    let a = c.args in (
+      shown_on a.key.now a.name.now a.part a.is_part (c.loop-p.i + c.alike_from-run.result) (c.loop-p.j + c.alike_from-run.result)
+          c.glyph_at-p.result c.glyph_at-q.result c.glyph_at-p.ensures c.glyph_at-q.ensures c.if-x-y.false (byte_2 c)
+          ∙ c.alike_from-run.ensures.ordered c.args.part c.args.is_part ∙ c.loop-p.invariant.0,
+      omega (arith, c.glyph_at-p.ensures.within (byte_2 c)),
       omega (arith, within_name c),
     )
 

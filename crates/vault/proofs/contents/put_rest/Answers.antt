@@ -15,15 +15,13 @@ shape_of-out-in_default c = left_length c.loop-b.invariant
 pub returns-in_default : goal.returns-in_default
 unfolding conts
 returns-in_default c =
-    let l = c in
     let a = c.args in
-    let none = none_left a.inner.now l.loop-b.c c.next_byte.ensures.result_value c.in_default.is in
-    let long = left_length l.loop-b.invariant in
-    rw c.cursor_at-c.ensures at (left_last [] (left_as none l.loop-b.invariant) (wrote_none l.loop-b.p (omega arith)))
+    let none = none_left a.inner.now c.loop-b.c c.next_byte.ensures.result_value c.in_default.is in
+    let long = left_length c.loop-b.invariant in
+    rw c.cursor_at-c.ensures at (left_last [] (left_as none c.loop-b.invariant) (wrote_none c.loop-b.p (omega arith)))
 
 -- the byte that is handed out, and those after it
 handed : (c : goal.After-slice_known-in-loop-b-1) → let inner = c.args.inner.now in
-    let b = c.b-1.given.0 in
     rest inner c.loop-b.c ≡ c.in-Byte.b ∷ rest inner c.in-Byte.on
 handed c = byte_left c.args.inner.now c.loop-b.c c.next_byte.ensures.result_value c.in-Byte.is
 
@@ -32,7 +30,6 @@ loop-b-smaller c = omega (arith, ap length (handed c))
 
 pub loop-b-preserved : goal.loop-b-preserved
 loop-b-preserved c =
-    let b = c.b-1.given.0 in
     left_on (c.in-Byte.b ∷ []) (rest c.args.inner.now c.in-Byte.on) (left_as (handed c) c.loop-b.invariant) c.put_byte-p.ensures
 
 pub cursor_at-c-requires : goal.cursor_at-c-requires

@@ -8,9 +8,8 @@ loop-at-init c = own_start c.args.content.now c.args.from (search rules)
 
 pub loop-at-preserved : goal.loop-at-preserved
 loop-at-preserved c =
-    let l = c in
-    let a = l.args in
-    own_on a.content.now a.from l.loop-at.at l.loop-at.invariant c.loop-at-test.true c.if-b-lt32.false c.if-b-eq34.false c.if-b-eq92.false
+    let a = c.args in
+    own_on a.content.now a.from c.loop-at.at c.loop-at.invariant c.loop-at-test.true c.if-b-lt32.false c.if-b-eq34.false c.if-b-eq92.false
 
 pub returns-then-b-lt32 : goal.returns-then-b-lt32
 returns-then-b-lt32 c = c.loop-at.invariant

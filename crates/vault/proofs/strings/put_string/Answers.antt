@@ -20,24 +20,22 @@ loop-i-smaller c = omega (arith, c.own_end-e.ensures.later, c.loop-i-test.true)
 
 pub loop-i-preserved : goal.loop-i-preserved
 loop-i-preserved c =
-    let l = c in
     let w = c.args.content.now in
-    let i = l.loop-i.i in
+    let i = c.loop-i.i in
     let e = c.own_end-e.result in
     let own = c.own_end-e.ensures.own in
     let is : left w i ≡ part_of w i e ++ left w e = ap (λ (v : List ℕ). v ++ (34 ∷ [])) own ∙ append_assoc (part_of w i e) (spelled_bytes (drop e w)) (34 ∷ []) in
     let on : left w e ≡ spelled_at w e ++ left w (e + 1) = ap (λ (v : List ℕ). v ++ (34 ∷ [])) (spelled_next w e) ∙ append_assoc (spelled_at w e) (spelled_bytes (drop (e + 1) w)) (34 ∷ []) in
-    left_on (spelled_at w e) (left w (e + 1)) (left_as on (left_on (part_of w i e) (left w e) (left_as is l.loop-i.invariant) c.put_run-p.ensures)) c.put_spelled_at-p.ensures
+    left_on (spelled_at w e) (left w (e + 1)) (left_as on (left_on (part_of w i e) (left w e) (left_as is c.loop-i.invariant) c.put_run-p.ensures)) c.put_spelled_at-p.ensures
 
 pub shape_of-out : goal.shape_of-out
 shape_of-out c = c.put_byte.auto.0 ∙ left_length c.loop-i.invariant ∙ c.put_byte-p.auto.0
 
 pub returns : goal.returns
 returns c =
-    let l = c in
     let w = c.args.content.now in
-    let none : left w l.loop-i.i ≡ 34 ∷ [] = ap (λ (v : List ℕ). spelled_bytes v ++ (34 ∷ [])) (drop_of_length-le w c.loop-i-test.false) in
-    wrote_then (34 ∷ []) (left w 0) c.put_byte-p.ensures (left_last (34 ∷ []) (left_as none l.loop-i.invariant) c.put_byte.ensures)
+    let none : left w c.loop-i.i ≡ 34 ∷ [] = ap (λ (v : List ℕ). spelled_bytes v ++ (34 ∷ [])) (drop_of_length-le w c.loop-i-test.false) in
+    wrote_then (34 ∷ []) (left w 0) c.put_byte-p.ensures (left_last (34 ∷ []) (left_as none c.loop-i.invariant) c.put_byte.ensures)
 
 pub overflow_add-i : goal.overflow_add-i
 overflow_add-i c = omega (arith, c.own_end-e.ensures.within)
