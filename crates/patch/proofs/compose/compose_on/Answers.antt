@@ -20,7 +20,7 @@ pub returns-in-Broken : goal.returns-in-Broken
 returns-in-Broken c room =
     let a = c.args in
     made_broken a.card.now
-    (sorting (ends c) c.collect-n.ensures (λ p h. omega (arith, room p h, c.collect-n.auto.1.1.1.0)) c.common-shared.ensures
+    (sorting (ends c) c.collect-n.ensures (λ p h. omega (arith, room p h, c.collect-n.auto.rows)) c.common-shared.ensures
     c.sort.ensures.0)
     c.first_key.ensures _
     c.in-Broken.is
@@ -36,7 +36,7 @@ pub returns : goal.returns
 returns c room =
     let a = c.args in
     made_sorted a.card.now
-    (sorting (ends_2 c) c.collect-n.ensures (λ p h. omega (arith, room p h, c.collect-n.auto.1.1.1.0)) c.common-shared.ensures
+    (sorting (ends_2 c) c.collect-n.ensures (λ p h. omega (arith, room p h, c.collect-n.auto.rows)) c.common-shared.ensures
     c.sort.ensures.0)
     c.first_key.ensures
     c.in_default.is
