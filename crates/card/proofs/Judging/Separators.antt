@@ -4,7 +4,7 @@ use mathlib.Core.Path.{◌≡◌, refl, sym, ap, ◌∙◌}
 use mathlib.Core.List.{List, [], ◌∷◌}
 use mathlib.Core.Bool.{Bool, true, false, ◌&&◌, ◌||◌, or-false, or-true, and-true, and-false, or_assoc, and_assoc}
 use Prim.Native.Nat.{ℕ}
-use Rattle.laws.proofs.Bools.{or-false as neither}
+use Rattle.laws.proofs.Bools.{or_false as neither}
 use Rattle.laws.specs.Tests.{any_mark, all_marks, adjacent}
 use Rattle.text.specs.Tree.{Forest}
 use Rattle.text.specs.Tree as T

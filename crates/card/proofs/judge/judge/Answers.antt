@@ -7,7 +7,7 @@ pub clear_behind-requires : goal.clear_behind-requires
 clear_behind-requires c =
     let a = c.args in
     let k = c.judge_kept-v in
-    rows_fit base a.text.now a.table.now k.new.table k.result k.auto.1.0 k.ensures
+    rows_fit base a.text.now a.table.now k.new.table k.result k.auto.table k.ensures
 
 pub returns : goal.returns
 returns c =

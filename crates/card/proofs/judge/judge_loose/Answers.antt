@@ -7,19 +7,19 @@ use Rattle.card.proofs.judge.judge_loose.Goals as goal
 pub judge_read-v-requires : goal.judge_read-v-requires
 judge_read-v-requires c =
     let read = c.read_loose-read in
-    (loose base, c.args.table.now, record { long = read.auto.1.0; reads = read.ensures })
+    (loose base, c.args.table.now, record { long = read.auto.table; reads = read.ensures })
 
 pub clear_behind-requires : goal.clear_behind-requires
 clear_behind-requires c =
     let a = c.args in
     let read = c.read_loose-read in
     let k = c.judge_read-v in
-    rows_fit (loose base) a.text.now a.table.now k.new.table k.result (k.auto.1.0 ∙ read.auto.1.0)
-    (k.ensures (loose base) a.table.now (record { long = read.auto.1.0; reads = read.ensures }))
+    rows_fit (loose base) a.text.now a.table.now k.new.table k.result (k.auto.table ∙ read.auto.table)
+    (k.ensures (loose base) a.table.now (record { long = read.auto.table; reads = read.ensures }))
 
 pub returns : goal.returns
 returns c =
     let a = c.args in
     let read = c.read_loose-read in
     c.clear_behind.ensures (loose base) a.text.now a.table.now
-    (c.judge_read-v.ensures (loose base) a.table.now (record { long = read.auto.1.0; reads = read.ensures }))
+    (c.judge_read-v.ensures (loose base) a.table.now (record { long = read.auto.table; reads = read.ensures }))

@@ -1,8 +1,8 @@
 -- `card::rules::breaks_separators` meets its contract. Assumes nothing.
 use native.Mathlib.Omega.{arith}
+use Rattle.laws.proofs.Picks.{denied}
 use Rattle.text.specs.Doc.{members_of}
 use Rattle.contact.specs.Rules.{present, marks}
-use Rattle.laws.proofs.Picks.{denied}
 use Rattle.card.proofs.Judging.Separators.{no_separator}
 use Rattle.card.proofs.rules.breaks_separators.Goals as goal
 

@@ -2,7 +2,6 @@
 use mathlib.Core.Path.{sym, ap, ◌∙◌}
 use native.Mathlib.Omega.{arith}
 use Rattle.laws.specs.Order.{same}
-use Rattle.laws.proofs.Picks.{denied}
 use Rattle.text.specs.Strings.{name_of}
 use Rattle.card.proofs.Known.Columns.{lent_spelled, lent_short, lent_length, lent_apart}
 use Rattle.card.proofs.schema.is_property.Goals as goal
@@ -15,7 +14,7 @@ returns-then-not-may_be c =
     let a = c.args in
     let p = c.requires in
     let told = rw p.1 at c.may_be.ensures in
-    lent_apart p.0.0 a.i p.0.1 a.text.now a.s a.e (sym told ∙ denied c.may_be.result c.if-not-may_be.true)
+    lent_apart p.0.0 a.i p.0.1 a.text.now a.s a.e (sym told ∙ c.if-not-may_be.true)
 
 pub overflow_cast-size : goal.overflow_cast-size
 overflow_cast-size c = let p = c.requires in omega (arith, lent_short p.0.0 c.args.i p.0.1)

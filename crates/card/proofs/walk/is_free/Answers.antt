@@ -1,10 +1,9 @@
 -- `card::walk::is_free` meets its contract. Assumes nothing.
 use mathlib.Core.Path.{◌∙◌}
-use Rattle.laws.proofs.Picks.{granted, denied}
 use Rattle.card.proofs.walk.is_free.Goals as goal
 
 pub returns-then-not-key : goal.returns-then-not-key
-returns-then-not-key c = rw (denied c.args.key c.if-not-key.true)
+returns-then-not-key c = rw c.if-not-key.true
 
 pub returns : goal.returns
-returns c = c.is_any.ensures ∙ rw (c.type_of.ensures, granted c.args.key c.if-not-key.false)
+returns c = c.is_any.ensures ∙ rw (c.type_of.ensures, c.if-not-key.false)

@@ -1,6 +1,5 @@
 -- `card::walk::object_number` meets its contract. Assumes nothing.
 use Rattle.card.specs.Walk.{object_number}
-use Rattle.laws.proofs.Picks.{granted, denied}
 use Rattle.card.proofs.walk.object_number.Goals as goal
 
 pub is_lacking-requires : goal.is_lacking-requires
@@ -15,7 +14,7 @@ unfolding object_number
 returns-then-not-key c =
     λ f h.
     let a = c.args in
-    rw (← c.is_lacking.ensures f h, c.if-is_lacking.false, denied a.key c.if-not-key.true)
+    rw (← c.is_lacking.ensures f h, c.if-is_lacking.false, c.if-not-key.true)
 
 pub breaks-requires : goal.breaks-requires
 breaks-requires c = c.requires
@@ -27,7 +26,7 @@ returns-then-breaks c =
     let a = c.args in
     let is-lacking = c.is_lacking in
     let if1 = c.if-is_lacking in
-    rw (← is-lacking.ensures f h, if1.false, granted a.key c.if-not-key.false, ← c.breaks.ensures f h, c.if-breaks.true)
+    rw (← is-lacking.ensures f h, if1.false, c.if-not-key.false, ← c.breaks.ensures f h, c.if-breaks.true)
 
 pub returns : goal.returns
 unfolding object_number
@@ -36,4 +35,4 @@ returns c =
     let a = c.args in
     let is-lacking = c.is_lacking in
     let if1 = c.if-is_lacking in
-    rw (← is-lacking.ensures f h, if1.false, granted a.key c.if-not-key.false, ← c.breaks.ensures f h, c.if-breaks.false)
+    rw (← is-lacking.ensures f h, if1.false, c.if-not-key.false, ← c.breaks.ensures f h, c.if-breaks.false)

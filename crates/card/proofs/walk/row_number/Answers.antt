@@ -8,7 +8,6 @@ use Rattle.text.proofs.Promise.{first_row_lem, first_room}
 use Rattle.contact.specs.Schema.{object_of, by_type, fits}
 use Rattle.card.specs.Types.{type_at}
 use Rattle.card.specs.Rows.{ValueAt}
-use Rattle.laws.proofs.Picks.{granted, denied}
 use Rattle.card.proofs.Judging.Values.{value_members, value_room}
 use Rattle.card.proofs.Judging.Walk.{row_unfit, row_object, row_value, row_choice}
 use Rattle.card.proofs.walk.row_number.Goals as goal
@@ -22,7 +21,7 @@ pub returns-then-not-kind_fits : goal.returns-then-not-kind_fits
 returns-then-not-kind_fits c =
     λ f v k.
     let a = c.args in
-    row_unfit a.text.now f v.some (type_at a.code) a.key (fit c (denied c.kind_fits.result c.if-not-kind_fits.true) f v)
+    row_unfit a.text.now f v.some (type_at a.code) a.key (fit c c.if-not-kind_fits.true f v)
 
 pub overflow_add-from : goal.overflow_add-from
 overflow_add-from c =
@@ -56,7 +55,7 @@ returns-in-As c =
     (c.object_number.ensures (inside_at f)
     (value_members a.text.now f v c.next_row-end.ensures (omega (arith, value_room a.text.now f v)))
     ∙ row_object a.text.now f v.some c.in-As.o a.key
-    (rw ty at (fit_2 c (granted kind_fits.result c.if-not-kind_fits.false) f v)))
+    (rw ty at (fit_2 c c.if-not-kind_fits.false f v)))
 
 -- what the value's kind was asked
 fit_3 : (c : goal.After-value_number) {b : Bool} → c.kind_fits.result ≡ b → (f : Forest)
@@ -71,7 +70,7 @@ returns-in-Between c =
     let ty : type_at c.args.code ≡ by_type c.in-Between.field-0 c.in-Between.field-1 =
     rw (c.in-Between.is, c.type_of-ty.ensures) at c.role_of.ensures in
     c.value_number.ensures f v k ∙ rw ty (row_choice a.text.now f v.some c.in-Between.field-0 c.in-Between.field-1 a.key
-    (rw ty at (fit_3 c (granted kind_fits.result c.if-not-kind_fits.false) f v)))
+    (rw ty at (fit_3 c c.if-not-kind_fits.false f v)))
 
 -- what the value's kind was asked
 fit_4 : (c : goal.After-value_number-in-Other) {b : Bool} → c.kind_fits.result ≡ b → (f : Forest)
@@ -84,4 +83,4 @@ returns-in-Other c =
     let a = c.args in
     c.value_number-in-Other.ensures f v k ∙ row_value a.text.now f v.some (type_at a.code) a.key
     (rw (c.in-Other.is, c.type_of-ty.ensures) at c.role_of.ensures)
-    (fit_4 c (granted c.kind_fits.result c.if-not-kind_fits.false) f v)
+    (fit_4 c c.if-not-kind_fits.false f v)

@@ -6,12 +6,11 @@ use Rattle.card.specs.Types.{type_at}
 use Rattle.card.specs.Rows.{ValueAt}
 use Rattle.card.specs.Walk.{value_number}
 use Rattle.text.proofs.Promise.{first_row_lem}
-use Rattle.laws.proofs.Picks.{granted, denied}
 use Rattle.card.proofs.walk.value_number.Goals as goal
 
 pub returns-then-not-key : goal.returns-then-not-key
 unfolding value_number
-returns-then-not-key c = λ f v k. rw (denied c.args.key c.if-not-key.true)
+returns-then-not-key c = λ f v k. rw c.if-not-key.true
 
 pub allows-requires : goal.allows-requires
 allows-requires c = c.requires
@@ -25,7 +24,7 @@ asked c e f v =
     let a = c.args in
     let r = first_row_lem f v.some v.stands in
     rw (
-      granted a.key c.if-not-key.false,
+      c.if-not-key.false,
       ← r.kind,
       ← r.start,
       ← r.finish,
@@ -48,7 +47,7 @@ asked_2 c e f v =
     let a = c.args in
     let r = first_row_lem f v.some v.stands in
     rw (
-      granted a.key c.if-not-key.false,
+      c.if-not-key.false,
       ← r.kind,
       ← r.start,
       ← r.finish,
