@@ -29,7 +29,7 @@ loop-i-preserved c =
     left_on (spelled_at w e) (left w (e + 1)) (left_as on (left_on (part_of w i e) (left w e) (left_as is c.loop-i.invariant) c.put_run-p.ensures)) c.put_spelled_at-p.ensures
 
 pub shape_of-out : goal.shape_of-out
-shape_of-out c = c.put_byte.auto.0 ∙ left_length c.loop-i.invariant ∙ c.put_byte-p.auto.0
+shape_of-out c = c.put_byte.auto.out ∙ left_length c.loop-i.invariant ∙ c.put_byte-p.auto.out
 
 pub returns : goal.returns
 returns c =

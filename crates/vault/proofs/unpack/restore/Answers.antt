@@ -80,7 +80,7 @@ pub returns-then-out-to : goal.returns-then-out-to
 returns-then-out-to c =
     let a = c.args in
     let n = counted_2 c in
-    restores_short base a.packed.now a.out.now (wrote_4 c) n.0 (omega (arith, n.1, c.if-n-gt-VALUES.false)) (omega arith) c.if-to-gt-BYTES.false (omega (arith, c.if-out-to.true, c.put_root-root.auto.1.0))
+    restores_short base a.packed.now a.out.now (wrote_4 c) n.0 (omega (arith, n.1, c.if-n-gt-VALUES.false)) (omega arith) c.if-to-gt-BYTES.false (omega (arith, c.if-out-to.true, c.put_root-root.auto.out))
 
 -- what was written
 wrote_5 : (c : goal.Else-out-to) → let a = c.args in
@@ -105,4 +105,4 @@ returns c =
     let p = a.packed.now in
     let old = a.out.now in
     rw n.1
-    (restores_whole base p old (wrote_5 c) n.0 (omega (arith, n.1, c.if-n-gt-VALUES.false)) (omega arith) c.if-to-gt-BYTES.false (omega (arith, c.if-out-to.false, c.put_root-root.auto.1.0)))
+    (restores_whole base p old (wrote_5 c) n.0 (omega (arith, n.1, c.if-n-gt-VALUES.false)) (omega arith) c.if-to-gt-BYTES.false (omega (arith, c.if-out-to.false, c.put_root-root.auto.out)))

@@ -32,7 +32,7 @@ found_2 c = rw c.in-Field.is at c.cut_at-cutting.ensures
 pub returns-then-not-is_text : goal.returns-then-not-is_text
 returns-then-not-is_text c =
     let a = c.args in
-    name_ill a.packed.now a.at a.end (found_2 c) (ap is_text (sym c.slice-name.ensures) ∙ sym c.is_text.ensures ∙ denied c.is_text.result c.if-not-is_text.true)
+    name_ill a.packed.now a.at a.end (found_2 c) (ap is_text (sym c.slice-name.ensures) ∙ sym c.is_text.ensures ∙ c.if-not-is_text.true)
 
 -- the first field
 found_3 : (c : goal.After-slice_known-3-1) → let a = c.args in
@@ -52,7 +52,7 @@ returns c =
     let a = c.args in
     let f = found_4 c in
     let slice = c.slice-name.ensures in
-    let good = ap is_text (sym slice) ∙ sym c.is_text.ensures ∙ granted c.is_text.result c.if-not-is_text.false in
+    let good = ap is_text (sym slice) ∙ sym c.is_text.ensures ∙ c.if-not-is_text.false in
     named a.packed.now a.at a.end f c.if-tag-ne-NAME.false good
     (wrote_then (spelled (part_of a.packed.now (a.at + 3) c.in-Field.next)) (58 ∷ []) (rw slice at c.put_string-p.ensures) c.put_byte-q.ensures)
     c.value_ahead.result c.value_ahead.ensures
