@@ -1,5 +1,6 @@
--- `vault::pack::put_value` meets its contract: a content behind the place of the head, and then the head. The content of a container is a walk along the
--- values inside, each with its name. It calls itself on rows further on, so the rows that are left of the table are the measure. Assumes nothing.
+-- `vault::pack::put_value` meets its contract: a content behind the place of the head, and then the head. The content of a container is
+-- a walk along the values inside, each with its name. It calls itself on rows further on, so the rows that are left of the table are the
+-- measure. Assumes nothing.
 use Rattle.std.proofs.Common.{◌+◌, ◌*◌, refl, ◌∙◌, arith}
 use Rattle.laws.specs.Lists.{part_of}
 use Rattle.text.specs.Limits.{row_words}
@@ -20,7 +21,8 @@ returns-then-k-lt-ARRAY t c =
     let content = content_in (kind_at g) (part_of text (start_at g) (end_at g)) in
     let wrote = rw (k, c.value_start-from.ensures ∙ row.start, c.value_end-to.ensures ∙ row.finish) at c.put_content-stop.ensures in
     rw (packed_scalar text g v.some (omega (arith, k, c.if-k-lt-ARRAY.true)))
-    (laid_field (kind_at g) (kind_small g v.some v.kinds) c.behind_head-start.ensures content (laid_of {bytes = content} wrote) (rw k at c.put_head.ensures))
+    (laid_field (kind_at g) (kind_small g v.some v.kinds) c.behind_head-start.ensures content (laid_of {bytes = content} wrote)
+    (rw k at c.put_head.ensures))
 
 -- the row is one of the table, and so is the end of those inside the value
 pub loop-m-init : goal.loop-m-init
@@ -56,4 +58,5 @@ returns t c =
     let is = c.kind-k.ensures ∙ (first_row_lem g v.some v.stands).kind in
     let all = fill_end text k (c.loop-m.invariant.1 g v) c.loop-m-test.false in
     rw (packed_inside text g v.some v.kinds k is c.if-k-lt-ARRAY.false)
-    (laid_field k (omega (arith, is, kind_small g v.some v.kinds)) c.behind_head-start.ensures (items_from text k (inside_at g)) all c.put_head-2.ensures)
+    (laid_field k (omega (arith, is, kind_small g v.some v.kinds)) c.behind_head-start.ensures (items_from text k (inside_at g)) all
+    c.put_head-2.ensures)

@@ -1,4 +1,5 @@
--- The measure: the rows that are left of the table. And what holds at the head of the loop along the values inside a container: some are laid. Assumes nothing.
+-- The measure: the rows that are left of the table. And what holds at the head of the loop along the values inside a container: some are
+-- laid. Assumes nothing.
 use Rattle.std.proofs.Common.{◌-◌, length}
 use Rattle.text.specs.Tree.{Forest}
 use Rattle.text.specs.Firsts.{inside_at}

@@ -1,10 +1,11 @@
--- `vault::values::put_value` meets its contract: the bracket, then item by item what stands before a value and the value, and the closing bracket. It calls
--- itself one container deeper, so the depth that is left is the measure. Assumes nothing.
-use Rattle.std.proofs.Common.{ℕ, ◌-◌, ap, ◌∙◌, arith}
+-- `vault::values::put_value` meets its contract: the bracket, then item by item what stands before a value and the value, and the
+-- closing bracket. It calls itself one container deeper, so the depth that is left is the measure. Assumes nothing.
+use Rattle.std.proofs.Common.{ℕ, ◌-◌, ap, ◌∙◌}
 use Rattle.laws.specs.Lists.{part_of}
 use Rattle.packing.specs.Unpacked.{boxes, value_of}
 use Rattle.vault.specs.Laid.{bracket_of}
-use Rattle.vault.proofs.Members.{value_simple, value_none, value_shut, value_box, onward_start, onward_none, onward_bad, onward_on, onward_end}
+use Rattle.vault.proofs.Members.{value_simple, value_none, value_shut, value_box}
+use Rattle.vault.proofs.Members.{onward_start, onward_none, onward_bad, onward_on, onward_end}
 use Rattle.vault.proofs.values.+put_value.Goals as goal
 
 pub returns-then-tag-lt-ARRAY : goal.returns-then-tag-lt-ARRAY
@@ -23,7 +24,9 @@ returns-then-depth-eq0 t c =
 
 pub loop-i-init : goal.loop-i-init
 loop-i-init t c =
-    let a = c.args in onward_start a.packed.now (bracket_of a.tag) (value_of (a.depth - 1)) a.from a.end c.requires.0 c.put_byte-p.new.out c.put_byte-p.result
+    let a = c.args in
+    let p = c.put_byte-p in
+    onward_start a.packed.now (bracket_of a.tag) (value_of (a.depth - 1)) a.from a.end c.requires.0 p.new.out p.result
 
 -- no item stands at a place
 pub returns-in_default : goal.returns-in_default
@@ -41,14 +44,14 @@ returns-in_default-done t c =
     let b = bracket_of a.tag in
     value_box a.tag (part_of a.packed.now a.from a.end) a.depth c.if-depth-eq0.false c.if-tag-lt-ARRAY.false c.if-tag-gt-OBJECT.false
     ∙ ap (boxes b)
-    (onward_bad a.packed.now b (value_of (a.depth - 1)) a.from a.end c.requires.1 c.loop-i.invariant c.loop-i-test.true c.in-Value.ensures
-    c.in_default-done.ensures)
+    (onward_bad a.packed.now b (value_of (a.depth - 1)) a.from a.end c.requires.1 c.loop-i.invariant c.loop-i-test.true
+    c.in-Value.ensures c.in_default-done.ensures)
 
 pub loop-i-preserved : goal.loop-i-preserved
 loop-i-preserved t c =
     let a = c.args in
-    onward_on a.packed.now (bracket_of a.tag) (value_of (a.depth - 1)) a.from a.end c.requires.1 c.loop-i.invariant c.loop-i-test.true c.in-Value.ensures
-    c.in-At.ensures
+    onward_on a.packed.now (bracket_of a.tag) (value_of (a.depth - 1)) a.from a.end c.requires.1 c.loop-i.invariant
+    c.loop-i-test.true c.in-Value.ensures c.in-At.ensures
 
 pub returns : goal.returns
 returns t c =

@@ -1,4 +1,5 @@
--- The measure: the containers that may still be opened. And what holds at the head of the loop: the items up to a place were written. Assumes nothing.
+-- The measure: the containers that may still be opened. And what holds at the head of the loop: the items up to a place were written.
+-- Assumes nothing.
 use Rattle.std.proofs.Common.{◌-◌}
 use Rattle.packing.specs.Unpacked.{value_of}
 use Rattle.vault.specs.Laid.{bracket_of}
