@@ -14,4 +14,4 @@ pub returns-in-Rows : goal.returns-in-Rows
 returns-in-Rows c =
     let a = c.args in
     packs_finished base (length a.table.now) a.text.now (rw c.in-Rows.is at c.read.ensures) c.put_value-len.ensures
-    c.read.auto.1.0 c.finish.ensures
+    c.read.auto.table c.finish.ensures

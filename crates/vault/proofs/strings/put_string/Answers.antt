@@ -24,12 +24,16 @@ loop-i-preserved c =
     let i = c.loop-i.i in
     let e = c.own_end-e.result in
     let own = c.own_end-e.ensures.own in
-    let is : left w i ≡ part_of w i e ++ left w e = ap (λ (v : List ℕ). v ++ (34 ∷ [])) own ∙ append_assoc (part_of w i e) (spelled_bytes (drop e w)) (34 ∷ []) in
-    let on : left w e ≡ spelled_at w e ++ left w (e + 1) = ap (λ (v : List ℕ). v ++ (34 ∷ [])) (spelled_next w e) ∙ append_assoc (spelled_at w e) (spelled_bytes (drop (e + 1) w)) (34 ∷ []) in
-    left_on (spelled_at w e) (left w (e + 1)) (left_as on (left_on (part_of w i e) (left w e) (left_as is c.loop-i.invariant) c.put_run-p.ensures)) c.put_spelled_at-p.ensures
+    let is : left w i ≡ part_of w i e ++ left w e =
+    ap (λ (v : List ℕ). v ++ (34 ∷ [])) own ∙ append_assoc (part_of w i e) (spelled_bytes (drop e w)) (34 ∷ []) in
+    let on : left w e ≡ spelled_at w e ++ left w (e + 1) =
+    ap (λ (v : List ℕ). v ++ (34 ∷ [])) (spelled_next w e)
+    ∙ append_assoc (spelled_at w e) (spelled_bytes (drop (e + 1) w)) (34 ∷ []) in
+    let run = left_on (part_of w i e) (left w e) (left_as is c.loop-i.invariant) c.put_run-p.ensures in
+    left_on (spelled_at w e) (left w (e + 1)) (left_as on run) c.put_spelled_at-p.ensures
 
 pub shape_of-out : goal.shape_of-out
-shape_of-out c = c.put_byte.auto.0 ∙ left_length c.loop-i.invariant ∙ c.put_byte-p.auto.0
+shape_of-out c = c.put_byte.auto.out ∙ left_length c.loop-i.invariant ∙ c.put_byte-p.auto.out
 
 pub returns : goal.returns
 returns c =
