@@ -4,7 +4,7 @@ use mathlib.Core.Path.{sym}
 use Prim.Native.Nat.{ℕ, ◌≤◌}
 use lib.ListN.{length}
 use lib.Seq.{length-take-le}
-use Rattle.io.specs.Counts.{IsPrefixLen}
+use Rattle.cases_run.specs.Counts.{IsPrefixLen}
 
 pub counted : (xs : List ℕ) (n : ℕ) → n ≤ length xs → IsPrefixLen n xs
 counted xs n h = (h, sym (length-take-le n xs h))

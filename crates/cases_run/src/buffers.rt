@@ -1,5 +1,7 @@
 // The buffers that are lent to a call, and sums of them that can be stored. They are made once: only what a call is lent is set before it, and summed after it.
-ghost use Rattle.io.specs.Counts.{IsPrefixLen};
+ghost use Rattle.cases_run.specs.Counts.{IsPrefixLen};
+
+use std::io;
 
 // The words of the largest table of a case.
 pub const WORDS: usize = 262200;
@@ -80,7 +82,6 @@ pub fn sum_of_bytes(bytes: &[u8]) -> u64 {
 }
 
 // Writes a space and a number.
-pub fn show(n: u64) {
-    io::write_all(1, b" ");
-    io::print_decimal(1, n);
+pub fn show(rt: &impl Print, n: u64) -> io::Result<()> {
+    print!(rt; " {n}")
 }

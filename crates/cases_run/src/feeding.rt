@@ -7,6 +7,7 @@ ghost use Rattle.std.specs.Prelude.{◌<◌, ◌≤◌, length};
 use crate::buffers::show;
 use crate::lines::{after, before, number, unpack};
 use pieces::reader::{end, said, start, take};
+use std::io;
 use wire::Held;
 
 // A reading so far: the reader, after how many bytes it answered (0: it goes on), and did it stay with that?
@@ -112,13 +113,13 @@ fn feed(text: &[u8], size: usize) -> Fed {
 }
 
 // Reads a text in pieces of each length, and writes after how many bytes the answer came; has each the answer of the text as one piece?
-fn readings(sizes: &[u8], text: &[u8], whole: Held) -> bool {
+fn readings(rt: &impl Print, sizes: &[u8], text: &[u8], whole: Held) -> io::Result<bool> {
     let mut kept = true;
     let mut at: usize = 0;
     while at < sizes.len() {
         let rest = &sizes[at..];
         let f = feed(text, number(rest));
-        show(f.told as u64);
+        show(rt, f.told as u64)?;
         if !f.kept {
             kept = false;
         }
@@ -127,26 +128,26 @@ fn readings(sizes: &[u8], text: &[u8], whole: Held) -> bool {
         }
         at = at + before(rest, b',') + 1;
     }
-    kept
+    Ok(kept)
 }
 
-fn report(sizes: &[u8], text: &[u8]) {
+fn report(rt: &impl Print, sizes: &[u8], text: &[u8]) -> io::Result<()> {
     let whole = feed(text, 0);
     let paper = said(whole.held);
-    io::print_decimal(1, paper.number);
-    show(paper.second);
-    show(whole.told as u64);
-    let kept = readings(sizes, text, whole.held);
+    rt.print(paper.number)?;
+    show(rt, paper.second)?;
+    show(rt, whole.told as u64)?;
+    let kept = readings(rt, sizes, text, whole.held)?;
     if kept {
-        show(whole.kept as u64);
+        show(rt, whole.kept as u64)?;
     } else {
-        show(0);
+        show(rt, 0)?;
     }
-    io::write_all(1, b"\n");
+    rt.print("\n")
 }
 
-pub fn case_of(line: &[u8], base: &[u8], text: &mut [u8]) {
+pub fn case_of(rt: &impl Print, line: &[u8], base: &[u8], text: &mut [u8]) -> io::Result<()> {
     let head = before(line, b' ');
     let size = unpack(after(line), base, text);
-    report(&line[..head], &text[..size]);
+    report(rt, &line[..head], &text[..size])
 }

@@ -5,7 +5,7 @@
 //   %=A,B;    the bytes of the base text from A up to B
 // and every other byte stands for itself. What doesn't fit into ROOM bytes is dropped.
 ghost use Rattle.std.specs.Prelude.{◌+◌, ◌<◌, ◌≤◌, length};
-ghost use Rattle.io.specs.Counts.{IsPrefixLen};
+ghost use Rattle.cases_run.specs.Counts.{IsPrefixLen};
 
 // The longest text of a case.
 pub const ROOM: usize = 1050000;

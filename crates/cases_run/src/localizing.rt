@@ -6,6 +6,7 @@ use crate::lines::{after, before, number, unpack};
 use answers::paper::{localized_on_paper, verdict_on_paper};
 use card::localize::localize;
 use contact::{LocalRefusal, Localized, Verdict};
+use std::io;
 
 // The place of the refusal inside 28, in the localized card; else 0.
 fn inner_place(refusal: LocalRefusal) -> u64 {
@@ -32,33 +33,41 @@ const SHOWN: u64 = 400;
 const LANGUAGE: usize = 1000;
 
 // Writes a card that is not empty and short.
-fn shown(written: u64, out: &[u8]) {
+fn shown(rt: &impl Print, written: u64, out: &[u8]) -> io::Result<()> {
     if 0 < written {
         if written < SHOWN {
             let size = bytes_of(written as usize, out);
-            io::write_all(1, b" ");
-            io::write_all(1, &out[..size]);
+            rt.print(" ")?;
+            return rt.write_all(&out[..size]);
         }
     }
+    Ok(())
 }
 
-fn report(text: &[u8], language: &[u8], out: &mut [u8], table: &mut [u32]) {
+fn report(
+    rt: &impl Print,
+    text: &[u8],
+    language: &[u8],
+    out: &mut [u8],
+    table: &mut [u32],
+) -> io::Result<()> {
     set_bytes(out);
     set_words(table);
     let answer = localize(text, language, out, table);
     let paper = localized_on_paper(answer);
-    io::print_decimal(1, paper.number);
-    show(paper.second);
-    show(paper.written);
-    show(place_of(answer));
-    show(sum_of_words(table));
-    show(sum_of_bytes(out));
-    shown(paper.written, out);
-    io::write_all(1, b"\n");
+    rt.print(paper.number)?;
+    show(rt, paper.second)?;
+    show(rt, paper.written)?;
+    show(rt, place_of(answer))?;
+    show(rt, sum_of_words(table))?;
+    show(rt, sum_of_bytes(out))?;
+    shown(rt, paper.written, out)?;
+    rt.print("\n")
 }
 
 // The language and the text of a line, in buffers of their own, on so many words of a table and so many bytes of an output.
 fn lent(
+    rt: &impl Print,
     words: usize,
     room: usize,
     line: &[u8],
@@ -67,24 +76,33 @@ fn lent(
     text: &mut [u8],
     out: &mut [u8],
     table: &mut [u32],
-) {
+) -> io::Result<()> {
     let head = before(line, b' ');
     let named = unpack(&line[..head], base, language);
     let size = unpack(after(line), base, text);
     let bytes = bytes_of(room, out);
     let rows = words_of(words, table);
     report(
+        rt,
         &text[..size],
         &language[..named],
         &mut out[..bytes],
         &mut table[..rows],
-    );
+    )
 }
 
-pub fn case_of(line: &[u8], base: &[u8], text: &mut [u8], out: &mut [u8], table: &mut [u32]) {
+pub fn case_of(
+    rt: &impl Print,
+    line: &[u8],
+    base: &[u8],
+    text: &mut [u8],
+    out: &mut [u8],
+    table: &mut [u32],
+) -> io::Result<()> {
     let mut language = [0u8; LANGUAGE];
     let rest = after(line);
     lent(
+        rt,
         number(line),
         number(rest),
         after(rest),
@@ -93,5 +111,5 @@ pub fn case_of(line: &[u8], base: &[u8], text: &mut [u8], out: &mut [u8], table:
         text,
         out,
         table,
-    );
+    )
 }

@@ -5,17 +5,24 @@ use crate::reading::report;
 use desk::limits::ROWS;
 use desk::line::line_for;
 use json_reader::limits::ROW_WORDS;
+use std::io;
 
 const LENT: usize = ROWS * ROW_WORDS;
 
-fn call(input: &[u8], table: &mut [u32]) {
+fn call(rt: &impl Print, input: &[u8], table: &mut [u32]) -> io::Result<()> {
     set_words(table);
     let paper = line_for(input, table);
-    report(paper, table);
+    report(rt, paper, table)
 }
 
-pub fn case_of(line: &[u8], base: &[u8], text: &mut [u8], table: &mut [u32]) {
+pub fn case_of(
+    rt: &impl Print,
+    line: &[u8],
+    base: &[u8],
+    text: &mut [u8],
+    table: &mut [u32],
+) -> io::Result<()> {
     let size = unpack(line, base, text);
     let lent = words_of(LENT, table);
-    call(&text[..size], &mut table[..lent]);
+    call(rt, &text[..size], &mut table[..lent])
 }

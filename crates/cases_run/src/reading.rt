@@ -6,6 +6,7 @@ use answers::paper::verdict_on_paper;
 use answers::sheet::on_paper;
 use card::judge::judge;
 use json_reader::read::read;
+use std::io;
 use text::Paper;
 
 // Reads a text, or judges it.
@@ -18,21 +19,28 @@ fn answer(judged: bool, text: &[u8], table: &mut [u32]) -> Paper {
 }
 
 // The line of an answer, and of the table that was lent for it.
-pub fn report(paper: Paper, table: &[u32]) {
-    io::print_decimal(1, paper.number);
-    show(paper.second);
-    show(sum_of_words(table));
-    io::write_all(1, b"\n");
+pub fn report(rt: &impl Print, paper: Paper, table: &[u32]) -> io::Result<()> {
+    rt.print(paper.number)?;
+    show(rt, paper.second)?;
+    show(rt, sum_of_words(table))?;
+    rt.print("\n")
 }
 
-fn call(judged: bool, text: &[u8], table: &mut [u32]) {
+fn call(rt: &impl Print, judged: bool, text: &[u8], table: &mut [u32]) -> io::Result<()> {
     set_words(table);
     let paper = answer(judged, text, table);
-    report(paper, table);
+    report(rt, paper, table)
 }
 
-pub fn case_of(judged: bool, line: &[u8], base: &[u8], text: &mut [u8], table: &mut [u32]) {
+pub fn case_of(
+    rt: &impl Print,
+    judged: bool,
+    line: &[u8],
+    base: &[u8],
+    text: &mut [u8],
+    table: &mut [u32],
+) -> io::Result<()> {
     let size = unpack(after(line), base, text);
     let lent = words_of(number(line), table);
-    call(judged, &text[..size], &mut table[..lent]);
+    call(rt, judged, &text[..size], &mut table[..lent])
 }

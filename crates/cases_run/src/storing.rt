@@ -4,27 +4,29 @@
 use crate::buffers::{bytes_of, set_bytes, set_words, show, sum_of_bytes, sum_of_words, words_of};
 use crate::lines::{after, number, unpack};
 use answers::store::{packing_on_paper, unpacking_on_paper};
+use std::io;
 use text::Paper;
 
 // The three numbers of an answer.
-fn show_paper(paper: Paper) {
-    io::print_decimal(1, paper.number);
-    show(paper.second);
-    show(paper.written);
+fn show_paper(rt: &impl Print, paper: Paper) -> io::Result<()> {
+    rt.print(paper.number)?;
+    show(rt, paper.second)?;
+    show(rt, paper.written)
 }
 
-fn pack(text: &[u8], out: &mut [u8], table: &mut [u32]) {
+fn pack(rt: &impl Print, text: &[u8], out: &mut [u8], table: &mut [u32]) -> io::Result<()> {
     set_bytes(out);
     set_words(table);
     let paper = packing_on_paper(vault::pack::pack(text, out, table));
-    show_paper(paper);
-    show(sum_of_words(table));
-    show(sum_of_bytes(out));
-    io::write_all(1, b"\n");
+    show_paper(rt, paper)?;
+    show(rt, sum_of_words(table))?;
+    show(rt, sum_of_bytes(out))?;
+    rt.print("\n")
 }
 
 // Packs the text of a line, on so many words of a table and so many bytes of an output.
 fn lent(
+    rt: &impl Print,
     words: usize,
     room: usize,
     line: &[u8],
@@ -32,16 +34,24 @@ fn lent(
     text: &mut [u8],
     out: &mut [u8],
     table: &mut [u32],
-) {
+) -> io::Result<()> {
     let size = unpack(line, base, text);
     let bytes = bytes_of(room, out);
     let rows = words_of(words, table);
-    pack(&text[..size], &mut out[..bytes], &mut table[..rows]);
+    pack(rt, &text[..size], &mut out[..bytes], &mut table[..rows])
 }
 
-pub fn pack_case(line: &[u8], base: &[u8], text: &mut [u8], out: &mut [u8], table: &mut [u32]) {
+pub fn pack_case(
+    rt: &impl Print,
+    line: &[u8],
+    base: &[u8],
+    text: &mut [u8],
+    out: &mut [u8],
+    table: &mut [u32],
+) -> io::Result<()> {
     let rest = after(line);
     lent(
+        rt,
         number(line),
         number(rest),
         after(rest),
@@ -49,19 +59,25 @@ pub fn pack_case(line: &[u8], base: &[u8], text: &mut [u8], out: &mut [u8], tabl
         text,
         out,
         table,
-    );
+    )
 }
 
-fn unpacked(packed: &[u8], out: &mut [u8]) {
+fn unpacked(rt: &impl Print, packed: &[u8], out: &mut [u8]) -> io::Result<()> {
     set_bytes(out);
     let paper = unpacking_on_paper(vault::unpack::unpack(packed, out));
-    show_paper(paper);
-    show(sum_of_bytes(out));
-    io::write_all(1, b"\n");
+    show_paper(rt, paper)?;
+    show(rt, sum_of_bytes(out))?;
+    rt.print("\n")
 }
 
-pub fn unpack_case(line: &[u8], base: &[u8], text: &mut [u8], out: &mut [u8]) {
+pub fn unpack_case(
+    rt: &impl Print,
+    line: &[u8],
+    base: &[u8],
+    text: &mut [u8],
+    out: &mut [u8],
+) -> io::Result<()> {
     let size = unpack(after(line), base, text);
     let bytes = bytes_of(number(line), out);
-    unpacked(&text[..size], &mut out[..bytes]);
+    unpacked(rt, &text[..size], &mut out[..bytes])
 }

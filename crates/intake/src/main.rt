@@ -8,7 +8,8 @@ ghost use Rattle.intake.specs.Input.{FitsRoom};
 
 use desk::limits::BUFFER;
 use desk::line::program_line;
-use libc::{STDERR_FILENO, STDIN_FILENO, STDOUT_FILENO};
+use std::io;
+use std::io::Read;
 
 // The bytes that are judged, and one more, by which a longer input shows.
 const ROOM: usize = BUFFER + 1;
@@ -21,24 +22,22 @@ enum Got {
 }
 
 // Reads once.
-fn read_some(buffer: &mut [u8]) -> Got
+fn read_some(source: &mut impl Read, buffer: &mut [u8]) -> Got
     ensures { FitsRoom (length buffer.old) result }
 {
-    let got = libc::read(STDIN_FILENO, buffer);
-    if got < 0 {
-        return Got::Failed;
+    match source.read(buffer) {
+        Ok(n) => Got::Bytes(n),
+        Err(_) => Got::Failed,
     }
-    let n = io::count(got, buffer);
-    Got::Bytes(n)
 }
 
 // Reads until the buffer is full or the input is over.
-fn fill(buffer: &mut [u8]) -> Got
+fn fill(source: &mut impl Read, buffer: &mut [u8]) -> Got
     ensures { FitsRoom (length buffer.old) result }
 {
     let mut at = 0;
     while at < buffer.len() {
-        let more = read_some(&mut buffer[at..]);
+        let more = read_some(source, &mut buffer[at..]);
         let Got::Bytes(n) = more else {
             return Got::Failed;
         };
@@ -51,19 +50,18 @@ fn fill(buffer: &mut [u8]) -> Got
 }
 
 // Writes the line for an input.
-fn report(input: &[u8]) {
+fn report(rt: &impl Print, input: &[u8]) -> io::Result<()> {
     let answer = program_line(input);
-    io::print_decimal(STDOUT_FILENO, answer.number);
-    io::write_all(STDOUT_FILENO, b" ");
-    io::print_decimal(STDOUT_FILENO, answer.second);
-    io::write_all(STDOUT_FILENO, b"\n");
+    let number = answer.number;
+    let second = answer.second;
+    println!(rt; "{number} {second}")
 }
 
-fn main() {
+fn main(rt: HostRuntime) -> io::Result<()> {
     let mut input = [0u8; ROOM];
-    let Got::Bytes(n) = fill(&mut input) else {
-        io::write_all(STDERR_FILENO, b"intake: standard input can't be read\n");
-        return;
+    let mut source = rt.stdin();
+    let Got::Bytes(n) = fill(&mut source, &mut input) else {
+        return rt.eprintln("intake: standard input can't be read");
     };
-    report(&input[..n]);
+    report(&rt, &input[..n])
 }

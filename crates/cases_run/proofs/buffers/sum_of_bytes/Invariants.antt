@@ -1,6 +1,5 @@
--- `cases_run::buffers::sum_of_bytes` meets its contract: the place stays inside. Assumes nothing.
-use Prim.Native.Nat.{◌≤◌, ◌-◌}
-use lib.ListN.{length}
+-- The place stays inside. Assumes nothing.
+use Rattle.std.proofs.Common.{length, ◌-◌, ◌≤◌}
 use Rattle.cases_run.proofs.buffers.sum_of_bytes.Given as goal
 
 abbrev pub invariant-loop-i : goal.invariant-loop-i

@@ -1,7 +1,5 @@
--- `cases_run::lines::again` meets its contract: the place stays inside the text, and fewer bytes are left. Assumes nothing.
-use mathlib.Core.Path.{◌≡◌}
-use Prim.Native.Nat.{◌≤◌}
-use lib.ListN.{length}
+-- The place stays inside the text, and fewer bytes are left. Assumes nothing.
+use Rattle.std.proofs.Common.{length, ◌≡◌, ◌≤◌}
 use Rattle.cases_run.proofs.lines.again.Given as goal
 
 abbrev pub invariant-loop-left : goal.invariant-loop-left

@@ -1,6 +1,5 @@
--- `cases_run::lines::before` meets its contract: the place stays inside the line. Assumes nothing.
-use Prim.Native.Nat.{◌≤◌, ◌-◌}
-use lib.ListN.{length}
+-- The place stays inside the line. Assumes nothing.
+use Rattle.std.proofs.Common.{length, ◌-◌, ◌≤◌}
 use Rattle.cases_run.proofs.lines.before.Given as goal
 
 abbrev pub invariant-loop-at : goal.invariant-loop-at

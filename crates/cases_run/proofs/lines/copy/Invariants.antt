@@ -1,7 +1,5 @@
--- `cases_run::lines::copy` meets its contract: the place stays inside the text. Assumes nothing.
-use mathlib.Core.Path.{◌≡◌}
-use Prim.Native.Nat.{◌≤◌, ◌-◌}
-use lib.ListN.{length}
+-- The place stays inside the text. Assumes nothing.
+use Rattle.std.proofs.Common.{length, ◌-◌, ◌≡◌, ◌≤◌}
 use Rattle.cases_run.proofs.lines.copy.Given as goal
 
 abbrev pub invariant-loop-i : goal.invariant-loop-i

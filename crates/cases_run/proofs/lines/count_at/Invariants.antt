@@ -1,10 +1,9 @@
--- `cases_run::lines::count_at` meets its contract: the place stays inside the line, or just after it. Assumes nothing.
-use Prim.Native.Nat.{◌≤◌, ◌+◌, ◌-◌}
-use lib.ListN.{length}
+-- The place stays inside the line, or just after it. Assumes nothing.
+use Rattle.std.proofs.Common.{length, ◌-◌, ◌+◌, ◌≤◌}
 use Rattle.cases_run.proofs.lines.count_at.Given as goal
 
 abbrev pub invariant-loop-at : goal.invariant-loop-at
-invariant-loop-at l = (l.from ≤ l.at) × (l.at ≤ length l.line + 1)
+invariant-loop-at l = (l.fn.from ≤ l.at) × (l.at ≤ length l.line + 1)
 
 abbrev pub decreases-loop-at : goal.decreases-loop-at
 decreases-loop-at l = length l.line - l.at

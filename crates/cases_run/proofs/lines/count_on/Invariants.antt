@@ -1,7 +1,5 @@
--- `cases_run::lines::count_on` meets its contract: the place stays inside the text, and fewer pieces are left. Assumes nothing.
-use mathlib.Core.Path.{◌≡◌}
-use Prim.Native.Nat.{◌≤◌}
-use lib.ListN.{length}
+-- The place stays inside the text, and fewer pieces are left. Assumes nothing.
+use Rattle.std.proofs.Common.{length, ◌≡◌, ◌≤◌}
 use Rattle.cases_run.proofs.lines.count_on.Given as goal
 
 abbrev pub invariant-loop-left : goal.invariant-loop-left

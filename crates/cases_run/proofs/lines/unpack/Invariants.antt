@@ -1,7 +1,5 @@
--- `cases_run::lines::unpack` meets its contract: the length stays inside the text, and each turn goes on in the line. Assumes nothing.
-use mathlib.Core.Path.{◌≡◌}
-use Prim.Native.Nat.{◌≤◌, ◌-◌}
-use lib.ListN.{length}
+-- The length stays inside the text, and each turn goes on in the line. Assumes nothing.
+use Rattle.std.proofs.Common.{length, ◌-◌, ◌≡◌, ◌≤◌}
 use Rattle.cases_run.proofs.lines.unpack.Given as goal
 
 abbrev pub invariant-loop-at : goal.invariant-loop-at
