@@ -17,11 +17,11 @@ use Rattle.text.specs.declared.Token.TheVariants.{End, No2, No3}
 
 -- an item of a container whose names are compared, and one whose names aren't: an element has none
 abbrev pub strict_item : Limits → List ℕ → (value : Reader) → Bracket → ItemReader
-strict_item L t value square = λ done. value 0 0
+strict_item L t value square = λ prior. value 0 0
 strict_item L t value curly = member_of L t value
 
 abbrev pub loose_item : Limits → List ℕ → (value : Reader) → Bracket → ItemReader
-loose_item L t value square = λ done. value 0 0
+loose_item L t value square = λ prior. value 0 0
 loose_item L t value curly = member_of (loose L) t value
 
 -- a name that ends is closed, whatever follows it
@@ -51,10 +51,10 @@ module _ (t : List ℕ) (own : ℕ → List ℕ) (item : ItemReader) (z : ℕ) w
       cond (eqb (byte_at t x) z) [] (cond (eqb (byte_at t x) 44) m [])
 
   -- from a place on, after the items that are done, with so many turns left
-  unfoldable pub closed_from : (turns at n : ℕ) → (done : Forest) → List ℕ
-  closed_from zero at n done = []
-  closed_from (suc turns) at n done =
-      own at ++ closed_after (λ f x. closed_from turns x (n + size f) (join done f)) (item done at n)
+  unfoldable pub closed_from : (turns at n : ℕ) → (prior : Forest) → List ℕ
+  closed_from zero at n prior = []
+  closed_from (suc turns) at n prior =
+      own at ++ closed_after (λ f x. closed_from turns x (n + size f) (join prior f)) (item prior at n)
 
   -- inside a container, from after its bracket on
   unfoldable pub closed_in : (at n : ℕ) → List ℕ

@@ -68,18 +68,18 @@ value_with L t array object ns ne at n =
 -- ---- items with commas between them
 
 -- after an item: the closing byte z, or a comma and the items that follow
-unfoldable pub after_item : List ℕ → (z : ℕ) → (done : Forest) → (more : Forest → ℕ → Read) → Read → Read
-after_item t z done more (bad r) = bad r
-after_item t z done more (good f to) =
+unfoldable pub after_item : List ℕ → (z : ℕ) → (prior : Forest) → (more : Forest → ℕ → Read) → Read → Read
+after_item t z prior more (bad r) = bad r
+after_item t z prior more (good f to) =
     let x = skip t to in
     let m = more f (skip t (x + 1)) in
-    cond (eqb (byte_at t x) z) (good (join done f) (x + 1)) (cond (eqb (byte_at t x) 44) m (bad (Grammar x)))
+    cond (eqb (byte_at t x) z) (good (join prior f) (x + 1)) (cond (eqb (byte_at t x) 44) m (bad (Grammar x)))
 
 -- the items from a place on, after the items that are done, with so many turns left
-unfoldable pub items_from : List ℕ → ItemReader → (z turns at n : ℕ) → (done : Forest) → Read
-items_from t item z zero at n done = bad (Grammar at)
-items_from t item z (suc turns) at n done =
-    after_item t z done (λ f to. items_from t item z turns to (n + size f) (join done f)) (item done at n)
+unfoldable pub items_from : List ℕ → ItemReader → (z turns at n : ℕ) → (prior : Forest) → Read
+items_from t item z zero at n prior = bad (Grammar at)
+items_from t item z (suc turns) at n prior =
+    after_item t z prior (λ f to. items_from t item z turns to (n + size f) (join prior f)) (item prior at n)
 
 -- what stands inside a container, from after its bracket to after its closing byte z
 unfoldable pub inside_of : List ℕ → ItemReader → (z at n : ℕ) → Read
@@ -105,25 +105,25 @@ colon_at t value at end n =
 
 -- a member whose name's quote is at a place, given where the name ends.
 -- 4: the name is in the object already, compared decoded; it counts as soon as it is closed, whatever follows it
-unfoldable pub member_with : Limits → List ℕ → (value : Reader) → (done : Forest) → (at n : ℕ) → Token → Read
-member_with L t value done at n (No2 p) = bad (Grammar p)
-member_with L t value done at n (No3 p) = bad (Character p)
-member_with L t value done at n (End end) =
+unfoldable pub member_with : Limits → List ℕ → (value : Reader) → (prior : Forest) → (at n : ℕ) → Token → Read
+member_with L t value prior at n (No2 p) = bad (Grammar p)
+member_with L t value prior at n (No3 p) = bad (Character p)
+member_with L t value prior at n (End end) =
     let v = colon_at t value at end n in
-    let checked = cond (named t (name_of t (at + 1) (end - 1)) done) (bad (Repeated at)) v in
+    let checked = cond (named t (name_of t (at + 1) (end - 1)) prior) (bad (Repeated at)) v in
     cond L.unique checked v
 
 -- a member at a place; 2 where no name begins
 unfoldable pub member_of : Limits → List ℕ → (value : Reader) → ItemReader
-member_of L t value done at n =
-    let m = member_with L t value done at n (string_end t (at + 1)) in
+member_of L t value prior at n =
+    let m = member_with L t value prior at n (string_end t (at + 1)) in
     cond (eqb (byte_at t at) 34) m (bad (Grammar at))
 
 -- ---- the value at a place, where so many containers may be opened
 
 -- what stands inside an array, from after its bracket on, given the reader of its elements, which have no names
 abbrev pub inside_array : List ℕ → (value : Reader) → (at n : ℕ) → Read
-inside_array t value = inside_of t (λ done. value 0 0) 93
+inside_array t value = inside_of t (λ prior. value 0 0) 93
 
 -- what stands inside an object, from after its brace on, given the reader of its members' values
 abbrev pub inside_object : Limits → List ℕ → (value : Reader) → (at n : ℕ) → Read

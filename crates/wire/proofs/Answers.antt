@@ -8,7 +8,6 @@ use native.Mathlib.Decide.{dec_le}
 use native.Mathlib.Omega.{arith}
 use lib.ListN.{length, take, drop, take-append-drop}
 use lib.Seq.{length-take-le, take-take}
-use borrow.Author.Tests.{le-leb, lt-leb}
 use Rattle.laws.specs.Each.{none, more}
 use Rattle.text.specs.Text.{Bytes}
 use Rattle.text.specs.Limits.{Limits}
@@ -26,6 +25,7 @@ use Rattle.wire.proofs.Sane.{Sane}
 use Rattle.wire.proofs.Whole.{cut, stays, both_below, feeds_sane, refused_certain, at_end}
 use Rattle.wire.proofs.Fits.{Fits, fits_feed}
 use Rattle.wire.proofs.Live.{Undecided, undecided}
+use Rattle.wire.proofs.Taken.{taken_under, taken_over}
 
 -- ---- bytes
 
@@ -105,16 +105,6 @@ pub piece_stays : (L : Limits) (a : Reading) (p : List ℕ) → piece L (over a)
 unfolding piece taken
 piece_stays L a [] = refl
 piece_stays L a (b ∷ p) = piece_stays L a p
-
-taken_under : (L : Limits) (i : ℕ) (s : State) (b : ℕ) → Fits i s → i < L.bytes → taken L s b ≡ feed L s b
-unfolding taken feed
-taken_under L i (over a) b k h = refl
-taken_under L i (going j n os spot) b k h = rw (lt-leb L.bytes j (omega (arith, k.0)))
-
-taken_over : (L : Limits) (i : ℕ) (s : State) (b : ℕ) → Fits i s → L.bytes ≤ i → taken L s b ≡ cut_off s
-unfolding taken
-taken_over L i (over a) b k h = refl
-taken_over L i (going j n os spot) b k h = rw (le-leb L.bytes j (omega (arith, k.0)))
 
 cut_stays : (L : Limits) (s : State) (p : List ℕ) → piece L (cut_off s) p ≡ cut_off s
 cut_stays L (going i n os spot) p = piece_stays L (Refused TooLong) p

@@ -26,7 +26,8 @@ use Rattle.wire.specs.declared.Inner.TheVariants.{Plain, Escape, Four, Pair, Pai
 use Rattle.wire.specs.declared.Move.{Move}
 use Rattle.wire.specs.declared.Move.TheVariants.{Still, Closed, Wrong2, Wrong3}
 use Rattle.wire.specs.Machine.{Spot, value, first, name, colon, after, word, number, string, key, State, going, over, refuse, begins, quotes, items, firsts, closes, after_of, word_on, on_turn, on_move, feed, finish, feeds}
-use Rattle.wire.proofs.Sane.{InnerOk, MoveOk, SpotOk, sound_beyond, move_ok}
+use Rattle.wire.proofs.Sound.{InnerOk, MoveOk, sound_beyond}
+use Rattle.wire.proofs.Sane.{SpotOk, move_ok}
 use Rattle.wire.proofs.Whole.{Ended, accepts, short, lone, ok_awaits, spot_end}
 
 -- two ways to go on, after which the end answers differently

@@ -2,12 +2,11 @@
 -- A byte keeps that (`feed_sane`), and at the end there is an answer (`ended`). Assumes nothing.
 use mathlib.Core.Path.{◌≡◌, refl}
 use mathlib.Core.List.{List, [], ◌∷◌}
-use mathlib.Core.Bool.{Bool, true, false, cond}
+use mathlib.Core.Bool.{cond}
 use Prim.Native.Nat.{ℕ, zero, suc, ◌+◌, ◌*◌, ◌%◌, ◌≤◌, ◌<◌}
 use native.Mathlib.Omega.{arith}
 use lib.ListN.{length}
 use lib.Dec.{ltb}
-use borrow.Author.Tests.{lt-ltb, le-ltb}
 use Rattle.laws.proofs.Branches.{if_less, if_equal, if_most, if_true}
 use Rattle.laws.specs.Each.{none, more}
 use Rattle.text.specs.Text.{Bytes}
@@ -18,62 +17,17 @@ use Rattle.text.specs.Grammar.{closing}
 use Rattle.text.specs.Tree.{Bracket, square, curly}
 use Rattle.text.specs.declared.Reading.TheVariants.{Rows, Refused}
 use Rattle.wire.specs.Figures.{Turn, Goes, Ends, Stuck, turn_of}
-use Rattle.wire.specs.Inners.{sound, checked, unit_move, hex_move, tail_move, move3, move4, lead_move, paired, move_of}
+use Rattle.wire.specs.Inners.{sound, checked, unit_move, hex_move, tail_move, move4, lead_move, paired, move_of}
 use Rattle.wire.specs.declared.Inner.{Inner}
 use Rattle.wire.specs.declared.Inner.TheVariants.{Plain, Escape, Four, Pair, PairU, Low1, Low2, Low3, Low4, Second3, Second4, Tails}
 use Rattle.wire.specs.declared.Move.{Move}
 use Rattle.wire.specs.declared.Move.TheVariants.{Still, Closed, Wrong2, Wrong3}
 use Rattle.wire.specs.Machine.{Spot, value, first, name, colon, after, word, number, string, key, State, going, over, counted, opens, spot_of, begins, quotes, items, firsts, behind_comma, closes, after_of, word_on, on_turn, on_move, feed}
 use Rattle.wire.proofs.Strings.{digit_most}
+use Rattle.wire.proofs.Sound.{InnerOk, MoveOk, move_cond, sound_low, sound_beyond}
+use Rattle.wire.proofs.ThreeBytes.{three_ok}
 
 -- ---- inside a string
-
--- a character can still come of it
-abbrev pub InnerOk : Inner → Type 0
-InnerOk Plain = Prim.Unit {0}
-InnerOk (Escape from) = Prim.Unit {0}
-InnerOk (Four from left v) = Prim.Unit {0}
-InnerOk (Pair from high) = Prim.Unit {0}
-InnerOk (PairU from high) = Prim.Unit {0}
-InnerOk (Low1 from high) = Prim.Unit {0}
-InnerOk (Low2 from high) = Prim.Unit {0}
-InnerOk (Low3 from high v) = v < 4
-InnerOk (Low4 from high v) = v < 64
-InnerOk (Second3 from c) = c < 16
-InnerOk (Second4 from c) = c < 5
-InnerOk (Tails from zero c) = sound (c % 65536 * 64) ≡ true
-InnerOk (Tails from (suc zero) c) = (16 ≤ c) × (c < 272)
-InnerOk (Tails from (suc (suc left)) c) = ⊥
-
-abbrev pub MoveOk : Move → Type 0
-MoveOk (Still s) = InnerOk s
-MoveOk Closed = Prim.Unit {0}
-MoveOk (Wrong2 p) = Prim.Unit {0}
-MoveOk (Wrong3 p) = Prim.Unit {0}
-
-move_cond : (x : Bool) (a b : Move) → MoveOk a → MoveOk b → MoveOk (cond x a b)
-move_cond true a b p q = p
-move_cond false a b p q = q
-
--- code points that a string may hold
-pub sound_low : (c : ℕ) → c < 0xD800 → sound c ≡ true
-unfolding sound
-sound_low c h = rw (lt-ltb c 0xD800 h)
-
-pub sound_basic : (c : ℕ) → 896 ≤ c → c < 1024 → sound (c * 64) ≡ true
-unfolding sound
-sound_basic c h k =
-    let P : Bool → Type 0 = λ b. b ≡ true in
-    rw (le-ltb (c * 64) 0xD800 (omega arith), le-ltb (c * 64) 0xE000 (omega arith))
-    (if_less P (c * 64) 0xFDD0 (λ l. refl)
-    (λ l. rw (le-ltb (c * 64) 0xFDF0 (omega arith), le-ltb 0x10FFFF (c * 64) (omega arith)) (lt-ltb (c * 64 % 65536) 0xFFFE (omega arith))))
-
--- a multiple of 16 beyond the basic plane
-pub sound_beyond : (c : ℕ) → 0x10000 ≤ c → c ≤ 0x10FFFF → c % 16 ≡ 0 → sound c ≡ true
-unfolding sound
-sound_beyond c h k e =
-    rw (le-ltb c 0xD800 (omega arith), le-ltb c 0xE000 (omega arith), le-ltb c 0xFDD0 (omega arith), le-ltb c 0xFDF0 (omega arith), le-ltb 0x10FFFF c k)
-    (lt-ltb (c % 65536) 0xFFFE (omega arith))
 
 checked_ok : (from c : ℕ) → MoveOk (checked from c)
 unfolding checked
@@ -97,14 +51,6 @@ tail_ok from (suc zero) c x h k =
     let e : (c % 65536 * 64 + x) % 65536 ≡ c * 64 + x = omega (arith, k.1) in
     rw e (sound_beyond ((c * 64 + x) * 64) (omega (arith, k.0)) (omega (arith, k.1)) (omega arith))
 tail_ok from (suc (suc left)) c x h k = absurd k
-
-three_ok : (from c : ℕ) → c < 1024 → MoveOk (move3 from c)
-unfolding move3
-three_ok from c h =
-    let e : c % 65536 ≡ c = omega arith in
-    if_less MoveOk c 32 (λ l. tt)
-    (λ l. if_less MoveOk c 864 (λ m. rw e (sound_low (c * 64) (omega arith)))
-    (λ m. if_less MoveOk c 896 (λ o. tt) (λ o. rw e (sound_basic c o h))))
 
 four_ok : (from c : ℕ) → MoveOk (move4 from c)
 unfolding move4
