@@ -1,6 +1,6 @@
 /* Bezinkol: the card intake, for those who link it from C (Linux on x86-64).
  *
- * `rt staticlib bezinkol` writes target/staticlib/libbezinkol.a, which asks for nothing of a C library but `memset` and `memcpy`. examples/c shows the use.
+ * `rt lib`, in crates/bezinkol, writes out/libbezinkol.a there, which asks for nothing of a C library but `memset` and `memcpy`. examples/c shows the use.
  *
  * A caller's duties
  *

@@ -83,10 +83,11 @@ CASE = re.compile(r"^    ([A-Z]\w*)", re.M)
 
 
 def files(ending):
-    """The files below the crates with such an ending, without their comments."""
-    for path in glob.glob(os.path.join(ROOT, "crates", "**", "*" + ending), recursive=True):
-        with open(path, encoding="utf-8") as file:
-            yield re.sub(r"(?:^|\s)(?:--|//).*", "", file.read())
+    """The files of the crates with such an ending, without their comments."""
+    for folder in ("src", "specs", "proofs"):
+        for path in glob.glob(os.path.join(ROOT, "crates", "*", folder, "**", "*" + ending), recursive=True):
+            with open(path, encoding="utf-8") as file:
+                yield re.sub(r"(?:^|\s)(?:--|//).*", "", file.read())
 
 
 def declared():
@@ -110,7 +111,7 @@ OTHERS = {"isspace", "requires", "specs", "proofs"}
 
 
 def named(page):
-    """The names in backquotes: words, and paths of words (`json::names::{slice, slice_is}`, `Patched.keeps`)."""
+    """The names in backquotes: words, and paths of words (`json_reader::names::{slice, slice_is}`, `Patched.keeps`)."""
     for quoted in re.findall(r"`([^`]*)`", page):
         if re.fullmatch(r"\.?[A-Za-z][\w'-]*(?:(?:::|\.)(?:[\w'-]+|\*|\{[\w, ]+\}))*", quoted) and not quoted.endswith((".antt", ".rt", ".md")):
             yield from (word for word in re.findall(r"[\w'-]+", quoted))

@@ -1,7 +1,7 @@
 """Runs the wrong programs: each must-fail edit of the code below `cases_run` is applied to a copy, and the copy's program, unproved, must miss a case that
 tests/second/duds.py has against it: python3 tests/try_duds.py [CRATE/EDIT ..]
 
-It takes some minutes and isn't part of tests/run. The reader in pieces is in no program of the kit, so the copy has one for it. Edits of definitions make no
+It takes some twenty minutes and isn't part of tests/run. The reader in pieces is in no program of the kit, so the copy has one for it. Edits of definitions make no
 program, and those of `bezinkol` are in none.
 """
 import glob
@@ -19,15 +19,18 @@ from pieces import Pieces
 from rulings import END
 
 CALLED = {"read": "reading", "judge": "judging", "localize": "localizing", "program": "program", "pack": "packing", "unpack": "unpacking"}
-CRATES = ("laws", "unicode", "json", "pieces", "answers", "formats", "pointers", "output", "patch", "fields", "vault", "card", "desk")
+CRATES = ("laws", "code_points", "json_reader", "pieces", "answers", "formats", "pointers", "output", "patch", "fields", "vault", "card",
+    "desk")
 WORDS = 600  # of a table: the interpreter takes so many steps and no more
 LONG = 10000
 
 # A line of its input is a piece, `.` the end, and an empty one a start; for each it writes what is answered.
-IN_PIECES = """use pieces::reader::end;
-use pieces::reader::said;
-use pieces::reader::start;
-use pieces::reader::take;
+IN_PIECES = """// Reads in pieces.
+#![tactic(auto)]
+
+use pieces::reader::{end, said, start, take};
+use std::io;
+use std::io::Read;
 use wire::Held;
 
 fn call(held: Held, line: &[u8]) -> Held {
@@ -40,9 +43,17 @@ fn call(held: Held, line: &[u8]) -> Held {
     take(held, line)
 }
 
-fn main() {
-    let mut input = io::buffer();
-    let size = io::read_full(0, &mut input);
+fn main(rt: HostRuntime) -> io::Result<()> {
+    let mut input = [0u8; 4096];
+    let mut source = rt.stdin();
+    let mut size = 0;
+    while size < input.len() {
+        let n = source.read(&mut input[size..])?;
+        if n == 0 {
+            break;
+        }
+        size = size + n;
+    }
     let mut held = start();
     let mut from = 0;
     let mut at = 0;
@@ -50,13 +61,13 @@ fn main() {
         if input[at] == b'\\n' {
             held = call(held, &input[from..at]);
             from = at + 1;
-            io::print_decimal(1, said(held).number);
-            io::write_all(1, b" ");
-            io::print_decimal(1, said(held).second);
-            io::write_all(1, b"\\n");
+            let number = said(held).number;
+            let second = said(held).second;
+            println!(rt; "{number} {second}")?;
         }
         at = at + 1;
     }
+    Ok(())
 }
 """
 
@@ -112,9 +123,12 @@ def run(room, cases):
         name, said = "in_pieces", [in_pieces(case.text) for case in cases]
     else:
         name, said = "cases_run", [(f"@{case.service}\n{line_of(case)}\n", answer_of(case) + "\n") for case in cases]
-    write(os.path.join(room, "crates", name, "stdin"), "".join(lines for lines, _ in said))
-    write(os.path.join(room, "crates", name, "stdout"), "".join(answers for _, answers in said))
-    return subprocess.run(["rt", "try", name], cwd=room, stdin=subprocess.DEVNULL, capture_output=True, check=False)
+    asked = os.path.join(room, "asked")
+    os.makedirs(asked, exist_ok=True)
+    write(os.path.join(asked, "cases"), "".join(lines for lines, _ in said))
+    write(os.path.join(asked, "cases.stdout"), "".join(answers for _, answers in said))
+    folder = os.path.join(room, "crates", name)
+    return subprocess.run(["rt", "try", "--cases", asked], cwd=folder, stdin=subprocess.DEVNULL, capture_output=True, check=False)
 
 
 def told(room, edit, path, pairs):
@@ -128,18 +142,18 @@ def told(room, edit, path, pairs):
         file.write(text)
     done = run(room, list(cases_against(edit)))
     shutil.copy(os.path.join(ROOT, path), os.path.join(room, path))
-    return b"did not write what is expected" in done.stdout + done.stderr
+    return b" output=differs " in done.stdout + done.stderr
 
 
 def main(wanted):
     faults = count = 0
     with tempfile.TemporaryDirectory() as room:
-        shutil.copytree(os.path.join(ROOT, "crates"), os.path.join(room, "crates"))
+        shutil.copytree(os.path.join(ROOT, "crates"), os.path.join(room, "crates"), ignore=shutil.ignore_patterns("out"))
         shutil.copy(os.path.join(ROOT, "crates.txt"), room)
         os.makedirs(os.path.join(room, "crates", "in_pieces", "src"))
         write(os.path.join(room, "crates", "in_pieces", "src", "main.rt"), IN_PIECES)
         with open(os.path.join(room, "crates.txt"), "a", encoding="utf-8") as file:
-            file.write("in_pieces: wire pieces io\n")
+            file.write("in_pieces: wire pieces\n")
         tried = [one for one in code_edits() if one[0] not in UNSEEN and (not wanted or one[0] in wanted)]
         for cases in batches([case for edit, _, _ in tried for case in cases_against(edit)]):
             if run(room, cases).returncode:

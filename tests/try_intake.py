@@ -136,7 +136,7 @@ class Copy:
 
     def __init__(self, room):
         self.room, self.crates, self.kit = room, os.path.join(room, "crates"), os.path.join(room, "kit", "rt")
-        shutil.copytree(os.path.join(ROOT, "crates"), self.crates)
+        shutil.copytree(os.path.join(ROOT, "crates"), self.crates, ignore=shutil.ignore_patterns("out"))
         for name in ("intake", "crates.txt"):
             shutil.copy(os.path.join(ROOT, name), room)
         os.mkdir(os.path.dirname(self.kit))
@@ -183,9 +183,9 @@ def uses(copy):
 
 def builds(copy):
     """What the program is built again for."""
-    os.utime(os.path.join(copy.crates, "json", "src", "limits.rt"))
+    os.utime(os.path.join(copy.crates, "json_reader", "src", "limits.rt"))
     yield "a source touched", copy.same()
-    for path in ("json/src/limits.rt", "contact/specs/Verdict.antt", "text/proofs/Laws.antt", "desk/src/limits.rt", "intake/src/main.rt"):
+    for path in ("json_reader/src/limits.rt", "contact/specs/Verdict.antt", "text/proofs/Laws.antt", "desk/src/limits.rt", "intake/src/main.rt"):
         yield f"{path} changed", copy.changed(path, copy.again)
         yield f"{path} put back", copy.same()
     for path in ("desk/must-fail/long_text_cut.edit", "cases_run/src/main.rt", "bezinkol/src/lib.rt", "intake/stdin"):
@@ -193,7 +193,7 @@ def builds(copy):
     with kept_aside(os.path.join(copy.room, "crates.txt")) as there:
         grown(there, b"# a comment\nanother: laws\n")
         yield "a crate that the program doesn't stand on", copy.same()
-        grown(there, b"json : laws text unicode repeats io\n")
+        grown(there, b"json_reader : laws text code_points repeats io\n")
         yield "a crate that it stands on, on others", copy.again()
     with kept_aside(os.path.join(copy.room, "target", "bin", "intake")) as there:
         grown(there, b"\n")
@@ -201,7 +201,7 @@ def builds(copy):
     yield "the same once more", copy.same()
     kit_at(copy.kit, "another", "echo no; exit 1")
     yield "another kit", copy.again()
-    kit_at(copy.kit, "another", "printf '#!/bin/sh\\nkill -9 $$\\n' > target/bin/intake")
+    kit_at(copy.kit, "another", "mkdir -p out && printf '#!/bin/sh\\nkill -9 $$\\n' > out/intake && chmod +x out/intake")
     yield "a program that is ended", told(copy.run(), 2, None)
 
 

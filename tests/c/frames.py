@@ -1,6 +1,6 @@
 """What the archive's machine code can take of the stack at most: the frames along its deepest calls. Also that it has no state and what it links to.
 
-    python3 tests/c/frames.py target/staticlib/libbezinkol.a include/bezinkol.h
+    python3 tests/c/frames.py crates/bezinkol/out/libbezinkol.a include/bezinkol.h
 
 Needs objdump (`OBJDUMP` names another one). A function's frame is every push and every step of the stack pointer before its first call's arguments, so
 it is rather too large; what this can't follow (a call through a pointer, a frame of no fixed size, a recursion not named below) ends it with an error.
@@ -13,16 +13,17 @@ import sys
 # How often a function that calls itself, also through others, can be open at once. Depth 64 is 64 containers and a value in the last; all but sorting
 # go from a value to one inside it, also the walk of a pointer, however many parts its key has. Sorting halves at most 32,768 rows or places down to one, of
 # a packing at most 10,923 names.
-OPEN = {"json::values::read_value": 65, "json::values::read_container": 64, "card::walk::breach_at": 65,
-    "patch::writing::copy_value": 65, "patch::writing::put_value": 65, "patch::sort::sort": 16, "json::sort::sort": 16,
+OPEN = {"json_reader::values::read_value": 65, "json_reader::values::read_container": 64, "card::walk::breach_at": 65,
+    "patch::writing::copy_value": 65, "patch::writing::put_value": 65, "patch::sort::sort": 16, "json_reader::sort::sort": 16,
     "vault::pack::put_value": 65, "vault::values::put_value": 65, "fields::sort::sort": 15}
 # These never call themselves: they are written so that their arrays are in no other frame. The texts, names and entries that they would do it for are
 # refused before.
-ONCE = {"json::read::read_long", "json::sort::sort_names", "json::sort::sort_many", "patch::compose::compose", "patch::compose::compose_more",
-    "patch::compose::compose_many", "fields::walk::survey_some", "fields::walk::survey_most"}
+ONCE = {"json_reader::read::read_long", "json_reader::sort::sort_names", "json_reader::sort::sort_many", "patch::compose::compose",
+    "patch::compose::compose_more", "patch::compose::compose_many", "fields::walk::survey_some", "fields::walk::survey_most"}
 # And these only a text of more than BEZINKOL_SHORT_BYTES bytes reaches, which has more than 1,024 names or more than 640 entries, or a packing of more
 # than 6,144 bytes: they are left out of the figure for short texts.
-LONG = {"json::read::read_long", "json::sort::sort_many", "patch::compose::compose_more", "patch::compose::compose_many", "fields::walk::survey_most"}
+LONG = {"json_reader::read::read_long", "json_reader::sort::sort_many", "patch::compose::compose_more", "patch::compose::compose_many",
+    "fields::walk::survey_most"}
 OBJDUMP = os.environ.get("OBJDUMP", "objdump")
 PROBE = 0x1000  # a large frame is taken by pages; where that is a loop, its size is in r11
 
