@@ -118,6 +118,7 @@ fn survey_few(packed: &[u8]) -> Survey
 }
 
 // With some. A function with a call of itself, though never made, becomes part of no other: so these arrays are in no frame but its own.
+#[inline(never)]
 fn survey_some(packed: &[u8]) -> Survey
     requires { length packed.now ≤ 6144 }
     ensures { result ≡ survey_from packed.now 0 0 }
@@ -131,6 +132,7 @@ fn survey_some(packed: &[u8]) -> Survey
 }
 
 // With as many as there may be; in a frame of its own as well.
+#[inline(never)]
 fn survey_most(packed: &[u8]) -> Survey
     requires { length packed.now ≤ longest }
     ensures { result ≡ survey_from packed.now 0 0 }

@@ -137,6 +137,7 @@ fn read_middle(text: &[u8], table: &mut [u32]) -> Reading
 }
 
 // A text of more than 4 KiB: the stores are in no frame but this one's, since a function with a call of itself, though never made, becomes part of no other.
+#[inline(never)]
 fn read_long(text: &[u8], table: &mut [u32]) -> Reading
     requires { length text.now ≤ base.bytes }
     ensures { Ended (read_of base text.now) table.old table.new result }

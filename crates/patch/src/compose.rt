@@ -130,6 +130,7 @@ fn compose_some(
 }
 
 // The same, on lists for more. A function with a call of itself, though never made, becomes part of no other: so these arrays are in no frame but its own.
+#[inline(never)]
 fn compose_more(
     card: &[u8],
     card_table: &[u32],
@@ -154,6 +155,7 @@ fn compose_more(
 }
 
 // The same, on lists for as many entries as there can be, in a frame of their own too.
+#[inline(never)]
 fn compose_many(
     card: &[u8],
     card_table: &[u32],
@@ -178,6 +180,7 @@ fn compose_many(
 }
 
 // The same, on lists sized by the number of entries, which are closed before what was written is judged.
+#[inline(never)]
 fn compose(
     card: &[u8],
     card_table: &[u32],
