@@ -16,8 +16,8 @@ import sys
 OPEN = {"json_reader::values::read_value": 65, "json_reader::values::read_container": 64, "card::walk::breach_at": 65,
     "patch::writing::copy_value": 65, "patch::writing::put_value": 65, "patch::sort::sort": 16, "json_reader::sort::sort": 16,
     "vault::pack::put_value": 65, "vault::values::put_value": 65, "fields::sort::sort": 15}
-# These never call themselves: they are written so that their arrays are in no other frame. The texts, names and entries that they would do it for are
-# refused before.
+# These never call themselves: the texts, names and entries that they would do it for are refused before. They aren't inlined either, so their arrays are in
+# no other frame.
 ONCE = {"json_reader::read::read_long", "json_reader::sort::sort_names", "json_reader::sort::sort_many", "patch::compose::compose",
     "patch::compose::compose_more", "patch::compose::compose_many", "fields::walk::survey_some", "fields::walk::survey_most"}
 # And these only a text of more than BEZINKOL_SHORT_BYTES bytes reaches, which has more than 1,024 names or more than 640 entries, or a packing of more

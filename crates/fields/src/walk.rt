@@ -117,7 +117,7 @@ fn survey_few(packed: &[u8]) -> Survey
     walk(packed, &mut store, &mut scratch)
 }
 
-// With some. A function with a call of itself, though never made, becomes part of no other: so these arrays are in no frame but its own.
+// With some. It becomes part of no other function: so these arrays are in no frame but its own.
 #[inline(never)]
 fn survey_some(packed: &[u8]) -> Survey
     requires { length packed.now ≤ 6144 }

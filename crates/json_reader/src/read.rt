@@ -136,7 +136,7 @@ fn read_middle(text: &[u8], table: &mut [u32]) -> Reading
     read_whole(text, table, &mut names)
 }
 
-// A text of more than 4 KiB: the stores are in no frame but this one's, since a function with a call of itself, though never made, becomes part of no other.
+// A text of more than 4 KiB: the stores are in no frame but this one's, since it becomes part of no other function.
 #[inline(never)]
 fn read_long(text: &[u8], table: &mut [u32]) -> Reading
     requires { length text.now ≤ base.bytes }

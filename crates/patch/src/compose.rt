@@ -129,7 +129,7 @@ fn compose_some(
     )
 }
 
-// The same, on lists for more. A function with a call of itself, though never made, becomes part of no other: so these arrays are in no frame but its own.
+// The same, on lists for more. It becomes part of no other function: so these arrays are in no frame but its own.
 #[inline(never)]
 fn compose_more(
     card: &[u8],
