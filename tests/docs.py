@@ -107,7 +107,7 @@ def declared():
 
 
 # Backquoted words of the two pages that are no names of ours: of C, of the language, and the folders of each crate.
-OTHERS = {"isspace", "requires", "specs", "proofs"}
+OTHERS = {"isspace", "requires", "specs", "proofs", "ReadsAtMost"}
 
 
 def named(page):

@@ -11,19 +11,15 @@ import subprocess
 import sys
 
 # How often a function that calls itself, also through others, can be open at once. Depth 64 is 64 containers and a value in the last; all but sorting
-# go from a value to one inside it, also the walk of a pointer, however many parts its key has. Sorting halves at most 32,768 rows or places down to one, of
-# a packing at most 10,923 names.
+# go from a value to one inside it, also the walk of a pointer, however many parts its key has. Sorting, which is compiled for each order, halves at most 32,768
+# rows or places down to one.
 OPEN = {"json_reader::values::read_value": 65, "json_reader::values::read_container": 64, "card::walk::breach_at": 65,
-    "patch::writing::copy_value": 65, "patch::writing::put_value": 65, "patch::sort::sort": 16, "json_reader::sort::sort": 16,
-    "vault::pack::put_value": 65, "vault::values::put_value": 65, "fields::sort::sort": 15}
-# These never call themselves: the texts, names and entries that they would do it for are refused before. They aren't inlined either, so their arrays are in
-# no other frame.
-ONCE = {"json_reader::read::read_long", "json_reader::sort::sort_names", "json_reader::sort::sort_many", "patch::compose::compose",
-    "patch::compose::compose_more", "patch::compose::compose_many", "fields::walk::survey_some", "fields::walk::survey_most"}
-# And these only a text of more than BEZINKOL_SHORT_BYTES bytes reaches, which has more than 1,024 names or more than 640 entries, or a packing of more
-# than 6,144 bytes: they are left out of the figure for short texts.
-LONG = {"json_reader::read::read_long", "json_reader::sort::sort_many", "patch::compose::compose_more", "patch::compose::compose_many",
-    "fields::walk::survey_most"}
+    "patch::writing::copy_value": 65, "patch::writing::put_value": 65, "laws::sort::sort": 16,
+    "vault::pack::put_value": 65, "vault::values::put_value": 65}
+# These only a text of more than BEZINKOL_SHORT_BYTES bytes reaches, which has more than 1,024 names or more than 640 entries, or a packing of more
+# than 6,144 bytes: they are left out of the figure for short texts. Behind a generic function stands the size of its arrays.
+LONG = {"json_reader::read::read_long", "json_reader::sort::sort_many", "patch::compose::compose_in::<=4096>", "patch::compose::compose_in::<=32768>",
+    "fields::walk::survey_in::<=10923>"}
 OBJDUMP = os.environ.get("OBJDUMP", "objdump")
 PROBES = {0x1000, 0xC00}  # a large frame is taken by steps of one of these; where that is a loop, its size is in r11
 
@@ -40,6 +36,11 @@ def functions(archive):
         elif name and "\t" in line:
             found[name].append(line.split("\t", 1)[1].strip())
     return found
+
+
+def of_any_type(name):
+    """The name of a function that is compiled for each type or number, without these."""
+    return name.split("::<", 1)[0]
 
 
 def frame_of(name, code):
@@ -94,7 +95,7 @@ def deepest(name, frames, known):
         rounds = out = 0
         for one in circle or {name}:
             frame, below, calls = frames[one]
-            rounds += (1 if one in ONCE else OPEN[one]) * (frame + 8 + max(pushed for to, pushed in calls if to in circle)) if circle else frame
+            rounds += OPEN[of_any_type(one)] * (frame + 8 + max(pushed for to, pushed in calls if to in circle)) if circle else frame
             out = max([out, below] + [8 + pushed + deepest(to, frames, known) for to, pushed in calls if to not in circle])
         known[name] = rounds + out
     return known[name]

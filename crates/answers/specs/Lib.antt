@@ -1,1 +1,2 @@
 pub mod ByVerdict
+pub mod Sheet

@@ -1,6 +1,6 @@
 // What the services answer, without what they do: the answers in the refusal sheet's numbers (docs/RULES.md, 2.1), and that of localizing by a verdict.
-//   sheet    reading's
-//   paper    those of judging and localizing
+//   sheet    any answer's, by the trait `OnPaper`, and reading's refusals
+//   paper    the refusals of judging and localizing
 //   store    those of packing and unpacking
 //   written  what a verdict on the written card makes of it
 #![tactic(auto)]

@@ -1,8 +1,10 @@
-// The answer of reading in the refusal sheet's numbers (docs/RULES.md, 2.1).
+// The answer of reading in the refusal sheet's numbers (docs/RULES.md, 2.1), and how any answer stands there.
 ghost use Rattle.std.specs.Prelude.{◌≡◌};
-ghost use Rattle.text.specs.Sheet.{numbers, paper, refused};
+ghost use Rattle.text.specs.declared.Paper.{Paper};
+ghost use Rattle.text.specs.Sheet.{numbers, refused};
+ghost use Rattle.answers.specs.Sheet.{counted, written};
 
-use text::{Paper, Reading, Refusal};
+use text::{Paper, Refusal};
 
 // A line of the sheet: its number, what goes with it, and the bytes written.
 pub fn line(number: u64, second: usize, written: usize) -> Paper
@@ -15,27 +17,52 @@ pub fn line(number: u64, second: usize, written: usize) -> Paper
     }
 }
 
-// The sheet's line of a refusal.
-pub fn refusal_on_paper(r: Refusal) -> Paper
-    ensures { result ≡ refused r }
-{
-    match r {
-        Refusal::TooLong => line(1, 0, 0),
-        Refusal::Grammar(p) => line(2, p, 0),
-        Refusal::Character(p) => line(3, p, 0),
-        Refusal::Repeated(p) => line(4, p, 0),
-        Refusal::Deep(p) => line(5, p, 0),
-        Refusal::Many(p) => line(6, p, 0),
-        Refusal::Small(rows) => line(7, rows, 0),
+// What has a line on the sheet: a refusal, or an answer that may be one.
+pub trait OnPaper {
+    ghost paper: { Self → Paper };
+
+    // The line.
+    fn on_paper(self) -> Paper
+        ensures { result ≡ paper self };
+}
+
+impl OnPaper for Refusal {
+    ghost paper = { refused };
+
+    #[tactic(auto, unfolding(text::specs::Sheet::refused))]
+    fn on_paper(self) -> Paper {
+        match self {
+            Refusal::TooLong => line(1, 0, 0),
+            Refusal::Grammar(p) => line(2, p, 0),
+            Refusal::Character(p) => line(3, p, 0),
+            Refusal::Repeated(p) => line(4, p, 0),
+            Refusal::Deep(p) => line(5, p, 0),
+            Refusal::Many(p) => line(6, p, 0),
+            Refusal::Small(rows) => line(7, rows, 0),
+        }
     }
 }
 
-// The answer on paper.
-pub fn on_paper(r: Reading) -> Paper
-    ensures { result ≡ paper r }
-{
-    match r {
-        Reading::Rows(n) => line(0, n, 0),
-        Reading::Refused(why) => refusal_on_paper(why),
+// The answer of reading or judging: 0 and the rows, or the refusal's line.
+impl<E: OnPaper> OnPaper for Result<usize, E> {
+    ghost paper = { counted E.paper };
+
+    fn on_paper(self) -> Paper {
+        match self {
+            Ok(rows) => line(0, rows, 0),
+            Err(refusal) => refusal.on_paper(),
+        }
+    }
+}
+
+// That of localizing, packing or unpacking: 0, the rows or values, and the bytes written; or the refusal's line.
+impl<E: OnPaper> OnPaper for Result<(usize, usize), E> {
+    ghost paper = { written E.paper };
+
+    fn on_paper(self) -> Paper {
+        match self {
+            Ok((count, bytes)) => line(0, count, bytes),
+            Err(refusal) => refusal.on_paper(),
+        }
     }
 }

@@ -2,24 +2,19 @@
 ghost use Rattle.std.specs.Prelude.{◌≡◌};
 ghost use Rattle.answers.specs.ByVerdict.{by_verdict, used_by};
 
-use contact::{LocalRefusal, Localized, Verdict};
+use contact::{CardRefusal, LocalRefusal};
 
 // 28, or the rows, where n bytes were written and judged as any text is.
-pub fn by_verdict(v: Verdict, n: usize) -> Localized
+pub fn by_verdict(v: Result<usize, CardRefusal>, n: usize) -> Result<(usize, usize), LocalRefusal>
     ensures { result ≡ by_verdict v n }
 {
-    match v {
-        Verdict::Passed(rows) => Localized::Written(rows, n),
-        Verdict::Failed(r) => Localized::Denied(LocalRefusal::Inner(r)),
-    }
+    let rows = v.map_err(LocalRefusal::Inner)?;
+    Ok((rows, n))
 }
 
 // How many bytes of the output are used.
-pub fn bytes_used(a: Localized) -> usize
+pub fn bytes_used(a: Result<(usize, usize), LocalRefusal>) -> usize
     ensures { result ≡ used_by a }
 {
-    match a {
-        Localized::Written(_, n) => n,
-        Localized::Denied(_) => 0,
-    }
+    a.map_or(0, |(_, n)| n)
 }

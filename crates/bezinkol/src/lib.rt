@@ -8,9 +8,7 @@ ghost use Rattle.wire.specs.Held.{words_of, held_in};
 ghost use Rattle.wire.specs.Service.{wired};
 ghost use Rattle.bezinkol.specs.Answer.{answer_words, Serves, Keeps, Stores, Restores};
 
-use answers::paper::{localized_on_paper, verdict_on_paper};
-use answers::sheet::on_paper;
-use answers::store::{packing_on_paper, unpacking_on_paper};
+use answers::sheet::OnPaper;
 use card::judge::judge;
 use card::localize::localize;
 use json_reader::read::read;
@@ -32,8 +30,8 @@ fn put_answer(p: Paper, answer: &mut [u64; 3])
 pub extern "C" fn bezinkol_read(text: &[u8], table: &mut [u32], answer: &mut [u64; 3])
     ensures { Serves (services.read text.now (length table.old)) answer.new table.new [] }
 {
-    let r = read(text, table);
-    put_answer(on_paper(r), answer);
+    let rows = read(text, table);
+    put_answer(rows.on_paper(), answer);
 }
 
 // Judges a text as a card.
@@ -41,8 +39,8 @@ pub extern "C" fn bezinkol_read(text: &[u8], table: &mut [u32], answer: &mut [u6
 pub extern "C" fn bezinkol_judge(text: &[u8], table: &mut [u32], answer: &mut [u64; 3])
     ensures { Serves (services.judge text.now (length table.old)) answer.new table.new [] }
 {
-    let v = judge(text, table);
-    put_answer(verdict_on_paper(v), answer);
+    let verdict = judge(text, table);
+    put_answer(verdict.on_paper(), answer);
 }
 
 // Localizes a card to a language.
@@ -56,8 +54,8 @@ pub extern "C" fn bezinkol_localize(
 )
     ensures { Serves (services.localize text.now language.now (length table.old) (length out.old)) answer.new table.new out.new }
 {
-    let a = localize(text, language, out, table);
-    put_answer(localized_on_paper(a), answer);
+    let localized = localize(text, language, out, table);
+    put_answer(localized.on_paper(), answer);
 }
 
 // The state of a reader in pieces in nine words, of which the bits of the brackets are two.
@@ -147,8 +145,8 @@ pub extern "C" fn bezinkol_pack(
 )
     ensures { Stores text.now (length table.old) (length out.old) answer.new table.new out.new }
 {
-    let a = pack(text, out, table);
-    put_answer(packing_on_paper(a), answer);
+    let packing = pack(text, out, table);
+    put_answer(packing.on_paper(), answer);
 }
 
 // Unpacks what was packed.
@@ -156,6 +154,6 @@ pub extern "C" fn bezinkol_pack(
 pub extern "C" fn bezinkol_unpack(packed: &[u8], out: &mut [u8], answer: &mut [u64; 3])
     ensures { Restores packed.now (length out.old) answer.new out.new }
 {
-    let a = unpack(packed, out);
-    put_answer(unpacking_on_paper(a), answer);
+    let unpacking = unpack(packed, out);
+    put_answer(unpacking.on_paper(), answer);
 }

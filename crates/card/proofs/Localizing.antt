@@ -4,6 +4,7 @@
 --     given_so, refused-so, written-so       what is answered before the output is cleared
 --     localizes                      and what clearing leaves
 -- Assumes nothing.
+use Rattle.std.specs.Prelude.{Result, Ok, Err}
 use Prim.Native.Nat.{ℕ, ◌-◌, ◌≤◌}
 use mathlib.Core.Path.{◌≡◌, refl, ap, ◌∙◌}
 use mathlib.Core.Bool.{Bool, true, false, cond}
@@ -24,13 +25,9 @@ use Rattle.contact.specs.Localize.{Outcome, done, denied, by_judge, by_room, loc
 use Rattle.contact.specs.Places.{key_place}
 use Rattle.contact.specs.Judging.{Judges}
 use Rattle.contact.specs.Contract.{Localizes}
-use Rattle.contact.specs.declared.Verdict.{Verdict}
-use Rattle.contact.specs.declared.Verdict.TheVariants.{Passed, Failed}
 use Rattle.contact.specs.declared.CardRefusal.{CardRefusal}
 use Rattle.contact.specs.declared.LocalRefusal.{LocalRefusal}
 use Rattle.contact.specs.declared.LocalRefusal.TheVariants.{Given, Short, Inner}
-use Rattle.contact.specs.declared.Localized.{Localized}
-use Rattle.contact.specs.declared.Localized.TheVariants.{Written, Denied}
 use Rattle.contact.proofs.Patching.Public.{given_iff, passed_so}
 use Rattle.contact.proofs.Patching.Readback.{card_writable, judged_loose}
 use Rattle.contact.proofs.Patching.Contract.{paper_follows}
@@ -39,15 +36,13 @@ use Rattle.card.specs.Localizing.{judged_outcome, Composed, Made, Yields, Begins
 use Rattle.answers.specs.ByVerdict.{by_verdict, used_by}
 use Rattle.card.specs.Judged.{JudgesRows}
 use Rattle.card.proofs.Judging.Verdict.{passed_rows, failed_rows}
-use Rattle.patch.specs.declared.compose.Attempt.TheVariants.{Bytes, Refused}
 use Rattle.patch.specs.Drafts.{Draft, draft, refusal, draft_of, draft_outcome, CardIn, Drafted, MakesFor}
-use Rattle.patch.specs.declared.compose.Attempt.{Attempt}
 use Rattle.patch.proofs.Drafting.Drafts.{localized_draft}
 use Rattle.patch.proofs.Drafting.Sayable.{Sayable, draft_sayable}
 
 -- ---- what judging left
 
-pub card_there : {t lent table : List ℕ} {n : ℕ} → JudgesRows base t lent (Passed n) table → length table ≡ length lent → (f : Forest) × CardIn t table f
+pub card_there : {t lent table : List ℕ} {n : ℕ} → JudgesRows base t lent (Ok n) table → length table ≡ length lent → (f : Forest) × CardIn t table f
 card_there {t} {lent} j long =
     let p = passed_rows j in
     (p.tree, record { passes = rw long p.is; rows = (rows_stay p.tree lent p.room p.rows).stands })
@@ -63,7 +58,7 @@ module _ (words : ℕ) (t old new : List ℕ) (is : new ≡ sets old 0 t) (said 
   front h = rw (is, sets-eq t old 0 (omega (arith, h))) (take-append_seam t _)
 
   made_draft : (b : Bool) → ltb (length old) (length t) ≡ b
-      → Made words (length old) (by_room base words (length old) t) new (cond b (Refused (Short (length t))) (Bytes (length t)))
+      → Made words (length old) (by_room base words (length old) t) new (cond b (Err (Short (length t))) (Ok (length t)))
   made_draft true h = short_so base words (length old) t (ltb-true (length old) (length t) h)
   made_draft false h =
       let room = ltb-false (length old) (length t) h in
@@ -72,7 +67,7 @@ module _ (words : ℕ) (t old new : List ℕ) (is : new ≡ sets old 0 t) (said 
         is = rw (front room, alike) (room_so base words (length old) t room);
       }
 
-made_of : (words : ℕ) (d : Draft) (old new : List ℕ) (r : Attempt) → Sayable d → Drafted d old new r
+made_of : (words : ℕ) (d : Draft) (old new : List ℕ) (r : Result ℕ LocalRefusal) → Sayable d → Drafted d old new r
     → Made words (length old) (draft_outcome base words (length old) d) new r
 made_of words (refusal q tried) old new r said (e, same) = rw e refl
 made_of words (draft t) old new r said (e, is) = rw e (made_draft words t old new is said (ltb (length old) (length t)) refl)
@@ -80,46 +75,46 @@ made_of words (draft t) old new r said (e, is) = rw e (made_draft words t old ne
 -- ---- 28
 
 module _ {t lent table : List ℕ} (room : ℕ) where
-  judged_passed : {rows n : ℕ} → Judges (loose base) t lent (Passed rows) table → length t ≡ n
-      → Yields (length lent) (judged_outcome (length lent) room t) (Written rows n) table
+  judged_passed : {rows n : ℕ} → Judges (loose base) t lent (Ok rows) table → length t ≡ n
+      → Yields (length lent) (judged_outcome (length lent) room t) (Ok (rows, n)) table
   unfolding by_judge answer_of_outcome table_of_outcome table_of_judged
   judged_passed {rows} {n} j long =
-      go (judged_of (loose base) (length lent) t) (judged_answer (Passed rows) (judged_of (loose base) (length lent) t) j.answered) j.table
+      go (judged_of (loose base) (length lent) t) (judged_answer (Ok rows) (judged_of (loose base) (length lent) t) j.answered) j.table
     where
-      go : (o : Judged) → Passed rows ≡ answer_of_judged o → table ≡ table_of_judged (length lent) o
-          → Yields (length lent) (by_judge base (length lent) room t o) (Written rows n) table
+      go : (o : Judged) → Ok rows ≡ answer_of_judged o → table ≡ table_of_judged (length lent) o
+          → Yields (length lent) (by_judge base (length lent) room t o) (Ok (rows, n)) table
       go (passed f) e k = record { answer = cc; rows = k }
       go (failed r) e k = let z : ◌≡◌ {A = ℕ} 0 1 = cc in absurd (omega arith)
 
-  judged_failed : {r : CardRefusal} → Judges (loose base) t lent (Failed r) table
-      → Yields (length lent) (judged_outcome (length lent) room t) (Denied (Inner r)) table
+  judged_failed : {r : CardRefusal} → Judges (loose base) t lent (Err r) table
+      → Yields (length lent) (judged_outcome (length lent) room t) (Err (Inner r)) table
   unfolding by_judge answer_of_outcome table_of_outcome table_of_judged
   judged_failed {r} j =
-      go (judged_of (loose base) (length lent) t) (judged_answer (Failed r) (judged_of (loose base) (length lent) t) j.answered) j.table
+      go (judged_of (loose base) (length lent) t) (judged_answer (Err r) (judged_of (loose base) (length lent) t) j.answered) j.table
     where
-      go : (o : Judged) → Failed r ≡ answer_of_judged o → table ≡ table_of_judged (length lent) o
-          → Yields (length lent) (by_judge base (length lent) room t o) (Denied (Inner r)) table
+      go : (o : Judged) → Err r ≡ answer_of_judged o → table ≡ table_of_judged (length lent) o
+          → Yields (length lent) (by_judge base (length lent) room t o) (Err (Inner r)) table
       go (passed f) e k = let z : ◌≡◌ {A = ℕ} 0 1 = cc in absurd (omega arith)
       go (failed q) e k = record { answer = cc; rows = k }
 
-  pub judged_by : (v : Verdict) {n : ℕ} → Judges (loose base) t lent v table → length t ≡ n
+  pub judged_by : (v : Result ℕ CardRefusal) {n : ℕ} → Judges (loose base) t lent v table → length t ≡ n
       → Yields (length lent) (judged_outcome (length lent) room t) (by_verdict v n) table
-  judged_by (Passed rows) j long = judged_passed j long
-  judged_by (Failed r) j long = judged_failed j
+  judged_by (Ok rows) j long = judged_passed j long
+  judged_by (Err r) j long = judged_failed j
 
 -- ---- all but clearing the output
 
 denied_so : {words : ℕ} {o : Outcome} {r : LocalRefusal} {table : List ℕ} (out : List ℕ) → o ≡ denied r → table ≡ replicate words 0
-    → Answers words o (Denied r) table out
+    → Answers words o (Err r) table out
 unfolding answer_of_outcome table_of_outcome
 denied_so out e zeros = rw e (record { yields = record { answer = refl; rows = rw sub-zero zeros }; begins = tt })
 
-pub given_so : {t lent table : List ℕ} (lang : Name) (out : List ℕ) {r : CardRefusal} → JudgesRows base t lent (Failed r) table
-    → Answers (length lent) (localized_of base (length lent) (length out) t lang) (Denied (Given r)) table out
+pub given_so : {t lent table : List ℕ} (lang : Name) (out : List ℕ) {r : CardRefusal} → JudgesRows base t lent (Err r) table
+    → Answers (length lent) (localized_of base (length lent) (length out) t lang) (Err (Given r)) table out
 given_so {t} {lent} lang out {r} j =
     let (is, zeros) = failed_rows j in denied_so out ((given_iff base (length lent) (length out) t lang r).1 is) zeros
 
-judged_so : {words room n : ℕ} {o : Outcome} {r : Localized} {table out : List ℕ} → Composed words room o out n
+judged_so : {words room n : ℕ} {o : Outcome} {r : (Result (ℕ × ℕ) LocalRefusal)} {table out : List ℕ} → Composed words room o out n
     → Yields words (judged_outcome words room (take n out)) r table → Answers words o r table out
 unfolding by_judge
 judged_so {words} {room} {n} {o} {r} {table} {out} c j = rw c.is (record { yields = j; begins = go (judged_of (loose base) words (take n out)) })
@@ -132,7 +127,7 @@ judged_so {words} {room} {n} {o} {r} {table} {out} c j = rw c.is (record { yield
     go (failed q) = tt
 
 -- a card that judging let pass, and what was made of it
-module _ {t lent table : List ℕ} {count : ℕ} (j : JudgesRows base t lent (Passed count) table) (long : length table ≡ length lent) (old : List ℕ)
+module _ {t lent table : List ℕ} {count : ℕ} (j : JudgesRows base t lent (Ok count) table) (long : length table ≡ length lent) (old : List ℕ)
     (lang : Name) where
   abbrev room : ℕ
   room = length old
@@ -140,7 +135,7 @@ module _ {t lent table : List ℕ} {count : ℕ} (j : JudgesRows base t lent (Pa
   abbrev outcome_of : Forest → Outcome
   outcome_of f = localized_doc base (length table) room (key_place t f lang) (doc_of t f) lang
 
-  made_for : (out : List ℕ) (r : Attempt) → MakesFor t table lang old out r → (f : Forest) → CardIn t table f
+  made_for : (out : List ℕ) (r : Result ℕ LocalRefusal) → MakesFor t table lang old out r → (f : Forest) → CardIn t table f
       → Made (length table) room (outcome_of f) out r
   made_for out r h f k =
       let place = key_place t f lang in
@@ -149,35 +144,35 @@ module _ {t lent table : List ℕ} {count : ℕ} (j : JudgesRows base t lent (Pa
       (made_of (length table) (draft_of place (doc_of t f) lang) old out r sayable (h f k))
 
   -- the same of the outcome for the text
-  answers_as : (f : Forest) → CardIn t table f → {r : Localized} {rows out : List ℕ} → Answers (length table) (outcome_of f) r rows out
+  answers_as : (f : Forest) → CardIn t table f → {r : (Result (ℕ × ℕ) LocalRefusal)} {rows out : List ℕ} → Answers (length table) (outcome_of f) r rows out
       → Answers (length lent) (localized_of base (length lent) room t lang) r rows out
   answers_as f k a = rw (← long, passed_so base (length table) room t lang f k.passes) a
 
-  pub refused_so : {r : LocalRefusal} {rows : List ℕ} (out : List ℕ) → MakesFor t table lang old out (Refused r) → rows ≡ replicate (length table) 0
-      → Answers (length lent) (localized_of base (length lent) room t lang) (Denied r) rows out
-  refused_so {r} out h zeros = let (f, k) = card_there j long in answers_as f k (denied_so out (made_for out (Refused r) h f k) zeros)
+  pub refused_so : {r : LocalRefusal} {rows : List ℕ} (out : List ℕ) → MakesFor t table lang old out (Err r) → rows ≡ replicate (length table) 0
+      → Answers (length lent) (localized_of base (length lent) room t lang) (Err r) rows out
+  refused_so {r} out h zeros = let (f, k) = card_there j long in answers_as f k (denied_so out (made_for out (Err r) h f k) zeros)
 
-  module _ (n : ℕ) (out : List ℕ) (h : MakesFor t table lang old out (Bytes n)) where
+  module _ (n : ℕ) (out : List ℕ) (h : MakesFor t table lang old out (Ok n)) where
     pub fits_so : n ≤ length out
-    fits_so = let (f, k) = card_there j long in (made_for out (Bytes n) h f k).fits
+    fits_so = let (f, k) = card_there j long in (made_for out (Ok n) h f k).fits
 
-    pub written_so : {r : Localized} {rows : List ℕ} → Yields (length table) (judged_outcome (length table) room (take n out)) r rows
+    pub written_so : {r : (Result (ℕ × ℕ) LocalRefusal)} {rows : List ℕ} → Yields (length table) (judged_outcome (length table) room (take n out)) r rows
         → Answers (length lent) (localized_of base (length lent) room t lang) r rows out
-    written_so d = let (f, k) = card_there j long in answers_as f k (judged_so (made_for out (Bytes n) h f k) d)
+    written_so d = let (f, k) = card_there j long in answers_as f k (judged_so (made_for out (Ok n) h f k) d)
 
 -- ---- clearing the output
 
 -- the used bytes of the output, and zeros behind them
-record Ready (o : Outcome) (r : Localized) (out : List ℕ) : Type 0 where
+record Ready (o : Outcome) (r : Result (ℕ × ℕ) LocalRefusal) (out : List ℕ) : Type 0 where
   fits : used_by r ≤ length out
   bytes : take (used_by r) out ++ replicate (length out - used_by r) 0 ≡ output_of_outcome (length out) o
 
-ready : (o : Outcome) {r : Localized} {out : List ℕ} → r ≡ answer_of_outcome o → BeginsWith o out → Ready o r out
+ready : (o : Outcome) {r : (Result (ℕ × ℕ) LocalRefusal)} {out : List ℕ} → r ≡ answer_of_outcome o → BeginsWith o out → Ready o r out
 unfolding answer_of_outcome output_of_outcome
 ready (done text f) e b = rw e (record { fits = b.0; bytes = rw b.1 })
 ready (denied q) e b = rw e (record { fits = omega arith; bytes = refl })
 
-module _ {words : ℕ} {o : Outcome} {r : Localized} {table out : List ℕ} (a : Answers words o r table out) {used : ℕ} (is : used ≡ used_by r) where
+module _ {words : ℕ} {o : Outcome} {r : (Result (ℕ × ℕ) LocalRefusal)} {table out : List ℕ} (a : Answers words o r table out) {used : ℕ} (is : used ≡ used_by r) where
   all_ready : Ready o r out
   all_ready = ready o a.yields.answer a.begins
 
@@ -192,7 +187,7 @@ module _ {words : ℕ} {o : Outcome} {r : Localized} {table out : List ℕ} (a :
       ∙ all_ready.bytes
       ∙ ap (λ (k : ℕ). output_of_outcome k o) long
 
-pub localizes : {words room : ℕ} {text : List ℕ} {lang : Name} {r : Localized} {table out : List ℕ}
+pub localizes : {words room : ℕ} {text : List ℕ} {lang : Name} {r : (Result (ℕ × ℕ) LocalRefusal)} {table out : List ℕ}
     → Answers words (localized_of base words room text lang) r table out → length out ≡ room → {used : ℕ} → used ≡ used_by r → {rest : List ℕ}
     → rest ≡ replicate (length (mid_of used (length out - used) out)) 0
     → Localizes base words room text lang r table (put_mid used (length out - used) out rest)

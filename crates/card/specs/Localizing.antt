@@ -1,11 +1,10 @@
 -- What the functions that localize promise each other. Assumes nothing: these are definitions.
+use Rattle.std.specs.Prelude.{Result, Ok, Err}
+use Rattle.contact.specs.declared.LocalRefusal.{LocalRefusal}
 use Rattle.std.specs.Prelude.{ℕ, ◌≤◌, ◌≡◌, List, length, take}
 use Rattle.text.specs.Limits.{base, loose}
 use Rattle.contact.specs.Verdict.{judged_of}
 use Rattle.contact.specs.Localize.{Outcome, done, denied, by_judge, answer_of_outcome, table_of_outcome}
-use Rattle.contact.specs.declared.Localized.{Localized}
-use Rattle.patch.specs.declared.compose.Attempt.{Attempt}
-use Rattle.patch.specs.declared.compose.Attempt.TheVariants.{Bytes, Refused}
 
 -- what becomes of a text that was written: condition 28. It is judged without comparing names, since what was written has none twice in an object
 abbrev pub judged_outcome : (words room : ℕ) → List ℕ → Outcome
@@ -17,12 +16,12 @@ pub record Composed (words room : ℕ) (o : Outcome) (out : List ℕ) (n : ℕ) 
   pub is : o ≡ judged_outcome words room (take n out)
 
 -- what is known of the outcome when the card was written, or was not
-abbrev pub Made : (words room : ℕ) → Outcome → (out : List ℕ) → Attempt → Type 0
-Made words room o out (Bytes n) = Composed words room o out n
-Made words room o out (Refused r) = o ≡ denied r
+abbrev pub Made : (words room : ℕ) → Outcome → (out : List ℕ) → Result ℕ LocalRefusal → Type 0
+Made words room o out (Ok n) = Composed words room o out n
+Made words room o out (Err r) = o ≡ denied r
 
 -- the answer and the table are the outcome's
-pub record Yields (words : ℕ) (o : Outcome) (r : Localized) (table : List ℕ) : Type 0 where
+pub record Yields (words : ℕ) (o : Outcome) (r : Result (ℕ × ℕ) LocalRefusal) (table : List ℕ) : Type 0 where
   pub answer : r ≡ answer_of_outcome o
   pub rows : table ≡ table_of_outcome words o
 
@@ -32,6 +31,6 @@ BeginsWith (done text f) out = (length text ≤ length out) × (take (length tex
 BeginsWith (denied r) out = Prim.Unit {0}
 
 -- the answer and the table are the outcome's, and the output begins so
-pub record Answers (words : ℕ) (o : Outcome) (r : Localized) (table out : List ℕ) : Type 0 where
+pub record Answers (words : ℕ) (o : Outcome) (r : Result (ℕ × ℕ) LocalRefusal) (table out : List ℕ) : Type 0 where
   pub yields : Yields words o r table
   pub begins : BeginsWith o out

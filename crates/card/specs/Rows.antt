@@ -1,6 +1,7 @@
 -- What a search among the rows of a value's members finds; and the key of an entry, by its row and those before it. Assumes nothing: these are definitions.
+use Rattle.std.specs.Prelude.{Some, None, Option}
 use Rattle.std.specs.Prelude.{ℕ, ◌≡◌, List, [], ◌∷◌}
-use Rattle.std.proofs.Math.Option.{Option, none, some}
+use Rattle.std.proofs.Math.Option.{Option as Maybe, none, some}
 use Rattle.text.specs.Tree.{Forest}
 use Rattle.text.specs.Firsts.{HasFirst}
 use Rattle.text.specs.Standing.{Stands}
@@ -8,8 +9,6 @@ use Rattle.text.specs.Strings.{name_of}
 use Rattle.text.specs.Doc.{Name, Members, empty, member, Doc, doc_of, members_of}
 use Rattle.contact.specs.Schema.{Key}
 use Rattle.json_reader.specs.Rows.{name_start_in, name_end_in}
-use Rattle.json_reader.specs.declared.lookup.Found.{Found}
-use Rattle.json_reader.specs.declared.lookup.Found.TheVariants.{Row, Nothing}
 
 -- a value stands at the row, the first of some
 pub record ValueAt (table : List ℕ) (row : ℕ) (f : Forest) : Type 0 where
@@ -17,14 +16,14 @@ pub record ValueAt (table : List ℕ) (row : ℕ) (f : Forest) : Type 0 where
   pub stands : Stands table row f
 
 -- the answer is the row of the value of what there is, or there is none
-abbrev pub RowOf : {A : Type 0} → (value_of : A → Doc) → (text table : List ℕ) → Found → Option A → Type 0
-RowOf value_of text table (Row k) (some a) = (f : Forest) × ValueAt table k f × (value_of a ≡ doc_of text f)
-RowOf value_of text table (Row k) none = ⊥
-RowOf value_of text table Nothing (some a) = ⊥
-RowOf value_of text table Nothing none = Prim.Unit {0}
+abbrev pub RowOf : {A : Type 0} → (value_of : A → Doc) → (text table : List ℕ) → Option ℕ → Maybe A → Type 0
+RowOf value_of text table (Some k) (some a) = (f : Forest) × ValueAt table k f × (value_of a ≡ doc_of text f)
+RowOf value_of text table (Some k) none = ⊥
+RowOf value_of text table None (some a) = ⊥
+RowOf value_of text table None none = Prim.Unit {0}
 
 -- of a value
-abbrev pub ValueOf : (text table : List ℕ) → Found → Option Doc → Type 0
+abbrev pub ValueOf : (text table : List ℕ) → Option ℕ → Maybe Doc → Type 0
 ValueOf text table r o = RowOf (λ (d : Doc). d) text table r o
 
 -- the names of members, the last of them first, before some names

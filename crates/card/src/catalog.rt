@@ -360,21 +360,14 @@ pub(crate) fn may_be(words: &[u8], i: usize, first: u16) -> bool
     requires { i * name_width < length words.now }
     ensures { result ≡ (eqb first 92 || eqb (byte_at words.now (i * name_width)) first) }
 {
-    if first == BACKSLASH {
-        return true;
-    }
-    peek(words, i * WIDTH) == first
+    first == BACKSLASH || peek(words, i * WIDTH) == first
 }
 
 // The place of an object type. Those without a record have the one behind the last.
 fn name_place(o: u32) -> usize
     ensures { result ≡ name_place o }
 {
-    let i = o as usize;
-    if TYPES < i {
-        return TYPES;
-    }
-    i
+    TYPES.min(o as usize)
 }
 
 // The name of an object type.

@@ -7,51 +7,47 @@ ghost use Rattle.text.specs.Doc.{Doc, doc_of, members_of, seek, is_there};
 ghost use Rattle.contact.specs.Rules.{is_string, is_this_string, has_kind};
 ghost use Rattle.card.specs.Rows.{ValueAt, ValueOf};
 
+use crate::case::Case;
 use crate::content::is_content;
-use json_reader::lookup::{Found, find};
+use json_reader::lookup::find;
 use json_reader::rows::{STRING, kind, value_end, value_start};
 
 // Is there a member of that name?
-pub(crate) fn has(text: &[u8], table: &[u32], from: usize, end: usize, name: &[u8]) -> bool
-    ensures { (f : Forest) → StandsTo table.now from end f → result ≡ is_there (seek name.now (members_of text.now f)) }
+pub(crate) fn has(on: &Case, from: usize, end: usize, name: &[u8]) -> bool
+    ensures { (f : Forest) → StandsTo on.now.table.now from end f → result ≡ is_there (seek name.now (members_of on.now.text.now f)) }
 {
-    match find(text, table, from, end, name) {
-        Found::Row(_) => true,
-        Found::Nothing => false,
-    }
+    find(on.text, on.table, from, end, name).is_some()
 }
 
 // Is the value at a row a string with that content?
-fn is_string(text: &[u8], table: &[u32], k: usize, content: &[u8]) -> bool
-    ensures { (f : Forest) → ValueAt table.now k f → result ≡ is_string content.now (doc_of text.now f) }
+fn is_string(on: &Case, k: usize, content: &[u8]) -> bool
+    ensures { (f : Forest) → ValueAt on.now.table.now k f → result ≡ is_string content.now (doc_of on.now.text.now f) }
 {
-    if kind(table, k) != STRING {
+    if kind(on.table, k) != STRING {
         return false;
     }
-    is_content(text, value_start(table, k), value_end(table, k), content)
+    is_content(
+        on.text,
+        value_start(on.table, k),
+        value_end(on.table, k),
+        content,
+    )
 }
 
 // Is what a search has found a string with that content?
-pub(crate) fn is_string_at(text: &[u8], table: &[u32], found: Found, content: &[u8]) -> bool
-    ensures { (o : Option Doc) → ValueOf text.now table.now found o → result ≡ is_this_string content.now o }
+pub(crate) fn is_string_at(on: &Case, found: Option<usize>, content: &[u8]) -> bool
+    ensures { (o : Option Doc) → ValueOf on.now.text.now on.now.table.now found o → result ≡ is_this_string content.now o }
 {
     match found {
-        Found::Row(k) => is_string(text, table, k, content),
-        Found::Nothing => false,
+        Some(k) => is_string(on, k, content),
+        None => false,
     }
 }
 
 // Is there a member of that name that is a string with that content?
-pub(crate) fn has_string(
-    text: &[u8],
-    table: &[u32],
-    from: usize,
-    end: usize,
-    name: &[u8],
-    content: &[u8],
-) -> bool
-    ensures { (f : Forest) → StandsTo table.now from end f → result ≡ has_kind content.now (seek name.now (members_of text.now f)) }
+pub(crate) fn has_string(on: &Case, from: usize, end: usize, name: &[u8], content: &[u8]) -> bool
+    ensures { (f : Forest) → StandsTo on.now.table.now from end f → result ≡ has_kind content.now (seek name.now (members_of on.now.text.now f)) }
 {
-    let found = find(text, table, from, end, name);
-    is_string_at(text, table, found, content)
+    let found = find(on.text, on.table, from, end, name);
+    is_string_at(on, found, content)
 }

@@ -53,10 +53,7 @@ pub(crate) enum Ty {
 fn is_flag(kind: usize) -> bool
     ensures { result ≡ cond (eqb kind 2) true (eqb kind 3) }
 {
-    if kind == FALSE {
-        return true;
-    }
-    kind == TRUE
+    matches!(kind, FALSE | TRUE)
 }
 
 // May a value of that kind be such a simple one?
@@ -64,13 +61,9 @@ fn simple_fits(item: SimpleItem, kind: usize) -> bool
     ensures { result ≡ fits_simple (simple_of item) kind }
 {
     match item {
-        SimpleItem::AnyString => kind == STRING,
-        SimpleItem::TypeName(_) => kind == STRING,
-        SimpleItem::Version => kind == STRING,
-        SimpleItem::Flag => is_flag(kind),
-        SimpleItem::Yes => is_flag(kind),
+        SimpleItem::Flag | SimpleItem::Yes => is_flag(kind),
         SimpleItem::Count(_, _) => kind == NUMBER,
-        SimpleItem::Time => kind == STRING,
+        _ => kind == STRING,
     }
 }
 
@@ -81,9 +74,7 @@ fn item_fits(item: Item, kind: usize) -> bool
     match item {
         Item::Any => true,
         Item::Simple(simple) => simple_fits(simple, kind),
-        Item::ObjectOf(_) => kind == OBJECT,
-        Item::AnyObject => kind == OBJECT,
-        Item::ByType(_, _) => kind == OBJECT,
+        _ => kind == OBJECT,
     }
 }
 
@@ -102,17 +93,7 @@ pub(crate) fn kind_fits(ty: Ty, kind: usize) -> bool
 pub(crate) fn is_any(ty: Ty) -> bool
     ensures { result ≡ is_any (type_of ty) }
 {
-    match ty {
-        Ty::One(item) => match item {
-            Item::Any => true,
-            Item::Simple(_) => false,
-            Item::ObjectOf(_) => false,
-            Item::AnyObject => false,
-            Item::ByType(_, _) => false,
-        },
-        Ty::ListOf(_) => false,
-        Ty::MapOf(_, _) => false,
-    }
+    matches!(ty, Ty::One(Item::Any))
 }
 
 // What a type is for the rules on objects.
@@ -128,11 +109,9 @@ fn item_role(item: Item) -> Role
     ensures { AsObject result (item_type item) }
 {
     match item {
-        Item::Any => Role::Other,
-        Item::Simple(_) => Role::Other,
         Item::ObjectOf(o) => Role::As(o),
-        Item::AnyObject => Role::Other,
         Item::ByType(usual, special) => Role::Between(usual, special),
+        _ => Role::Other,
     }
 }
 
@@ -142,7 +121,6 @@ pub(crate) fn role_of(ty: Ty) -> Role
 {
     match ty {
         Ty::One(item) => item_role(item),
-        Ty::ListOf(_) => Role::Other,
-        Ty::MapOf(_, _) => Role::Other,
+        _ => Role::Other,
     }
 }

@@ -8,88 +8,94 @@ ghost use Rattle.contact.specs.Judge.{card_breach};
 ghost use Rattle.contact.specs.Verdict.{fault_of};
 ghost use Rattle.contact.specs.Judging.{Judges};
 ghost use Rattle.card.specs.Rows.{ValueAt};
-ghost use Rattle.card.specs.Walk.{found_of};
+ghost use Rattle.card.specs.Walk.{sheet_number, found_of};
 ghost use Rattle.card.specs.Judged.{ReadInto, WasRead, JudgedRows, JudgesRows, RowsFit};
 
+use crate::case::Case;
 use crate::catalog::{CARD, NUMBERS, WORDS};
 use crate::schema::object_of;
-use crate::walk::{Breach, breach_at};
-use contact::{CardFault, CardRefusal, Verdict};
+use crate::walk::{Broken, breach_at};
+use contact::{CardFault, CardRefusal};
 use json_reader::limits::ROW_WORDS;
 use json_reader::read::{read_loose, read_rows};
 use json_reader::rows::{OBJECT, kind, value_start};
-use laws::clear::clear_words;
-use text::Reading;
+use text::Refusal;
 
-// The line of the sheet that a number from 11 to 14 names, at a place.
-fn fault_of(number: usize, place: usize) -> CardFault
-    ensures { result ≡ fault_of number place }
+// The line of the sheet that what is broken names, at a place.
+fn fault_of(broken: Broken, place: usize) -> CardFault
+    ensures { result ≡ fault_of (sheet_number broken) place }
 {
-    if number == 11 {
-        return CardFault::Kind(place);
+    match broken {
+        Broken::Kind => CardFault::Kind(place),
+        Broken::Missing => CardFault::Missing(place),
+        Broken::Value => CardFault::Value(place),
+        Broken::Rule => CardFault::Rule(place),
     }
-    if number == 12 {
-        return CardFault::Missing(place);
-    }
-    if number == 13 {
-        return CardFault::Value(place);
-    }
-    CardFault::Rule(place)
 }
 
 // The first breach of a card that stands in a table. The catalog is made here, once for a call, and not for what is no object.
-fn card_breach(text: &[u8], table: &[u32]) -> Breach
+fn card_breach(text: &[u8], table: &[u32]) -> Option<(usize, Broken)>
     requires { (f : Forest) × ValueAt table.now 0 f × Kinds f }
     ensures { (f : Forest) → ValueAt table.now 0 f → Kinds f → found_of result ≡ card_breach (doc_of text.now f) }
 {
     if kind(table, 0) != OBJECT {
-        return Breach::At(0, 11);
+        return Some((0, Broken::Kind));
     }
     let words = WORDS;
     let numbers = NUMBERS;
     let card = object_of(CARD);
-    breach_at(&words, &numbers, text, table, 0, card, true)
+    let on = Case {
+        words: &words,
+        numbers: &numbers,
+        text,
+        table,
+    };
+    breach_at(&on, 0, card, true)
 }
 
 // The verdict on the n rows of a text that was read; where it fails, the table is cleared.
-fn judge_rows(text: &[u8], table: &mut [u32], n: usize) -> Verdict
+fn judge_rows(text: &[u8], table: &mut [u32], n: usize) -> Result<usize, CardRefusal>
     requires { (L : Limits) × (f : Forest) × ReadInto L text.now table.old n f }
     ensures { (L : Limits) (f : Forest) → ReadInto L text.now table.old n f → JudgedRows text.now table.old n f result table.new }
 {
     match card_breach(text, table) {
-        Breach::Nothing => Verdict::Passed(n),
-        Breach::At(row, number) => {
+        None => Ok(n),
+        Some((row, broken)) => {
             let place = value_start(table, row);
-            clear_words(table);
-            Verdict::Failed(CardRefusal::Card(fault_of(number, place)))
+            table.fill(0);
+            Err(CardRefusal::Card(fault_of(broken, place)))
         }
     }
 }
 
 // The verdict on a text that was read into a table with this answer.
-fn judge_read(text: &[u8], table: &mut [u32], read: Reading) -> Verdict
+fn judge_read(
+    text: &[u8],
+    table: &mut [u32],
+    read: Result<usize, Refusal>,
+) -> Result<usize, CardRefusal>
     requires { (L : Limits) × (lent : List ℕ) × WasRead L text.now lent read table.old }
     ensures { (L : Limits) (lent : List ℕ) → WasRead L text.now lent read table.old → JudgesRows L text.now lent result table.new }
 {
     match read {
-        Reading::Refused(r) => Verdict::Failed(CardRefusal::Text(r)),
-        Reading::Rows(n) => judge_rows(text, table, n),
+        Err(r) => Err(CardRefusal::Text(r)),
+        Ok(n) => judge_rows(text, table, n),
     }
 }
 
 // Clears behind the rows of a card that passed: after a refusal nothing is left to clear.
-fn clear_behind(table: &mut [u32], v: Verdict)
+fn clear_behind(table: &mut [u32], v: Result<usize, CardRefusal>)
     requires { RowsFit v table.old }
     ensures { (L : Limits) (t lent : List ℕ) → JudgesRows L t lent v table.old → Judges L t lent v table.new }
 {
-    if let Verdict::Passed(n) = v {
+    if let Ok(n) = v {
         let used = n * ROW_WORDS;
-        clear_words(&mut table[used..]);
+        table[used..].fill(0);
     }
 }
 
 // Judges a text for a caller that clears later: its rows, and the words behind them as they were, or the first refusal and a table of zeros.
-pub(crate) fn judge_kept(text: &[u8], table: &mut [u32]) -> Verdict
+pub(crate) fn judge_kept(text: &[u8], table: &mut [u32]) -> Result<usize, CardRefusal>
     ensures { JudgesRows base text.now table.old result table.new }
 {
     let read = read_rows(text, table);
@@ -97,7 +103,7 @@ pub(crate) fn judge_kept(text: &[u8], table: &mut [u32]) -> Verdict
 }
 
 // Judges a text whose names are known to be distinct, so that they need not be compared.
-pub(crate) fn judge_loose(text: &[u8], table: &mut [u32]) -> Verdict
+pub(crate) fn judge_loose(text: &[u8], table: &mut [u32]) -> Result<usize, CardRefusal>
     ensures { Judges (loose base) text.now table.old result table.new }
 {
     let read = read_loose(text, table);
@@ -107,7 +113,7 @@ pub(crate) fn judge_loose(text: &[u8], table: &mut [u32]) -> Verdict
 }
 
 // Judges a text: the number of its rows, and these in the table, or the first refusal and a table of zeros.
-pub fn judge(text: &[u8], table: &mut [u32]) -> Verdict
+pub fn judge(text: &[u8], table: &mut [u32]) -> Result<usize, CardRefusal>
     ensures { Judges base text.now table.old result table.new }
 {
     let v = judge_kept(text, table);

@@ -3,6 +3,7 @@
 //   content     the content of a string
 //   items       the types of a card's values, and their kinds
 //   inside      the members of a value, by its rows
+//   case        the card at hand and the catalog that is lent
 //   catalog     the known properties and the rules, as words and numbers
 //   schema      what the catalog says of an object's members
 //   types       what a type asks of a value, of its key and of what stands below it
@@ -13,6 +14,7 @@
 //   localize    the service: judged, composed, judged again, cleared
 #![tactic(auto)]
 
+mod case;
 mod catalog;
 mod content;
 mod inside;

@@ -9,6 +9,7 @@ ghost use Rattle.contact.specs.Judge.{lacking};
 ghost use Rattle.card.specs.Types.{simple_of, item_type, type_of, inner_type, bounded_at, item_at, type_at};
 ghost use Rattle.card.specs.Catalog.{MembersAt, lines, no_line, is_missing, Lent, TriesLine, TriesName};
 
+use crate::case::Case;
 use crate::catalog::{
     ANY, ANY_OBJECT, ANY_STRING, BOUNDED, BY_TYPE, FLAG, LIST, LONG, MUST, NAME_OF, OBJECT_OF,
     TIME, VERSION, YES, lines_of, may_be, sized_word,
@@ -96,90 +97,56 @@ pub(crate) struct Object {
 }
 
 // Is property i a mandatory one, and not among the members?
-fn is_missing(
-    words: &[u8],
-    numbers: &[u32],
-    text: &[u8],
-    table: &[u32],
-    object: Object,
-    i: usize,
-) -> bool
-    requires { TriesLine words.now numbers.now i }
-    ensures { (f : Forest) → MembersAt table.now object f → result ≡ is_missing (members_of text.now f) (get_or lines i no_line) }
+fn is_missing(on: &Case, object: Object, i: usize) -> bool
+    requires { TriesLine on.now.words.now on.now.numbers.now i }
+    ensures { (f : Forest) → MembersAt on.now.table.now object f → result ≡ is_missing (members_of on.now.text.now f) (get_or lines i no_line) }
 {
-    let code = numbers[i];
+    let code = on.numbers[i];
     if code / MUST % 2 != 1 {
         return false;
     }
     let size = (code / LONG) as usize;
-    !has(
-        text,
-        table,
-        object.from,
-        object.end,
-        sized_word(words, i, size),
-    )
+    !has(on, object.from, object.end, sized_word(on.words, i, size))
 }
 
 // Is a mandatory member missing?
-pub(crate) fn is_lacking(
-    words: &[u8],
-    numbers: &[u32],
-    text: &[u8],
-    table: &[u32],
-    object: Object,
-) -> bool
-    requires { Lent words.now numbers.now }
-    ensures { (f : Forest) → MembersAt table.now object f → result ≡ lacking (properties object.of) (members_of text.now f) }
+pub(crate) fn is_lacking(on: &Case, object: Object) -> bool
+    requires { Lent on.now.words.now on.now.numbers.now }
+    ensures { (f : Forest) → MembersAt on.now.table.now object f → result ≡ lacking (properties object.of) (members_of on.now.text.now f) }
 {
-    let own = lines_of(numbers, object.of);
-    let last = own.last;
-    let mut i = own.first;
-    while i < last {
-        if is_missing(words, numbers, text, table, object, i) {
+    let own = lines_of(on.numbers, object.of);
+    for i in own.first..own.last {
+        if is_missing(on, object, i) {
             return true;
         }
-        i = i + 1;
     }
     false
 }
 
 // Is a name that of property i? Its first written byte is handed in, since most names differ there.
-fn is_property(
-    words: &[u8],
-    numbers: &[u32],
-    text: &[u8],
-    first: u16,
-    s: usize,
-    e: usize,
-    i: usize,
-) -> bool
-    requires { TriesName words.now numbers.now i text.now s first }
-    ensures { result ≡ same (name_of text.now s e) (get_or lines i no_line).spelling }
+fn is_property(on: &Case, first: u16, s: usize, e: usize, i: usize) -> bool
+    requires { TriesName on.now.words.now on.now.numbers.now i on.now.text.now s first }
+    ensures { result ≡ same (name_of on.now.text.now s e) (get_or lines i no_line).spelling }
 {
-    if !may_be(words, i, first) {
+    if !may_be(on.words, i, first) {
         return false;
     }
-    let code = numbers[i];
+    let code = on.numbers[i];
     let size = (code / LONG) as usize;
-    name_is(text, s, e, sized_word(words, i, size))
+    name_is(on.text, s, e, sized_word(on.words, i, size))
 }
 
 // The code of a member of that name in an object of that type.
-pub(crate) fn type_in(words: &[u8], numbers: &[u32], text: &[u8], o: u32, s: usize, e: usize) -> u32
-    requires { Lent words.now numbers.now }
-    ensures { type_at result ≡ type_in (properties o) (name_of text.now s e) }
+pub(crate) fn type_in(on: &Case, o: u32, s: usize, e: usize) -> u32
+    requires { Lent on.now.words.now on.now.numbers.now }
+    ensures { type_at result ≡ type_in (properties o) (name_of on.now.text.now s e) }
 {
-    let first = peek(text, s);
-    let own = lines_of(numbers, o);
-    let last = own.last;
-    let mut i = own.first;
-    while i < last {
-        if is_property(words, numbers, text, first, s, e, i) {
-            let code = numbers[i];
-            return code;
+    let first = peek(on.text, s);
+    let own = lines_of(on.numbers, o);
+    for i in own.first..own.last {
+        if is_property(on, first, s, e, i) {
+            return on.numbers[i];
         }
-        i = i + 1;
     }
     ANY
 }

@@ -1,5 +1,5 @@
 // The line of the program `intake` on stored cases, which are its inputs. Written are its two numbers and a sum of all words of the table that the program has.
-use crate::buffers::{set_words, words_of};
+use crate::buffers::{Buffers, lent};
 use crate::lines::unpack;
 use crate::reading::report;
 use desk::limits::ROWS;
@@ -9,20 +9,15 @@ use std::io;
 
 const LENT: usize = ROWS * ROW_WORDS;
 
-fn call(rt: &impl Print, input: &[u8], table: &mut [u32]) -> io::Result<()> {
-    set_words(table);
-    let paper = line_for(input, table);
-    report(rt, paper, table)
-}
-
-pub fn case_of(
-    rt: &impl Print,
-    line: &[u8],
-    base: &[u8],
-    text: &mut [u8],
-    table: &mut [u32],
-) -> io::Result<()> {
+pub fn case_of(rt: &impl Print, line: &[u8], buffers: Buffers) -> io::Result<()> {
+    let Buffers {
+        base,
+        text,
+        out: _,
+        table,
+    } = buffers;
     let size = unpack(line, base, text);
-    let lent = words_of(LENT, table);
-    call(rt, &text[..size], &mut table[..lent])
+    let table = lent(table, LENT, u32::MAX);
+    let paper = line_for(&text[..size], table);
+    report(rt, paper, table)
 }

@@ -3,9 +3,10 @@
 #![tactic(auto)]
 
 ghost use Rattle.std.specs.Prelude.{◌≡◌};
+ghost use Rattle.code_points.specs.Characters.{is_character};
 ghost use Rattle.text.specs.Chars.{checked_at, tail_of, seq2, seq3, seq4};
 
-use text::Step;
+use text::Fault;
 
 // What stands for no code point: one more than the largest.
 const NO_CODE: u32 = 0x110000;
@@ -63,28 +64,35 @@ pub fn code4(b: u16, x: u32, y: u32, z: u32) -> u32
     if code < 65536 { NO_CODE } else { code }
 }
 
-// A character of `len` bytes at `at`, if its code point is allowed; else refusal 3 at `at`.
-pub fn checked(at: usize, code: u32, len: usize) -> Step
-    ensures { result ≡ checked_at at code len }
+// Is a code point a character? No surrogate is, no noncharacter, and none past the last.
+pub fn is_character(code: u32) -> bool
+    ensures { result ≡ is_character code }
 {
     if code < 0xD800 {
-        return Step::Char(code, len);
+        return true;
     }
     if code < 0xE000 {
-        return Step::Bad3(at);
+        return false;
     }
     if code < 0xFDD0 {
-        return Step::Char(code, len);
+        return true;
     }
     if code < 0xFDF0 {
-        return Step::Bad3(at);
+        return false;
     }
     if 0x10FFFF < code {
-        return Step::Bad3(at);
+        return false;
     }
-    if code % 65536 < 0xFFFE {
-        Step::Char(code, len)
+    code % 65536 < 0xFFFE
+}
+
+// A character of `len` bytes at `at`, if its code point is one; else refusal 3 at `at`.
+pub fn checked(at: usize, code: u32, len: usize) -> Result<Option<(u32, usize)>, Fault<usize>>
+    ensures { result ≡ checked_at at code len }
+{
+    if is_character(code) {
+        Ok(Some((code, len)))
     } else {
-        Step::Bad3(at)
+        Err(Fault::Forbidden(at))
     }
 }

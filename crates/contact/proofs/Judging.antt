@@ -13,6 +13,7 @@ pub mod BetweenMembers
 pub mod Rows
 pub mod Breaches
 pub mod Shown
+use Rattle.std.specs.Prelude.{Result, Ok, Err}
 use Prim.Native.Nat.{ℕ, ◌≤◌, ◌<◌}
 use mathlib.Core.Path.{◌≡◌, refl, sym, ap, ap₂, subst, subst₂, ◌∙◌}
 use mathlib.Core.Bool.{cond}
@@ -46,8 +47,6 @@ use Rattle.contact.specs.Judging.{CardText, Offends, CardAnswer, unread, passes,
 use Rattle.contact.specs.declared.CardFault.TheVariants.{Kind, Missing, Value, Rule}
 use Rattle.contact.specs.declared.CardRefusal.{CardRefusal}
 use Rattle.contact.specs.declared.CardRefusal.TheVariants.{Text, Card}
-use Rattle.contact.specs.declared.Verdict.{Verdict}
-use Rattle.contact.specs.declared.Verdict.TheVariants.{Passed, Failed}
 use Rattle.contact.proofs.Judging.SimpleValues.{id_test, count_test}
 use Rattle.contact.proofs.Judging.Times.{leap_test, day_test, time_test}
 use Rattle.contact.proofs.Judging.BetweenMembers.{between_test}
@@ -207,25 +206,25 @@ refusal_of n s =
     (cond (eqb n 7) (Text (Small s))
     (cond (eqb n 11) (Card (Kind s)) (cond (eqb n 12) (Card (Missing s)) (cond (eqb n 13) (Card (Value s)) (Card (Rule s)))))))))))
 
-abbrev verdict_on : Paper → Verdict
-verdict_on p = cond (eqb p.number 0) (Passed p.second) (Failed (refusal_of p.number p.second))
+abbrev verdict_on : Paper → Result ℕ CardRefusal
+verdict_on p = cond (eqb p.number 0) (Ok p.second) (Err (refusal_of p.number p.second))
 
-answer_back : (a : Verdict) → verdict_on (paper_of_verdict a) ≡ a
+answer_back : (a : Result ℕ CardRefusal) → verdict_on (paper_of_verdict a) ≡ a
 unfolding paper_of_verdict refused_card refused_fault refused
-answer_back (Passed n) = refl
-answer_back (Failed (Text TooLong)) = refl
-answer_back (Failed (Text (Grammar p))) = refl
-answer_back (Failed (Text (Character p))) = refl
-answer_back (Failed (Text (Repeated p))) = refl
-answer_back (Failed (Text (Deep p))) = refl
-answer_back (Failed (Text (Many p))) = refl
-answer_back (Failed (Text (Small n))) = refl
-answer_back (Failed (Card (Kind p))) = refl
-answer_back (Failed (Card (Missing p))) = refl
-answer_back (Failed (Card (Value p))) = refl
-answer_back (Failed (Card (Rule p))) = refl
+answer_back (Ok n) = refl
+answer_back (Err (Text TooLong)) = refl
+answer_back (Err (Text (Grammar p))) = refl
+answer_back (Err (Text (Character p))) = refl
+answer_back (Err (Text (Repeated p))) = refl
+answer_back (Err (Text (Deep p))) = refl
+answer_back (Err (Text (Many p))) = refl
+answer_back (Err (Text (Small n))) = refl
+answer_back (Err (Card (Kind p))) = refl
+answer_back (Err (Card (Missing p))) = refl
+answer_back (Err (Card (Value p))) = refl
+answer_back (Err (Card (Rule p))) = refl
 
-pub one_answer : (a b : Verdict) → paper_of_verdict a ≡ paper_of_verdict b → a ≡ b
+pub one_answer : (a b : Result ℕ CardRefusal) → paper_of_verdict a ≡ paper_of_verdict b → a ≡ b
 one_answer a b e = sym (answer_back a) ∙ ap verdict_on e ∙ answer_back b
 
 -- ---- all of it

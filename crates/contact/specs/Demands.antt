@@ -7,6 +7,9 @@
 -- `requires`, so nothing is tested beforehand: the contracts give the answer, the table and the output of `served` for every call, and so the
 -- demands hold of any services that keep the contracts (crate bezinkol, specs/Called.antt).
 -- Assumes nothing: these are definitions.
+use Rattle.std.specs.Prelude.{Result, Err}
+use Rattle.text.specs.declared.Refusal.{Refusal}
+use Rattle.contact.specs.declared.CardRefusal.{CardRefusal}
 use Rattle.std.specs.Prelude.{ℕ, ◌*◌, ◌≤◌, ◌<◌, ◌≡◌, true, ◌⊎◌, ◌↔◌, List, [], length}
 use Prim.Native.String.{String}
 use Rattle.std.proofs.Math.Option.{some}
@@ -28,7 +31,6 @@ use Rattle.text.specs.Meaning.{Accepts, Readable}
 use Rattle.text.specs.Fault.{FirstFault, RowsShort}
 use Rattle.text.specs.Promised.{Filled}
 use Rattle.text.specs.Writing.{written, spelled, SpelledName}
-use Rattle.text.specs.declared.Reading.{Reading}
 use Rattle.wire.specs.Measure.{measure}
 use Rattle.wire.specs.Promise.{Wire, InPieces}
 use Rattle.packing.specs.Services.{Vault}
@@ -46,10 +48,7 @@ use Rattle.contact.specs.Entries.{Asked}
 use Rattle.contact.specs.Patching.{OrderOnly, PatchedCard, WrittenCard}
 use Rattle.contact.specs.Contract.{Localizes}
 use Rattle.contact.specs.Services.{Call, read, judge, localize, words_of, room_of, Left, leaves}
-use Rattle.contact.specs.declared.Verdict.{Verdict}
 use Rattle.contact.specs.declared.LocalRefusal.{LocalRefusal}
-use Rattle.contact.specs.declared.Localized.{Localized}
-use Rattle.contact.specs.declared.Localized.TheVariants.{Denied}
 
 -- the call is accepted: its first number is 0
 abbrev pub Passes : (Call → Left) → Call → Type 0
@@ -72,9 +71,9 @@ pub record EveryCall (L : Limits) (serve : Call → Left) : Type 0 where
   -- whatever is lent, a call ends with acceptance or one numbered refusal; after a refusal all is zero, after acceptance all that is unused
   pub ends : (c : Call) → Ends c (serve c)
   -- for every input, answer, table and output are determined: two outcomes that a contract (`Reads`, `Judges`, `Localizes`) allows are equal
-  pub one_reading : (words : ℕ) (t : List ℕ) (a b : Reading) (x y : List ℕ) → Reads L words t a x → Reads L words t b y → (a ≡ b) × (x ≡ y)
-  pub one_judging : (t lent : List ℕ) (a b : Verdict) (x y : List ℕ) → Judges L t lent a x → Judges L t lent b y → (a ≡ b) × (x ≡ y)
-  pub one_localizing : (words room : ℕ) (t : List ℕ) (lang : Name) (a b : Localized) (x y o q : List ℕ)
+  pub one_reading : (words : ℕ) (t : List ℕ) (a b : Result ℕ Refusal) (x y : List ℕ) → Reads L words t a x → Reads L words t b y → (a ≡ b) × (x ≡ y)
+  pub one_judging : (t lent : List ℕ) (a b : Result ℕ CardRefusal) (x y : List ℕ) → Judges L t lent a x → Judges L t lent b y → (a ≡ b) × (x ≡ y)
+  pub one_localizing : (words room : ℕ) (t : List ℕ) (lang : Name) (a b : Result (ℕ × ℕ) LocalRefusal) (x y o q : List ℕ)
       → Localizes L words room t lang a x o → Localizes L words room t lang b y q → (a ≡ b) × (x ≡ y) × (o ≡ q)
 
 -- ---- demand 2: reading and judging
@@ -196,7 +195,7 @@ pub record Localizing (L : Limits) (serve : Call → Left) : Type 0 where
       × ((serve (localize t lang words room)).output ≡ (serve (localize u lang words room)).output)
   -- the same of what the contract allows: where no key is named also the answer itself, with 28's inner place
   pub any_order_allowed : (t u : List ℕ) (lang : Name) (words room : ℕ) (f : Forest) → CardText L words t f → (r : Reordering L lang (doc_of t f) u)
-      → (a b : Localized) (x y o q : List ℕ) → Localizes L words room t lang a x o → Localizes L words room u lang b y q
+      → (a b : Result (ℕ × ℕ) LocalRefusal) (x y o q : List ℕ) → Localizes L words room t lang a x o → Localizes L words room u lang b y q
       → SameButPlace lang t f u (root_of r.derives) (paper_of_localized a) (paper_of_localized b) × (¬ NamesKey (paper_of_localized a) → a ≡ b)
       × (x ≡ y) × (o ≡ q)
   -- all patches or none: what is accepted is patched by all entries, as the set-or-remove definition says, and is judged as a whole
@@ -210,9 +209,9 @@ pub record Localizing (L : Limits) (serve : Call → Left) : Type 0 where
       → ((serve (localize t lang words room)).answer ≡ numbers n second 0)
       ↔ ((r : LocalRefusal) × SecondNumber r second × Smallest (BrokenCondition L words room (key_place t f lang) (doc_of t f) lang) n r)
   -- the same of the answer that the contract allows: it is that refusal itself, with 28's inner place
-  pub refused_answer : (t : List ℕ) (lang : Name) (words room : ℕ) (f : Forest) → CardText L words t f → (a : Localized) (x o : List ℕ)
+  pub refused_answer : (t : List ℕ) (lang : Name) (words room : ℕ) (f : Forest) → CardText L words t f → (a : Result (ℕ × ℕ) LocalRefusal) (x o : List ℕ)
       → Localizes L words room t lang a x o → (r : LocalRefusal)
-      → (a ≡ Denied r) ↔ ((n : ℕ) × Smallest (BrokenCondition L words room (key_place t f lang) (doc_of t f) lang) n r)
+      → (a ≡ Err r) ↔ ((n : ℕ) × Smallest (BrokenCondition L words room (key_place t f lang) (doc_of t f) lang) n r)
   -- a refusal by 22 to 26 names one key: of those that break the condition on the card without its localizations the smallest in byte order; and it has
   -- the place at which that key stands in the text
   pub key_at_fault : (t : List ℕ) (lang : Name) (words room : ℕ) (f : Forest) → CardText L words t f → (n place : ℕ) → Within 22 26 n

@@ -1,5 +1,7 @@
 -- What is said of a text as a card, in words alone (`CardAnswer`), and what is shown of judging, as one statement: `Judging`. proofs/Judging.antt proves it.
 -- Assumes nothing: these are definitions.
+use Rattle.std.specs.Prelude.{Result}
+use Rattle.contact.specs.declared.CardRefusal.{CardRefusal}
 use Rattle.std.specs.Prelude.{ℕ, ◌<◌, ◌≡◌, true, List, [], ◌↔◌, length}
 use Rattle.laws.specs.Lists.{filled}
 use Rattle.text.specs.Limits.{Limits}
@@ -23,7 +25,6 @@ use Rattle.contact.specs.Verdict.{passed, paper_of_verdict, judged_of, sheet_of_
 use Rattle.contact.specs.SimpleValues.{Id, UnsignedInt, Leap, Day, UTCDateTime}
 use Rattle.contact.specs.BetweenMembers.{BreaksBetween}
 use Rattle.contact.specs.Breaches.{Keeps, FirstBreach}
-use Rattle.contact.specs.declared.Verdict.{Verdict}
 
 -- ---- what is said of a text as a card, for a lent table of so many words
 
@@ -71,7 +72,7 @@ pub data CardAnswer (L : Limits) (words : ℕ) (text : List ℕ) : (answer : Pap
 -- ---- what is shown
 
 -- what the contract of `judge` says of an answer and of what is left in a lent table
-pub record Judges (L : Limits) (text lent : List ℕ) (answer : Verdict) (left : List ℕ) : Type 0 where
+pub record Judges (L : Limits) (text lent : List ℕ) (answer : Result ℕ CardRefusal) (left : List ℕ) : Type 0 where
   pub answered : paper_of_verdict answer ≡ sheet_of_judged (judged_of L (length lent) text)
   pub table : left ≡ table_of_judged (length lent) (judged_of L (length lent) text)
 
@@ -98,6 +99,6 @@ pub record Judging : Type 0 where
   pub place : (L : Limits) (words : ℕ) (t : List ℕ) (f : Forest) (to row number : ℕ) → whole_of L words t ≡ good f to
       → FirstBreach (doc_of t f) row number → row < size f
   -- an answer's numbers tell the answer
-  pub one_answer : (a b : Verdict) → paper_of_verdict a ≡ paper_of_verdict b → a ≡ b
+  pub one_answer : (a b : Result ℕ CardRefusal) → paper_of_verdict a ≡ paper_of_verdict b → a ≡ b
   -- two outcomes that the contract allows are equal
-  pub one_outcome : (L : Limits) (t lent : List ℕ) (a b : Verdict) (x y : List ℕ) → Judges L t lent a x → Judges L t lent b y → (a ≡ b) × (x ≡ y)
+  pub one_outcome : (L : Limits) (t lent : List ℕ) (a b : Result ℕ CardRefusal) (x y : List ℕ) → Judges L t lent a x → Judges L t lent b y → (a ≡ b) × (x ≡ y)

@@ -1,5 +1,6 @@
 -- Localizing (docs/RULES.md, 6): from a card text and a language to the localized card in the lent output and its rows in the lent table, or the refusal.
 -- Assumes nothing: these are definitions.
+use Rattle.std.specs.Prelude.{Result, Ok, Err}
 use Rattle.std.specs.Prelude.{ℕ, List, [], cond, length, eqb, ltb}
 use Rattle.std.proofs.Math.Option.{Option, none, some}
 use Rattle.text.specs.Limits.{Limits}
@@ -17,8 +18,6 @@ use Rattle.contact.specs.Faults.{PatchFault, all_kept, broken_by, fault_in}
 use Rattle.contact.specs.Places.{key_place}
 use Rattle.contact.specs.declared.LocalRefusal.{LocalRefusal}
 use Rattle.contact.specs.declared.LocalRefusal.TheVariants.{Given, NoLanguage, BadKey, OwnLocalizations, Clash, InArray, NoObject, Short, Inner}
-use Rattle.contact.specs.declared.Localized.{Localized}
-use Rattle.contact.specs.declared.Localized.TheVariants.{Written, Denied}
 
 -- ---- the sheet's lines 21 to 28; 22 to 26 hand out the place of a key, 28 hands out the inner refusal's number alone
 
@@ -35,9 +34,9 @@ refused_local (Short n) = numbers 27 n 0
 refused_local (Inner r) = numbers 28 (refused_card r).number 0
 
 -- the numbers of an answer: 0, the rows and the bytes written, or those of the refusal
-unfoldable pub paper_of_localized : Localized → Paper
-paper_of_localized (Written rows n) = numbers 0 rows n
-paper_of_localized (Denied r) = refused_local r
+unfoldable pub paper_of_localized : Result (ℕ × ℕ) LocalRefusal → Paper
+paper_of_localized (Ok (rows, n)) = numbers 0 rows n
+paper_of_localized (Err r) = refused_local r
 
 -- the refusal of a number from 22 to 26, with the place of the key that breaks it
 abbrev pub key_refusal : (number place : ℕ) → LocalRefusal
@@ -114,9 +113,9 @@ module _ (L : Limits) (words room : ℕ) where
 -- ---- the answer, the whole table and the whole output
 
 -- the answer as it is handed out, with 28's inner place, which the paper's numbers leave out
-unfoldable pub answer_of_outcome : Outcome → Localized
-answer_of_outcome (done text f) = Written (size f) (length text)
-answer_of_outcome (denied r) = Denied r
+unfoldable pub answer_of_outcome : Outcome → Result (ℕ × ℕ) LocalRefusal
+answer_of_outcome (done text f) = Ok (size f, length text)
+answer_of_outcome (denied r) = Err r
 
 -- in the paper's numbers: 0, the row count and the output's length; or the refusal's number and its second number
 unfoldable pub sheet_of_outcome : Outcome → Paper

@@ -1,5 +1,6 @@
 -- What judging a text answers, and what it leaves in a lent table of so many words.
 -- Assumes nothing: these are definitions.
+use Rattle.std.specs.Prelude.{Result, Ok, Err}
 use Rattle.std.specs.Prelude.{ℕ, List, [], cond, get_or, eqb}
 use Rattle.text.specs.Limits.{Limits}
 use Rattle.laws.specs.Lists.{filled}
@@ -14,8 +15,6 @@ use Rattle.contact.specs.declared.CardFault.{CardFault}
 use Rattle.contact.specs.declared.CardFault.TheVariants.{Kind, Missing, Value, Rule}
 use Rattle.contact.specs.declared.CardRefusal.{CardRefusal}
 use Rattle.contact.specs.declared.CardRefusal.TheVariants.{Text, Card}
-use Rattle.contact.specs.declared.Verdict.{Verdict}
-use Rattle.contact.specs.declared.Verdict.TheVariants.{Passed, Failed}
 
 -- ---- the sheet's lines 11 to 14
 
@@ -32,9 +31,9 @@ refused_card (Text r) = refused r
 refused_card (Card f) = refused_fault f
 
 -- the numbers of an answer: 0 and the rows, or those of the refusal
-unfoldable pub paper_of_verdict : Verdict → Paper
-paper_of_verdict (Passed n) = numbers 0 n 0
-paper_of_verdict (Failed r) = refused_card r
+unfoldable pub paper_of_verdict : Result ℕ CardRefusal → Paper
+paper_of_verdict (Ok n) = numbers 0 n 0
+paper_of_verdict (Err r) = refused_card r
 
 -- ---- judging
 
@@ -64,9 +63,9 @@ judged_of L words t = judged_read t (whole_of L words t)
 -- ---- the answer and the whole table
 
 -- the answer as it is handed out
-abbrev pub answer_of_judged : Judged → Verdict
-answer_of_judged (passed f) = Passed (size f)
-answer_of_judged (failed r) = Failed r
+abbrev pub answer_of_judged : Judged → Result ℕ CardRefusal
+answer_of_judged (passed f) = Ok (size f)
+answer_of_judged (failed r) = Err r
 
 -- the answer in the paper's numbers: 0 and the row count, or the refusal's two numbers; this is the line that the program prints
 unfoldable pub sheet_of_judged : Judged → Paper

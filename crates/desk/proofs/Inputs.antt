@@ -2,6 +2,8 @@
 --     says-over, says-judged         of bytes that were read, where there is more and where there isn't
 --     says-longer, says-whole        of an input that is over the buffer, and of one that isn't
 -- Assumes nothing.
+use Rattle.std.specs.Prelude.{Result}
+use Rattle.contact.specs.declared.CardRefusal.{CardRefusal}
 use Prim.Native.Nat.{ℕ}
 use mathlib.Core.Path.{◌≡◌, ◌∙◌}
 use mathlib.Core.Bool.{Bool, true, false}
@@ -13,7 +15,6 @@ use borrow.Author.Tests.{ltb-false}
 use Rattle.text.specs.Limits.{base}
 use Rattle.text.specs.declared.Paper.{Paper}
 use Rattle.text.specs.Sheet.{numbers}
-use Rattle.contact.specs.declared.Verdict.{Verdict}
 use Rattle.contact.specs.Verdict.{paper_of_verdict}
 use Rattle.contact.specs.Judging.{Judges}
 use Rattle.contact.specs.Services.{served}
@@ -23,7 +24,7 @@ pub says_over : (bytes : List ℕ) (words : ℕ) {more : Bool} {table : List ℕ
 unfolding line_of left_of
 says_over bytes words e z = record { line = rw e; left = rw e z }
 
-pub says_judged : (bytes lent : List ℕ) {more : Bool} {v : Verdict} {answer : Paper} {table : List ℕ} → more ≡ false → answer ≡ paper_of_verdict v → Judges base bytes lent v table
+pub says_judged : (bytes lent : List ℕ) {more : Bool} {v : (Result ℕ CardRefusal)} {answer : Paper} {table : List ℕ} → more ≡ false → answer ≡ paper_of_verdict v → Judges base bytes lent v table
     → Says bytes more (length lent) answer table
 unfolding line_of left_of served
 says_judged bytes lent e a j = record { line = rw e (a ∙ j.answered); left = rw e j.table }

@@ -3,10 +3,9 @@ ghost use Rattle.std.specs.Prelude.{◌≡◌, ltb, length};
 ghost use Rattle.desk.specs.Line.{buffer, words_lent, of_input, Says, SaysFor};
 
 use crate::limits::{BUFFER, ROWS};
-use answers::paper::verdict_on_paper;
+use answers::sheet::OnPaper;
 use card::judge::judge;
 use json_reader::limits::ROW_WORDS;
-use laws::clear::clear_words;
 use text::Paper;
 
 // The words of the rows that are lent.
@@ -17,14 +16,14 @@ pub fn line_of(text: &[u8], more: bool, table: &mut [u32]) -> Paper
     ensures { Says text.now more (length table.old) result table.new }
 {
     if more {
-        clear_words(table);
+        table.fill(0);
         return Paper {
             number: 34,
             second: 0,
             written: 0,
         };
     }
-    verdict_on_paper(judge(text, table))
+    judge(text, table).on_paper()
 }
 
 // Is an input over the buffer?

@@ -1,5 +1,6 @@
 -- What a survey says of the packing of a document: `survey_said`. The walk goes through the fields as the document has them, one behind the other.
 -- Assumes nothing.
+use Rattle.std.specs.Prelude.{Option, Some, None}
 use mathlib.Core.Path.{◌≡◌, refl, sym, ap, ap₂, ◌∙◌}
 use mathlib.Core.List.{List, [], ◌++◌, append_assoc, append-nil}
 use mathlib.Core.Bool.{Bool, true, false, cond}
@@ -21,8 +22,6 @@ use Rattle.packing.specs.Unpacked.{doc_in, distinctly, distinct_items}
 use Rattle.packing.proofs.Sound.{doc_sound}
 use Rattle.packing.proofs.Widest.{fits_whole}
 use Rattle.fields.specs.Survey.{repeats_at, onward_at, values_at, survey_from, survey_of, surveyed, longest}
-use Rattle.fields.specs.declared.Survey.{Survey}
-use Rattle.fields.specs.declared.Survey.TheVariants.{Values, Unfit}
 use Rattle.fields.proofs.Turns.{survey_end, survey_twice, survey_on}
 use Rattle.fields.proofs.Heads.{tag_there, next_there, inside_there, content_there}
 use Rattle.fields.proofs.Named.{repeats_some, repeats_there}
@@ -37,7 +36,7 @@ module _ (p : List ℕ) (at n tag : ℕ) (content rest : List ℕ) (e : drop at 
       survey_on p at n (omega arith) (omega arith) r
 
   -- an object that has a name twice
-  field_twice : repeats_at p at ≡ true → survey_from p at n ≡ Unfit
+  field_twice : repeats_at p at ≡ true → survey_from p at n ≡ None
   field_twice r =
       let x = next_there p at tag content rest e in
       let y = inside_there p at tag content rest e in
@@ -118,7 +117,7 @@ object_distinct (member n label d ms) = rw (object_distinct ms) (go (is_there (s
     go false false r i = sym (nothing r)
 
 -- one walk and then another
-then : (a b : Bool) (r : Survey) → cond a (cond b r Unfit) Unfit ≡ cond (cond a b false) r Unfit
+then : (a b : Bool) (r : Option ℕ) → cond a (cond b r None) None ≡ cond (cond a b false) r None
 then true b r = refl
 then false b r = refl
 
@@ -126,21 +125,21 @@ then false b r = refl
 
 -- an object, given the walk over its members
 object_on : (p : List ℕ) (ms : Members) (at n : ℕ) (rest : List ℕ) → drop at p ≡ packed (object ms) ++ rest
-    → survey_from p (at + 3) (n + 1) ≡ cond (insides ms) (survey_from p (at + 3 + length (packed_items ms curly)) (n + 1 + count_all ms)) Unfit
-    → survey_from p at n ≡ cond (distinct_items ms curly) (survey_from p (at + 3 + length (packed_items ms curly)) (n + 1 + count_all ms)) Unfit
+    → survey_from p (at + 3) (n + 1) ≡ cond (insides ms) (survey_from p (at + 3 + length (packed_items ms curly)) (n + 1 + count_all ms)) None
+    → survey_from p at n ≡ cond (distinct_items ms curly) (survey_from p (at + 3 + length (packed_items ms curly)) (n + 1 + count_all ms)) None
 object_on p ms at n rest e inside = rw (object_distinct ms) (go (repeats_some ms) (repeats_there p ms at rest e))
   where
     go : (r : Bool) → repeats_at p at ≡ r
-        → survey_from p at n ≡ cond (cond r false (insides ms)) (survey_from p (at + 3 + length (packed_items ms curly)) (n + 1 + count_all ms)) Unfit
+        → survey_from p at n ≡ cond (cond r false (insides ms)) (survey_from p (at + 3 + length (packed_items ms curly)) (n + 1 + count_all ms)) None
     go true h = field_twice p at n 7 (packed_items ms curly) rest e h
     go false h = into_object p at n 7 (packed_items ms curly) rest e refl h ∙ inside
 
 -- an item, given the walk over its value and over the items after it
 item_on : (p : List ℕ) (b : Bracket) (name label : List ℕ) (d : Doc) (ms : Members) (at n : ℕ) (rest : List ℕ) → drop at p ≡ packed_items (member name label d ms) b ++ rest
-    → ((to : ℕ) → drop to p ≡ packed d ++ (packed_items ms b ++ rest) → survey_from p to n ≡ cond (distinctly d) (survey_from p (to + length (packed d)) (n + count_of d)) Unfit)
+    → ((to : ℕ) → drop to p ≡ packed d ++ (packed_items ms b ++ rest) → survey_from p to n ≡ cond (distinctly d) (survey_from p (to + length (packed d)) (n + count_of d)) None)
     → ((to : ℕ) → drop to p ≡ packed_items ms b ++ rest
-    → survey_from p to (n + count_of d) ≡ cond (insides ms) (survey_from p (to + length (packed_items ms b)) (n + count_of d + count_all ms)) Unfit)
-    → survey_from p at n ≡ cond (insides (member name label d ms)) (survey_from p (at + length (packed_items (member name label d ms) b)) (n + (count_of d + count_all ms))) Unfit
+    → survey_from p to (n + count_of d) ≡ cond (insides ms) (survey_from p (to + length (packed_items ms b)) (n + count_of d + count_all ms)) None)
+    → survey_from p at n ≡ cond (insides (member name label d ms)) (survey_from p (at + length (packed_items (member name label d ms) b)) (n + (count_of d + count_all ms))) None
 item_on p b name label d ms at n rest e value items =
     let after = packed d ++ packed_items ms b in
     let v = at + length (name_field b name) in
@@ -151,15 +150,15 @@ item_on p b name label d ms at n rest e value items =
     omega (arith, length-append (name_field b name) after, length-append (packed d) (packed_items ms b)) in
     let j : n + count_of d + count_all ms ≡ n + (count_of d + count_all ms) = omega arith in
     name_on p b name at n (after ++ rest) h ∙ value v f
-    ∙ ap (λ (s : Survey). cond (distinctly d) s Unfit) (items (v + length (packed d)) g)
+    ∙ ap (λ (s : Option ℕ). cond (distinctly d) s None) (items (v + length (packed d)) g)
     ∙ then (distinctly d) (insides ms) (survey_from p (v + length (packed d) + length (packed_items ms b)) (n + count_of d + count_all ms))
-    ∙ ap₂ (λ (to m : ℕ). cond (cond (distinctly d) (insides ms) false) (survey_from p to m) Unfit) i j
+    ∙ ap₂ (λ (to m : ℕ). cond (cond (distinctly d) (insides ms) false) (survey_from p to m) None) i j
 
 mutual
   unfolding distinctly count_of count_all
 
   doc_on : (p : List ℕ) (d : Doc) → Every Labelled Lexeme d → (at n : ℕ) (rest : List ℕ) → drop at p ≡ packed d ++ rest
-      → survey_from p at n ≡ cond (distinctly d) (survey_from p (at + length (packed d)) (n + count_of d)) Unfit
+      → survey_from p at n ≡ cond (distinctly d) (survey_from p (at + length (packed d)) (n + count_of d)) None
   doc_on p (scalar kind token) h at n rest e =
       let z : at + 3 + length (content_in kind token) ≡ at + length (field_of kind (content_in kind token)) = omega arith in
       past_value p at n kind (content_in kind token) rest e (lexeme_kind h) ∙ ap (λ (to : ℕ). survey_from p to (n + 1)) z
@@ -168,16 +167,16 @@ mutual
       let j : n + 1 + count_all ms ≡ n + count_of (array ms) = omega arith in
       into_array p at n 6 (packed_items ms square) rest e refl
       ∙ items_on p ms square h (at + 3) (n + 1) rest (content_there p at 6 (packed_items ms square) rest e)
-      ∙ ap₂ (λ (to m : ℕ). cond (insides ms) (survey_from p to m) Unfit) i j
-      ∙ ap (λ (b : Bool). cond b (survey_from p (at + length (packed (array ms))) (n + count_of (array ms))) Unfit) (sym (array_distinct ms))
+      ∙ ap₂ (λ (to m : ℕ). cond (insides ms) (survey_from p to m) None) i j
+      ∙ ap (λ (b : Bool). cond b (survey_from p (at + length (packed (array ms))) (n + count_of (array ms))) None) (sym (array_distinct ms))
   doc_on p (object ms) h at n rest e =
       let i : at + 3 + length (packed_items ms curly) ≡ at + length (packed (object ms)) = omega arith in
       let j : n + 1 + count_all ms ≡ n + count_of (object ms) = omega arith in
       object_on p ms at n rest e (items_on p ms curly h (at + 3) (n + 1) rest (content_there p at 7 (packed_items ms curly) rest e))
-      ∙ ap₂ (λ (to m : ℕ). cond (distinct_items ms curly) (survey_from p to m) Unfit) i j
+      ∙ ap₂ (λ (to m : ℕ). cond (distinct_items ms curly) (survey_from p to m) None) i j
 
   items_on : (p : List ℕ) (ms : Members) (b : Bracket) → EveryIn Labelled Lexeme b ms → (at n : ℕ) (rest : List ℕ) → drop at p ≡ packed_items ms b ++ rest
-      → survey_from p at n ≡ cond (insides ms) (survey_from p (at + length (packed_items ms b)) (n + count_all ms)) Unfit
+      → survey_from p at n ≡ cond (insides ms) (survey_from p (at + length (packed_items ms b)) (n + count_all ms)) None
   items_on p empty b h at n rest e =
       let i : at ≡ at + 0 = omega arith in
       let j : n ≡ n + 0 = omega arith in
@@ -203,4 +202,4 @@ module _ (depth : ℕ) (p : List ℕ) (small : AllBelow 256 p) (d : Doc) (h : do
       let z : 0 + count_of d ≡ count_of d = omega arith in
       rw (le-ltb longest (length p) whole_length)
       (doc_on p d f.labels 0 0 [] (sym f.packing ∙ sym (append-nil (packed d)))
-      ∙ ap (λ (s : Survey). cond (distinctly d) s Unfit) (survey_end p (0 + length (packed d)) (0 + count_of d) (omega arith) ∙ ap Values z))
+      ∙ ap (λ (s : Option ℕ). cond (distinctly d) s None) (survey_end p (0 + length (packed d)) (0 + count_of d) (omega arith) ∙ ap Some z))

@@ -2,6 +2,7 @@
 --     survey-end, survey-torn, survey-twice, survey-on
 --     walking_start, walking_on      the loop of the walk
 -- Assumes nothing.
+use Rattle.std.specs.Prelude.{Option, Some, None}
 use mathlib.Core.Path.{◌≡◌, refl, sym, ap, ◌∙◌}
 use mathlib.Core.List.{List}
 use mathlib.Core.Bool.{true, false, cond}
@@ -14,8 +15,6 @@ use borrow.Author.Tests.{le-leb, lt-leb, lt-ltb, le-ltb}
 use Rattle.laws.proofs.Branches.{if_equal}
 use Rattle.text.specs.Text.{byte_at}
 use Rattle.fields.specs.Survey.{next_at, repeats_at, onward_at, values_at, survey_body, survey_for, survey_from}
-use Rattle.fields.specs.declared.Survey.{Survey}
-use Rattle.fields.specs.declared.Survey.TheVariants.{Values, Unfit}
 
 module _ (p : List ℕ) where
   -- it goes three places further at least, and never past the field
@@ -30,11 +29,11 @@ module _ (p : List ℕ) where
   unfolding values_at
   values_most at = if_equal (λ n. n ≤ 1) (byte_at p at) 8 (λ e. omega arith) (λ n. omega arith)
 
-  body_later : (k l : ℕ → ℕ → Survey) (at n : ℕ) → (at < length p → k (onward_at p at) (n + values_at p at) ≡ l (onward_at p at) (n + values_at p at))
+  body_later : (k l : ℕ → ℕ → Option ℕ) (at n : ℕ) → (at < length p → k (onward_at p at) (n + values_at p at) ≡ l (onward_at p at) (n + values_at p at))
       → survey_body p k at n ≡ survey_body p l at n
   body_later k l at n e = elim (dec_le (length p) at) [
     | yes h ↦ rw (le-leb (length p) at h)
-    | no h ↦ ap (λ (r : Survey). cond (leb (length p) at) (Values n) (cond (ltb (length p) (next_at p at)) Unfit (cond (repeats_at p at) Unfit r))) (e (omega arith))
+    | no h ↦ ap (λ (r : Option ℕ). cond (leb (length p) at) (Some n) (cond (ltb (length p) (next_at p at)) None (cond (repeats_at p at) None r))) (e (omega arith))
   ]
 
   -- any two numbers of turns that suffice give the same
@@ -53,15 +52,15 @@ module _ (p : List ℕ) where
       (λ l. let o = onward_later at in enough (length p - at) (suc (length p - onward_at p at)) (onward_at p at) (n + values_at p at) (omega arith) (omega arith))
 
   module _ (at n : ℕ) where
-    pub survey_end : length p ≤ at → survey_from p at n ≡ Values n
+    pub survey_end : length p ≤ at → survey_from p at n ≡ Some n
     survey_end h = survey_step at n ∙ rw (le-leb (length p) at h)
 
     module _ (h : at < length p) where
-      pub survey_torn : length p < next_at p at → survey_from p at n ≡ Unfit
+      pub survey_torn : length p < next_at p at → survey_from p at n ≡ None
       survey_torn k = survey_step at n ∙ rw (lt-leb (length p) at h, lt-ltb (length p) (next_at p at) k)
 
       module _ (k : next_at p at ≤ length p) where
-        pub survey_twice : repeats_at p at ≡ true → survey_from p at n ≡ Unfit
+        pub survey_twice : repeats_at p at ≡ true → survey_from p at n ≡ None
         survey_twice e = survey_step at n ∙ rw (lt-leb (length p) at h, le-ltb (length p) (next_at p at) k, e)
 
         pub survey_on : repeats_at p at ≡ false → survey_from p at n ≡ survey_from p (onward_at p at) (n + values_at p at)

@@ -5,10 +5,6 @@ use Rattle.laws.specs.Earliest.{Climbs}
 pub use Rattle.json_reader.specs.Rows.{Word}
 use Rattle.fields.specs.Survey.{next_at, member_places, longest}
 
--- two numbers that fit a word of 32 bits
-abbrev pub Words : (p q : ℕ) → Type 0
-Words p q = Word p × Word q
-
 -- a packing that is no longer than one may be, and a store and a scratch with a word for each six of its bytes: a member has two heads
 pub record Roomy (p store scratch : List ℕ) : Type 0 where
   pub short : length p ≤ longest

@@ -1,6 +1,7 @@
 -- The survey of a packing: the number of its values, or that it has a field that is cut off or an object with a name twice. All fields stand one behind
 -- the other, those of a container right behind its head, so the walk goes through them in their order and needs no stack. It asks nothing else: of bytes
 -- that are no packing it says something too. Assumes nothing: these are definitions.
+use Rattle.std.specs.Prelude.{Option, Some, None}
 use Rattle.std.specs.Prelude.{ℕ, zero, suc, ◌+◌, ◌-◌, List, [], ◌∷◌, Bool, true, false, cond, length, leb, ltb, eqb}
 use Rattle.laws.specs.Lists.{part_of}
 use Rattle.laws.specs.Scan.{scan}
@@ -10,8 +11,6 @@ use Rattle.text.specs.Doc.{Name, Doc, count_of}
 pub use Rattle.packing.specs.Packed.{longest}
 use Rattle.packing.specs.Places.{length_at}
 use Rattle.packing.specs.Unpacked.{distinctly}
-use Rattle.fields.specs.declared.Survey.{Survey}
-use Rattle.fields.specs.declared.Survey.TheVariants.{Values, Unfit}
 
 -- ---- fields by their places
 
@@ -55,28 +54,28 @@ values_at p at = cond (eqb (byte_at p at) 8) 0 1
 -- ---- the walk
 
 -- one turn, at a place and with so many values so far: the end; a field that is cut off; a name twice; or the field counted, and what is said of later ones
-abbrev pub survey_body : List ℕ → (ℕ → ℕ → Survey) → (at n : ℕ) → Survey
+abbrev pub survey_body : List ℕ → (ℕ → ℕ → Option ℕ) → (at n : ℕ) → Option ℕ
 survey_body p k at n =
     let more = k (onward_at p at) (n + values_at p at) in
-    let field = cond (repeats_at p at) Unfit more in
-    let whole = cond (ltb (length p) (next_at p at)) Unfit field in
-    cond (leb (length p) at) (Values n) whole
+    let field = cond (repeats_at p at) None more in
+    let whole = cond (ltb (length p) (next_at p at)) None field in
+    cond (leb (length p) at) (Some n) whole
 
 -- with so many turns at the most
-unfoldable pub survey_for : List ℕ → (turns at n : ℕ) → Survey
-survey_for p zero at n = Unfit
+unfoldable pub survey_for : List ℕ → (turns at n : ℕ) → Option ℕ
+survey_for p zero at n = None
 survey_for p (suc turns) at n = survey_body p (λ to m. survey_for p turns to m) at n
 
 -- from a place on, with so many values before it; each turn goes further, so there are turns enough (`survey_step`, proofs/Turns.antt)
-unfoldable pub survey_from : List ℕ → (at n : ℕ) → Survey
+unfoldable pub survey_from : List ℕ → (at n : ℕ) → Option ℕ
 survey_from p at n = survey_for p (suc (length p - at)) at n
 
 -- of a whole packing
-unfoldable pub survey_of : List ℕ → Survey
-survey_of p = let walked = survey_from p 0 0 in cond (ltb longest (length p)) Unfit walked
+unfoldable pub survey_of : List ℕ → Option ℕ
+survey_of p = let walked = survey_from p 0 0 in cond (ltb longest (length p)) None walked
 
 -- ---- of a document
 
 -- what a survey of its packing says
-unfoldable pub surveyed : Doc → Survey
-surveyed d = cond (distinctly d) (Values (count_of d)) Unfit
+unfoldable pub surveyed : Doc → Option ℕ
+surveyed d = cond (distinctly d) (Some (count_of d)) None

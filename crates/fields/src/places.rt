@@ -2,12 +2,13 @@
 ghost use Rattle.std.specs.Prelude.{◌≡◌, ◌+◌, ◌≤◌, ◌<◌};
 ghost use Rattle.laws.specs.Order.{order_of};
 ghost use Rattle.fields.specs.Survey.{next_at, name_at};
-ghost use Rattle.fields.specs.Asks.{Word, Words};
+ghost use Rattle.fields.specs.Asks.{Word};
 
 use crate::HEAD;
 use json_reader::bytes::{OVER, peek};
 use json_reader::names::{order_at, slice};
-use laws::Order;
+use laws::labels::Labels;
+use std::cmp::Ordering;
 
 // The place behind the field at a place.
 pub(crate) fn next_at(packed: &[u8], at: usize) -> usize
@@ -30,7 +31,7 @@ fn name_at(packed: &[u8], at: usize) -> &[u8]
 }
 
 // The order of two runs of bytes.
-fn order_bytes(a: &[u8], b: &[u8]) -> Order
+fn order_bytes(a: &[u8], b: &[u8]) -> Ordering
     ensures { result ≡ order_of a.now b.now }
 {
     let mut i: usize = 0;
@@ -41,18 +42,24 @@ fn order_bytes(a: &[u8], b: &[u8]) -> Order
             return order_at(p, q);
         }
         if p == OVER {
-            return Order::Same;
+            return Ordering::Equal;
         }
         i += 1;
     }
 }
 
-// The order of two names.
-pub(crate) fn name_order(packed: &[u8], p: usize, q: usize) -> Order
-    requires { Words p q }
-    ensures { result ≡ order_of (name_at packed.now p) (name_at packed.now q) }
-{
-    let a = name_at(packed, p);
-    let b = name_at(packed, q);
-    order_bytes(a, b)
+// Names at the places of their fields.
+#[derive(Clone, Copy)]
+pub(crate) struct Names<'a> {
+    pub packed: &'a [u8],
+}
+
+impl<'a> Labels for Names<'a> {
+    ghost label = { λ names. name_at names.packed.now };
+
+    fn order(&self, p: u32, q: u32) -> Ordering {
+        let a = name_at(self.packed, p as usize);
+        let b = name_at(self.packed, q as usize);
+        order_bytes(a, b)
+    }
 }

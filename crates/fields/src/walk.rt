@@ -6,7 +6,7 @@ ghost use Rattle.fields.specs.Asks.{Roomy, MembersAsk, Listed, RepeatsAsk};
 
 use crate::places::next_at;
 use crate::repeated::repeat_among;
-use crate::{HEAD, LONGEST, Survey};
+use crate::{HEAD, LONGEST};
 use json_reader::bytes::peek;
 
 // Tags that the walk tells apart: an array, an object and a member's name.
@@ -55,10 +55,7 @@ fn repeats_at(packed: &[u8], store: &mut [u32], scratch: &mut [u32], at: usize, 
     requires { RepeatsAsk packed.now store.old scratch.old at next }
     ensures { result ≡ repeats_at packed.now at }
 {
-    if peek(packed, at) == OBJECT {
-        return repeats_in(packed, store, scratch, at, next);
-    }
-    false
+    peek(packed, at) == OBJECT && repeats_in(packed, store, scratch, at, next)
 }
 
 // Where the walk goes on: inside a container, behind any other field.
@@ -66,28 +63,21 @@ fn onward(packed: &[u8], at: usize, next: usize) -> usize
     requires { (at < 4294967296) × (next ≡ next_at packed.now at) }
     ensures { result ≡ onward_at packed.now at }
 {
-    let tag = peek(packed, at);
-    if tag == OBJECT {
-        return at + HEAD;
+    match peek(packed, at) {
+        OBJECT | ARRAY => at + HEAD,
+        _ => next,
     }
-    if tag == ARRAY {
-        return at + HEAD;
-    }
-    next
 }
 
 // How many values a field is: none, if it is a name.
 fn values_at(packed: &[u8], at: usize) -> usize
     ensures { result ≡ values_at packed.now at }
 {
-    if peek(packed, at) == NAME {
-        return 0;
-    }
-    1
+    if peek(packed, at) == NAME { 0 } else { 1 }
 }
 
 // The walk, with a store for the names of an object and a scratch to sort them.
-fn walk(packed: &[u8], store: &mut [u32], scratch: &mut [u32]) -> Survey
+fn walk(packed: &[u8], store: &mut [u32], scratch: &mut [u32]) -> Option<usize>
     requires { Roomy packed.now store.old scratch.old }
     ensures { result ≡ survey_from packed.now 0 0 }
 {
@@ -96,68 +86,38 @@ fn walk(packed: &[u8], store: &mut [u32], scratch: &mut [u32]) -> Survey
     while at < packed.len() {
         let next = next_at(packed, at);
         if packed.len() < next {
-            return Survey::Unfit;
+            return None;
         }
         if repeats_at(packed, store, scratch, at, next) {
-            return Survey::Unfit;
+            return None;
         }
         n = n + values_at(packed, at);
         at = onward(packed, at, next);
     }
-    Survey::Values(n)
+    Some(n)
 }
 
-// A packing with few names.
-fn survey_few(packed: &[u8]) -> Survey
-    requires { length packed.now ≤ 384 }
-    ensures { result ≡ survey_from packed.now 0 0 }
-{
-    let mut store = [0u32; FEW_NAMES];
-    let mut scratch = [0u32; FEW_NAMES];
-    walk(packed, &mut store, &mut scratch)
-}
-
-// With some. It becomes part of no other function: so these arrays are in no frame but its own.
+// The survey of a packing that has at most N names. It becomes part of no other function: so these arrays are in no frame but its own.
 #[inline(never)]
-fn survey_some(packed: &[u8]) -> Survey
-    requires { length packed.now ≤ 6144 }
+fn survey_in<const N: usize>(packed: &[u8]) -> Option<usize>
+    requires { (length packed.now ≤ longest) × (length packed.now ≤ 6 * N) × (N ≤ 10923) }
     ensures { result ≡ survey_from packed.now 0 0 }
 {
-    if MEMBER * SOME_NAMES < packed.len() {
-        return survey_some(packed);
-    }
-    let mut store = [0u32; SOME_NAMES];
-    let mut scratch = [0u32; SOME_NAMES];
-    walk(packed, &mut store, &mut scratch)
-}
-
-// With as many as there may be; in a frame of its own as well.
-#[inline(never)]
-fn survey_most(packed: &[u8]) -> Survey
-    requires { length packed.now ≤ longest }
-    ensures { result ≡ survey_from packed.now 0 0 }
-{
-    if LONGEST < packed.len() {
-        return survey_most(packed);
-    }
-    let mut store = [0u32; MOST_NAMES];
-    let mut scratch = [0u32; MOST_NAMES];
+    let mut store = [0u32; N];
+    let mut scratch = [0u32; N];
     walk(packed, &mut store, &mut scratch)
 }
 
 // How many values a packing has, unless a field is cut off or an object has a name twice; the arrays are as large as its length asks.
-pub fn survey(packed: &[u8]) -> Survey
+pub fn survey(packed: &[u8]) -> Option<usize>
     ensures { result ≡ survey_of packed.now }
 {
-    let n = packed.len();
-    if LONGEST < n {
-        return Survey::Unfit;
+    if LONGEST < packed.len() {
+        return None;
     }
-    if n <= MEMBER * FEW_NAMES {
-        return survey_few(packed);
+    match packed.len().div_ceil(MEMBER) {
+        0..=FEW_NAMES => survey_in::<FEW_NAMES>(packed),
+        0..=SOME_NAMES => survey_in::<SOME_NAMES>(packed),
+        _ => survey_in::<MOST_NAMES>(packed),
     }
-    if n <= MEMBER * SOME_NAMES {
-        return survey_some(packed);
-    }
-    survey_most(packed)
 }

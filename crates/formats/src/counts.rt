@@ -1,20 +1,9 @@
 // Unsigned integers (docs/RULES.md, 5.3).
 ghost use Rattle.std.specs.Prelude.{◌≡◌};
-ghost use Rattle.text.specs.Tokens.{is_digit};
 ghost use Rattle.contact.specs.Values.{is_count};
 
 // The largest unsigned integer: 2^53 - 1.
 const LARGEST: u64 = 9007199254740991;
-
-// A digit, 0-9.
-pub(crate) fn is_digit(b: u8) -> bool
-    ensures { result ≡ is_digit b }
-{
-    match b {
-        b'0'..=b'9' => true,
-        _ => false,
-    }
-}
 
 // Is a number's token, which has a byte or more, an unsigned integer from low to high? It stops as soon as the digits passed are too large a number. (No
 // bytes count as 0.)
@@ -22,17 +11,14 @@ pub fn is_count(token: &[u8], low: u64, high: u64) -> bool
     ensures { result ≡ is_count low high token.now }
 {
     let mut value: u64 = 0;
-    let mut i: usize = 0;
-    while i < token.len() {
-        let b = token[i];
-        if !is_digit(b) {
+    for b in token {
+        if !b.is_ascii_digit() {
             return false;
         }
-        value = 10 * value + (b - b'0') as u64;
+        value = 10 * value + (*b - b'0') as u64;
         if LARGEST < value {
             return false;
         }
-        i = i + 1;
     }
     if value < low {
         return false;

@@ -5,9 +5,8 @@ ghost use Rattle.text.specs.Tokens.{is_digit};
 ghost use Rattle.contact.specs.Dates.{is_leap, days_of, is_day, two_at, in_range, fraction_ends, ends, is_time};
 ghost use Rattle.json_reader.specs.Cursors.{rest};
 
-use crate::counts::is_digit;
 use json_reader::bytes::{ZERO, peek};
-use json_reader::decode::{Cursor, Next, next_byte, start};
+use json_reader::decode::{Cursor, next_byte, start};
 
 // The twelve month lengths; February has one day more in leap years.
 const MONTHS: [u32; 12] = [31, 28, 31, 30, 31, 30, 31, 31, 30, 31, 30, 31];
@@ -62,10 +61,7 @@ fn days_of(year: u32, month: u32) -> u32
 fn is_day(year: u32, month: u32, day: u32) -> bool
     ensures { result ≡ is_day year month day }
 {
-    if day < 1 {
-        return false;
-    }
-    day <= days_of(year, month)
+    1 <= day && day <= days_of(year, month)
 }
 
 // May a byte stand where the shape has this one?
@@ -73,19 +69,17 @@ fn suits(shape: u8, b: u8) -> bool
     ensures { result ≡ cond (eqb shape 100) (is_digit b) (eqb shape b) }
 {
     if shape == b'd' {
-        return is_digit(b);
+        b.is_ascii_digit()
+    } else {
+        shape == b
     }
-    shape == b
 }
 
 // What a digit counts.
 fn digit_of(b: u16) -> u32
     ensures { result ≡ b - 48 }
 {
-    if b < ZERO {
-        return 0;
-    }
-    (b - ZERO) as u32
+    b.saturating_sub(ZERO) as u32
 }
 
 // Two digits as a number.
@@ -126,10 +120,7 @@ fn closes(content: &[u8], last: u8, b: u8, after: Cursor) -> bool
     if last == b'0' {
         return false;
     }
-    match next_byte(content, after) {
-        Next::Over => true,
-        Next::Byte(_, _) => false,
-    }
+    next_byte(content, after).is_none()
 }
 
 // The digits of a fraction and Z after them; a fraction doesn't end in 0.
@@ -138,27 +129,21 @@ fn fraction_ends(content: &[u8], from: Cursor) -> bool
 {
     let mut at = from;
     let mut last: u8 = b'0';
-    loop {
-        match next_byte(content, at) {
-            Next::Over => {
-                return false;
-            }
-            Next::Byte(b, after) => {
-                if !is_digit(b) {
-                    return closes(content, last, b, after);
-                }
-                last = b;
-                at = after;
-            }
+    while let Some((b, after)) = next_byte(content, at) {
+        if !b.is_ascii_digit() {
+            return closes(content, last, b, after);
         }
+        last = b;
+        at = after;
     }
+    false
 }
 
 // After the seconds: Z, or a fraction and Z.
 fn time_ends(content: &[u8], from: Cursor) -> bool
     ensures { result ≡ ends (rest content.now from) }
 {
-    let Next::Byte(b, after) = next_byte(content, from) else {
+    let Some((b, after)) = next_byte(content, from) else {
         return false;
     };
     if b == b'.' {
@@ -167,10 +152,7 @@ fn time_ends(content: &[u8], from: Cursor) -> bool
     if b != b'Z' {
         return false;
     }
-    match next_byte(content, after) {
-        Next::Over => true,
-        Next::Byte(_, _) => false,
-    }
+    next_byte(content, after).is_none()
 }
 
 // Do a string's inner bytes decode to a UTCDateTime?
@@ -179,9 +161,8 @@ pub fn is_time(content: &[u8]) -> bool
 {
     let mut head: [u8; HEAD] = [0; HEAD];
     let mut at = start();
-    let mut i: usize = 0;
-    while i < HEAD {
-        let Next::Byte(b, after) = next_byte(content, at) else {
+    for i in 0..HEAD {
+        let Some((b, after)) = next_byte(content, at) else {
             return false;
         };
         if !suits(SHAPE[i], b) {
@@ -189,10 +170,6 @@ pub fn is_time(content: &[u8]) -> bool
         }
         head[i] = b;
         at = after;
-        i = i + 1;
     }
-    if !in_range(&head) {
-        return false;
-    }
-    time_ends(content, at)
+    in_range(&head) && time_ends(content, at)
 }

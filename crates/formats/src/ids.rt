@@ -3,8 +3,7 @@ ghost use Rattle.std.specs.Prelude.{◌≡◌, true, false, cond, ltb};
 ghost use Rattle.text.specs.Strings.{decode};
 ghost use Rattle.contact.specs.Values.{id_byte, is_id};
 
-use crate::counts::is_digit;
-use json_reader::decode::{Next, next_byte, start};
+use json_reader::decode::{next_byte, start};
 
 // The most bytes of an Id.
 const LONGEST: usize = 255;
@@ -30,7 +29,7 @@ fn id_byte(b: u8) -> bool
     if b == b'_' {
         return true;
     }
-    if is_digit(b) {
+    if b.is_ascii_digit() {
         return true;
     }
     is_letter(b)
@@ -42,21 +41,15 @@ pub fn is_id(name: &[u8]) -> bool
 {
     let mut at = start();
     let mut passed: usize = 0;
-    loop {
-        match next_byte(name, at) {
-            Next::Over => {
-                return 0 < passed;
-            }
-            Next::Byte(b, after) => {
-                if passed == LONGEST {
-                    return false;
-                }
-                if !id_byte(b) {
-                    return false;
-                }
-                passed = passed + 1;
-                at = after;
-            }
+    while let Some((b, after)) = next_byte(name, at) {
+        if passed == LONGEST {
+            return false;
         }
+        if !id_byte(b) {
+            return false;
+        }
+        passed += 1;
+        at = after;
     }
+    0 < passed
 }

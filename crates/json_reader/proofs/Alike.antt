@@ -4,6 +4,7 @@
 --     order-heads                    the order of two runs by their first bytes
 --     literal-differs                where the string doesn't go on with a backslash, the bytes there decide
 -- Assumes nothing.
+use Rattle.std.specs.declared.cmp.Ordering.{Ordering}
 use Prim.Native.Nat.{ℕ, ◌+◌, ◌≤◌, ◌<◌}
 use mathlib.Core.Path.{◌≡◌, refl, sym, ◌∙◌}
 use mathlib.Core.List.{List, [], ◌∷◌}
@@ -13,7 +14,6 @@ use lib.ListN.{length, get_or, drop_of_length-le, get_or-eq_default}
 use lib.Dec.{eqb}
 use borrow.Author.Tests.{eq-eqb, ne_eqb, eqb-true, eqb-false}
 use Rattle.laws.specs.Order.{order_of, same}
-use Rattle.laws.specs.declared.Order.{Order}
 use Rattle.laws.proofs.Bools.{by_test}
 use Rattle.laws.proofs.Branches.{if_equal, if_less}
 use Rattle.laws.proofs.Places.{inside, ended, drop_byte}
@@ -69,7 +69,7 @@ pub order_heads : (p q : ℕ) (xs ys : List ℕ) {xs' ys' : List ℕ} → (p ≡
     → ((q ≡ 256 → ⊥) → ys ≡ q ∷ ys') → (p ≡ q → p ≡ 256) → order_at p q ≡ order_of xs ys
 unfolding order_at order_of
 order_heads p q xs ys {xs'} {ys'} ends heads ends' heads' stops =
-    let P : Order → Type 0 = λ o. o ≡ order_of xs ys in
+    let P : Ordering → Type 0 = λ o. o ≡ order_of xs ys in
     if_equal P p q (λ e. rw (ends (stops e), ends' (sym e ∙ stops e)))
     (λ e. if_equal P p 256 (λ o. rw (ends o, heads' (λ z. e (o ∙ sym z))))
     (λ o. if_equal P q 256 (λ z. rw (heads o, ends' z))

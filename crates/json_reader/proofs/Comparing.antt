@@ -1,12 +1,14 @@
 -- Two names compared up to their closing quotes:
 --     next-quoted, next-close      what a cursor hands out, up to the quote
---     handed-to                    what a byte that it hands out says of the bytes that it has left
 --     common-none, common-next     bytes in common from two places on, and one more
 --     ended-quote, ended-over      bytes at which a name is over
 --     quoted-told                  where neither name goes on with a backslash, the bytes there decide, unless they are alike
 --     quoted-differs               where neither name goes on with a backslash, the bytes there decide
 -- Assumes nothing.
-use mathlib.Core.Path.{◌≡◌, refl, sym, ap, ◌∙◌}
+use Rattle.std.specs.Prelude.{Option, Some, None, Result, Ok, Err}
+use Rattle.text.specs.declared.Fault.{Fault}
+use Rattle.text.specs.declared.Fault.TheVariants.{Malformed, Forbidden}
+use mathlib.Core.Path.{◌≡◌, refl, sym, ◌∙◌}
 use mathlib.Core.List.{List, [], ◌∷◌, ◌++◌}
 use mathlib.Core.Bool.{Bool, true, false, cond}
 use Prim.Native.Nat.{ℕ, ◌+◌, ◌/◌, ◌%◌, ◌<◌}
@@ -21,16 +23,12 @@ use Rattle.text.specs.Text.{byte_at}
 use Rattle.text.specs.Chars.{escape_at}
 use Rattle.text.specs.Strings.{piece_of, on_piece}
 use Rattle.text.specs.Utf8.{utf8, conts}
-use Rattle.text.specs.declared.Step.{Step}
-use Rattle.text.specs.declared.Step.TheVariants.{Close, Char, Bad2, Bad3}
 use Rattle.repeats.specs.Quoted.{quoted_from}
 use Rattle.repeats.proofs.Quoted.{quoted_close, quoted_over, quoted_raw, quoted_escape}
 use Rattle.json_reader.specs.Names.{order_at}
 use Rattle.json_reader.specs.Cursors.{cursor, first_of, escaped, fresh_of, next_of}
 use Rattle.json_reader.specs.Quoted.{rest_to, unread_to, ended, CommonFrom, AlikeFrom}
 use Rattle.json_reader.specs.declared.decode.Cursor.{Cursor}
-use Rattle.json_reader.specs.declared.decode.Next.{Next}
-use Rattle.json_reader.specs.declared.decode.Next.TheVariants.{Byte, Over}
 use Rattle.json_reader.proofs.Alike.{by_number, order_heads}
 
 -- ---- what a cursor hands out
@@ -40,8 +38,8 @@ module _ (t : List ℕ) where
   unfolding first_of utf8 conts
   first_quoted code at = go (ltb code 128) (ltb code 2048) (ltb code 65536)
     where
-      go : (x y z : Bool) → unread_to t (cond x (Byte code (cursor at code 0)) (cond y (Byte (192 + code / 64 % 32) (cursor at code 1))
-          (cond z (Byte (224 + code / 4096 % 16) (cursor at code 2)) (Byte (240 + code / 262144 % 8) (cursor at code 3)))))
+      go : (x y z : Bool) → unread_to t (cond x (Some (code, cursor at code 0)) (cond y (Some (192 + code / 64 % 32, cursor at code 1))
+          (cond z (Some (224 + code / 4096 % 16, cursor at code 2)) (Some (240 + code / 262144 % 8, cursor at code 3)))))
           ≡ cond x (code ∷ []) (cond y ((192 + code / 64 % 32) ∷ conts 1 code) (cond z ((224 + code / 4096 % 16) ∷ conts 2 code)
           ((240 + code / 262144 % 8) ∷ conts 3 code))) ++ quoted_from t at
       go true y z = refl
@@ -49,18 +47,18 @@ module _ (t : List ℕ) where
       go false false true = refl
       go false false false = refl
 
-  escape_quoted : (at : ℕ) (s : Step) → unread_to t (escaped at s) ≡ on_piece (quoted_from t) at (piece_of s)
-  escape_quoted at Close = refl
-  escape_quoted at (Char code n) = first_quoted code (at + n)
-  escape_quoted at (Bad2 p) = refl
-  escape_quoted at (Bad3 p) = refl
+  escape_quoted : (at : ℕ) (s : Result (Option (ℕ × ℕ)) (Fault ℕ)) → unread_to t (escaped at s) ≡ on_piece (quoted_from t) at (piece_of s)
+  escape_quoted at (Ok None) = refl
+  escape_quoted at (Ok (Some (code, n))) = first_quoted code (at + n)
+  escape_quoted at (Err (Malformed p)) = refl
+  escape_quoted at (Err (Forbidden p)) = refl
 
   fresh_quoted : (at : ℕ) → (byte_at t at ≡ 34 → ⊥) → unread_to t (fresh_of t at) ≡ quoted_from t at
   unfolding fresh_of conts
   fresh_quoted at q = go (eqb (byte_at t at) 256) refl (eqb (byte_at t at) 92) refl
     where
       go : (x : Bool) → eqb (byte_at t at) 256 ≡ x → (y : Bool) → eqb (byte_at t at) 92 ≡ y
-          → unread_to t (cond x Over (cond y (escaped at (escape_at t at)) (Byte (byte_at t at) (cursor (at + 1) 0 0)))) ≡ quoted_from t at
+          → unread_to t (cond x None (cond y (escaped at (escape_at t at)) (Some (byte_at t at, cursor (at + 1) 0 0)))) ≡ quoted_from t at
       go true e y f = sym (quoted_over t at (eqb-true (byte_at t at) 256 e))
       go false e true f = escape_quoted at (escape_at t at) ∙ sym (quoted_escape t at (eqb-true (byte_at t at) 92 f))
       go false e false f = sym (quoted_raw t at (byte_at t at) refl q (eqb-false (byte_at t at) 92 f) (eqb-false (byte_at t at) 256 e))
@@ -73,8 +71,8 @@ module _ (t : List ℕ) where
       code = c.code
 
       go : (x : Bool) → eqb c.left 0 ≡ x → (y z : Bool)
-          → unread_to t (cond x (fresh_of t c.at) (cond y (Byte (128 + code % 64) (cursor c.at code 0))
-          (cond z (Byte (128 + code / 64 % 64) (cursor c.at code 1)) (Byte (128 + code / 4096 % 64) (cursor c.at code 2)))))
+          → unread_to t (cond x (fresh_of t c.at) (cond y (Some (128 + code % 64, cursor c.at code 0))
+          (cond z (Some (128 + code / 64 % 64, cursor c.at code 1)) (Some (128 + code / 4096 % 64, cursor c.at code 2)))))
           ≡ cond x [] (cond y ((128 + code % 64) ∷ []) (cond z ((128 + code / 64 % 64) ∷ (128 + code % 64) ∷ [])
           ((128 + code / 4096 % 64) ∷ (128 + code / 64 % 64) ∷ (128 + code % 64) ∷ []))) ++ quoted_from t c.at
       go true e y z = fresh_quoted c.at (q (eqb-true c.left 0 e))
@@ -85,9 +83,6 @@ module _ (t : List ℕ) where
   pub next_close : (c : Cursor) → c.left ≡ 0 → byte_at t c.at ≡ 34 → [] ≡ rest_to t c
   unfolding conts
   next_close c e q = rw e (sym (quoted_close t c.at q))
-
-  pub handed_to : (c : Cursor) {r : Next} {b : ℕ} {d : Cursor} → unread_to t r ≡ rest_to t c → r ≡ Byte b d → rest_to t c ≡ b ∷ rest_to t d
-  handed_to c e g = sym e ∙ ap (unread_to t) g
 
 -- ---- the bytes as written
 

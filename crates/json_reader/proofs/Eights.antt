@@ -1,9 +1,9 @@
 -- Bytes of two texts that stand alike and are in a class:
---     class-plain                all of either class are plain
 --     alike-none, alike-more     one more of them
 --     alike-eight                the first j of n bytes that were read as numbers
 --     one-run, one_told          two runs that go as far as they can are as long; two tests that tell the same say the same
---     common-plain               what two names have in common by plain bytes
+--     common-written, common-plain   what two names have in common by bytes that mean nothing but themselves
+--     alike-written, alike-raw   and how far two names, and two strings, have it
 -- Assumes nothing.
 use Prim.Native.Nat.{ℕ, zero, suc, ◌+◌, ◌/◌, ◌%◌, ◌≤◌, ◌<◌}
 use mathlib.Core.Path.{◌≡◌, refl, sym, subst, ◌∙◌}
@@ -17,13 +17,11 @@ use lib.ListN.{length, get_or}
 use borrow.Author.Count.{below_more}
 use Rattle.laws.proofs.Places.{any_default}
 use Rattle.text.specs.Text.{byte_at}
-use Rattle.json_reader.specs.Plain.{packed_at, Plain, Class, Told, AlikeBytes, AlikeTo, AlikeRun}
-use Rattle.json_reader.specs.Quoted.{CommonFrom}
-use Rattle.json_reader.proofs.Comparing.{common_none, common_next}
-
-pub class_plain : (own : Bool) {b : ℕ} → Class own b → Plain b
-class_plain true c = c.plain
-class_plain false c = c
+use Rattle.json_reader.specs.Plain.{packed_at, Plain, Told, AlikeBytes, AlikeTo, AlikeRun}
+use Rattle.json_reader.specs.Quoted.{Written, CommonFrom, AlikeFrom}
+use Rattle.json_reader.specs.Names.{Raw, Common, Alike}
+use Rattle.json_reader.proofs.Alike.{by_number, common_start, common_more}
+use Rattle.json_reader.proofs.Comparing.{common_none, common_next, ended_quote, ended_over}
 
 module _ (P : ℕ → Type 0) (s : List ℕ) (a : ℕ) (t : List ℕ) (b : ℕ) where
   pub alike_none : AlikeTo P s a t b 0
@@ -82,10 +80,45 @@ module _ (P : ℕ → Type 0) (s t : List ℕ) (s-bytes : (i : ℕ) → get_or s
 
 -- ---- names
 
-pub common_plain : (t : List ℕ) (a b k : ℕ) → ((i : ℕ) → i < k → (byte_at t (a + i) ≡ byte_at t (b + i)) × Plain (byte_at t (a + i))) → CommonFrom t a b k
-common_plain t a b zero alike = common_none t a b
-common_plain t a b (suc k) alike =
+pub common_written : (t : List ℕ) (a b k : ℕ) → ((i : ℕ) → i < k → (byte_at t (a + i) ≡ byte_at t (b + i)) × Written (byte_at t (a + i))) → CommonFrom t a b k
+common_written t a b zero alike = common_none t a b
+common_written t a b (suc k) alike =
     let here = alike k (omega arith) in
     rw (← add-one k)
-    (common_next t a b k (common_plain t a b k (λ i h. alike i (omega arith))) here.1.no_quote here.1.no_slash (omega (arith, here.1.ascii))
-    here.0)
+    (common_next t a b k (common_written t a b k (λ i h. alike i (omega arith))) here.1.no_quote here.1.raw.no_escape here.1.raw.byte here.0)
+
+pub common_plain : (t : List ℕ) (a b k : ℕ) → ((i : ℕ) → i < k → (byte_at t (a + i) ≡ byte_at t (b + i)) × Plain (byte_at t (a + i))) → CommonFrom t a b k
+common_plain t a b k alike =
+    common_written t a b k (λ i h. let here = alike i h in (
+      here.0,
+      record {
+        raw = record { byte = omega (arith, here.1.ascii); no_escape = here.1.no_slash };
+        no_quote = here.1.no_quote;
+      },
+    ))
+
+-- two names have no more in common than such bytes, unless a backslash stands there or both are over
+pub alike_written : (t : List ℕ) (a b k : ℕ) → AlikeRun Written t a t b k → byte_at t (a + k) ≤ 256 → AlikeFrom t a b k
+alike_written t a b k r most =
+    record {
+      common = common_written t a b k r.run.alike;
+      stops = λ e n. by_number (byte_at t (a + k)) 34 (ended_quote (byte_at t (a + k)))
+          (λ q. by_number (byte_at t (a + k)) 256 (ended_over (byte_at t (a + k)))
+          (λ o. absurd (r.ends e (record { raw = record { byte = omega arith; no_escape = n }; no_quote = q }))));
+    }
+
+-- two strings have no more in common than bytes that mean nothing but themselves, unless a backslash stands there or both are over
+pub common_raw : (a b : List ℕ) (k : ℕ) → ((i : ℕ) → i < k → (byte_at a (0 + i) ≡ byte_at b (0 + i)) × Raw (byte_at a (0 + i))) → Common a b k
+common_raw a b zero alike = common_start a b
+common_raw a b (suc k) alike =
+    let here = alike k (omega arith) in
+    let z : 0 + k ≡ k = omega arith in
+    rw (← add-one k) (common_more a b k (common_raw a b k (λ i h. alike i (omega arith))) (rw z at here.1.no_escape) (rw z at here.1.byte) (rw z at here.0))
+
+pub alike_raw : (a b : List ℕ) (k : ℕ) → AlikeRun Raw a 0 b 0 k → byte_at a k ≤ 256 → Alike a b k
+alike_raw a b k r most =
+    let z : 0 + k ≡ k = omega arith in
+    record {
+      common = common_raw a b k r.run.alike;
+      stops = λ e n. by_number (byte_at a k) 256 (λ o. o) (λ o. absurd (rw z at r.ends e (record { byte = omega arith; no_escape = n })));
+    }

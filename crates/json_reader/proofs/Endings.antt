@@ -3,6 +3,7 @@
 --     in-room-ended                        a text that was read, and a table that has room for its rows or hasn't
 --     counted                              rows are within the limit
 -- Assumes nothing.
+use Rattle.std.specs.Prelude.{Result, Ok, Err}
 use Prim.Native.Nat.{ℕ, ◌*◌, ◌≤◌, ◌<◌}
 use mathlib.Core.Path.{◌≡◌, refl, ◌∙◌}
 use mathlib.Core.Bool.{Bool, true, false, cond}
@@ -18,8 +19,6 @@ use Rattle.text.specs.Reader.{Read, good, bad, value_at}
 use Rattle.text.specs.Whole.{end_of, read_of, whole_of}
 use Rattle.text.specs.declared.Refusal.{Refusal}
 use Rattle.text.specs.declared.Refusal.TheVariants.{Grammar, Small}
-use Rattle.text.specs.declared.Reading.{Reading}
-use Rattle.text.specs.declared.Reading.TheVariants.{Rows, Refused}
 use Rattle.text.proofs.Fewer.{whole_bad, good_whole, small_whole}
 use Rattle.json_reader.specs.Answers.{Ended, Counted, in_room}
 
@@ -45,8 +44,8 @@ module _ (L : Limits) (t : List ℕ) (h : length t ≤ L.bytes) where
 
 -- ---- a table of so many words ----
 
-module _ (L : Limits) (words : ℕ) (t old new : List ℕ) (n : ℕ) (s : Ended (read_of L t) old new (Rows n)) where
-  whole_fits : row_words * n ≤ words → Ended (whole_of L words t) old new (Rows n)
+module _ (L : Limits) (words : ℕ) (t old new : List ℕ) (n : ℕ) (s : Ended (read_of L t) old new (Ok n)) where
+  whole_fits : row_words * n ≤ words → Ended (whole_of L words t) old new (Ok n)
   whole_fits h =
       let r = s.0 in (
         record {
@@ -62,15 +61,15 @@ module _ (L : Limits) (words : ℕ) (t old new : List ℕ) (n : ℕ) (s : Ended 
   whole_small : words < row_words * n → whole_of L words t ≡ bad (Small n)
   whole_small h = let r = s.0 in small_whole L words t r.trees r.to (rw r.count at h) r.is ∙ rw r.count
 
-pub in_room_ended : (L : Limits) (t old mid : List ℕ) (read : Reading) → length mid ≡ length old → Ended (read_of L t) old mid read
+pub in_room_ended : (L : Limits) (t old mid : List ℕ) (read : Result ℕ Refusal) → length mid ≡ length old → Ended (read_of L t) old mid read
     → Ended (whole_of L (length old) t) old mid (in_room (length mid) read)
-in_room_ended L t old mid (Refused r) long s = whole_bad L (length old) t r s
-in_room_ended L t old mid (Rows n) long s = go (ltb (length mid) (row_words * n)) refl
+in_room_ended L t old mid (Err r) long s = whole_bad L (length old) t r s
+in_room_ended L t old mid (Ok n) long s = go (ltb (length mid) (row_words * n)) refl
   where
-    go : (b : Bool) → ltb (length mid) (row_words * n) ≡ b → Ended (whole_of L (length old) t) old mid (cond b (Refused (Small n)) (Rows n))
+    go : (b : Bool) → ltb (length mid) (row_words * n) ≡ b → Ended (whole_of L (length old) t) old mid (cond b (Err (Small n)) (Ok n))
     go true e = whole_small L (length old) t old mid n s (omega (arith, ltb-true (length mid) (row_words * n) e))
     go false e = whole_fits L (length old) t old mid n s (omega (arith, ltb-false (length mid) (row_words * n) e))
 
-pub counted : (R : Read) (old new : List ℕ) (read : Reading) → Ended R old new read → Counted read
-counted R old new (Rows n) s = s.1
-counted R old new (Refused r) s = tt
+pub counted : (R : Read) (old new : List ℕ) (read : Result ℕ Refusal) → Ended R old new read → Counted read
+counted R old new (Ok n) s = s.1
+counted R old new (Err r) s = tt

@@ -1,5 +1,6 @@
 -- Laws of the items of a container: what holds at the head of the loop that reads them, of the definition, the table and the store of names, and how a turn
 -- ends or goes on. Assumes nothing.
+use Rattle.std.specs.Prelude.{Ok}
 use mathlib.Core.Path.{◌≡◌, refl, sym, ap, ◌∙◌}
 use mathlib.Core.List.{List, [], ◌∷◌, ◌++◌, append_assoc, append-nil}
 use Prim.Native.Nat.{ℕ, zero, suc, ◌+◌, ◌*◌, ◌≤◌, ◌<◌}
@@ -23,7 +24,6 @@ use Rattle.text.proofs.TokenEnds.{skip_span}
 use Rattle.text.proofs.Stores.{size_join, rows_link, rows_then}
 use Rattle.repeats.specs.Closed.{closed_after, closed_from, closed_in}
 use Rattle.json_reader.specs.Readers.{Added, Further, Gone}
-use Rattle.json_reader.specs.declared.values.Progress.TheVariants.{Next}
 use Rattle.json_reader.proofs.Ways.{OneValue}
 use Rattle.json_reader.proofs.Store.{added_none, added_then}
 
@@ -227,7 +227,7 @@ module _ {parent : ℕ} {t : List ℕ} {own : ℕ → List ℕ} {item : ItemRead
             omega (arith, g.later)
 
         pub upto_more : OneValue (item u.done at n) → {linked : List ℕ} → linked ≡ sets last (links_at n) (parent ∷ after ∷ [])
-            → {more : ℕ} {names'' : List ℕ} → Added (own at) end names' more names'' → Further more (Next to after)
+            → {more : ℕ} {names'' : List ℕ} → Added (own at) end names' more names'' → Further more (Ok (to, after))
             → Upto parent t own item z start first top old names next after more linked names''
         upto_more one k a f =
             let i = inside t x (omega arith) in

@@ -5,6 +5,7 @@
 --     rest-cleared, tail-cleared     clearing behind what is used, and behind the rows
 --     read-cleared, read-refused     and so to reading's contract
 -- Assumes nothing.
+use Rattle.std.specs.Prelude.{Result, Ok, Err}
 use Prim.Native.Nat.{ℕ, ◌+◌, ◌*◌, ◌-◌, ◌≤◌}
 use mathlib.Core.Path.{◌≡◌, refl, sym, ap, ◌∙◌}
 use mathlib.Core.List.{List, ◌++◌, append_assoc, append-nil}
@@ -22,13 +23,11 @@ use Rattle.text.specs.Reader.{bad}
 use Rattle.text.specs.Sheet.{paper}
 use Rattle.text.specs.Whole.{whole_of, sheet_of, table_of, Reads}
 use Rattle.text.specs.declared.Refusal.{Refusal}
-use Rattle.text.specs.declared.Reading.{Reading}
-use Rattle.text.specs.declared.Reading.TheVariants.{Rows, Refused}
 use Rattle.text.proofs.Standing.{LinkedAt, tree_length, rows_stand, rows_linked}
 use Rattle.text.proofs.Promise.{paper_unique, fills, rows_tree, refusal_is}
 use Rattle.json_reader.specs.Answers.{kept_of, ReadsRows, Stored, Ended}
 
-pub one_outcome : (L : Limits) (t old : List ℕ) (a b : Reading) (x y : List ℕ) → ReadsRows L t old a x → ReadsRows L t old b y → (a ≡ b) × (x ≡ y)
+pub one_outcome : (L : Limits) (t old : List ℕ) (a b : Result ℕ Refusal) (x y : List ℕ) → ReadsRows L t old a x → ReadsRows L t old b y → (a ≡ b) × (x ≡ y)
 one_outcome L t old a b x y h k = (paper_unique a b (h.answered ∙ sym k.answered), h.left ∙ sym k.left)
 
 -- ---- clearing
@@ -65,20 +64,20 @@ module _ (f : Forest) (old : List ℕ) (room : row_words * size f ≤ length old
 -- ---- reading
 
 module _ {L : Limits} {t old : List ℕ} where
-  pub kept_rows : {n : ℕ} {new : List ℕ} → Ended (whole_of L (length old) t) old new (Rows n) → ReadsRows L t old (Rows n) new
+  pub kept_rows : {n : ℕ} {new : List ℕ} → Ended (whole_of L (length old) t) old new (Ok n) → ReadsRows L t old (Ok n) new
   unfolding paper sheet_of
   kept_rows (s, few) = record { answered = rw (s.is, s.count); left = rw s.is s.table }
 
-  pub kept_none : (mid : List ℕ) {r : Refusal} {new : List ℕ} → Ended (whole_of L (length old) t) old mid (Refused r) → length mid ≡ length old
-      → new ≡ replicate (length mid) 0 → ReadsRows L t old (Refused r) new
+  pub kept_none : (mid : List ℕ) {r : Refusal} {new : List ℕ} → Ended (whole_of L (length old) t) old mid (Err r) → length mid ≡ length old
+      → new ≡ replicate (length mid) 0 → ReadsRows L t old (Err r) new
   unfolding paper sheet_of
   kept_none mid s long e = record { answered = rw s; left = e ∙ rw (s, long) }
 
   -- what the reading layer promises is said of the table that is cleared behind the rows
-  as_read : {a : Reading} {new : List ℕ} → ReadsRows L t old a new → Reads L (length old) t a (table_of (length old) (whole_of L (length old) t))
+  as_read : {a : (Result ℕ Refusal)} {new : List ℕ} → ReadsRows L t old a new → Reads L (length old) t a (table_of (length old) (whole_of L (length old) t))
   as_read h = record { answered = h.answered; left = refl }
 
-  module _ {n : ℕ} {new : List ℕ} (h : ReadsRows L t old (Rows n) new) where
+  module _ {n : ℕ} {new : List ℕ} (h : ReadsRows L t old (Ok n) new) where
     pub rows_there : (s : Stored (whole_of L (length old) t) old new n) × (n * row_words ≤ length old) × Filled L t new n s.trees
     rows_there =
         let a = rows_tree L (length old) t _ n (as_read h) in
@@ -90,7 +89,7 @@ module _ {L : Limits} {t old : List ℕ} where
         )
 
     pub read_cleared : {rest : List ℕ} → rest ≡ replicate (length (mid_of (n * row_words) (length new - n * row_words) new)) 0
-        → Reads L (length old) t (Rows n) (put_mid (n * row_words) (length new - n * row_words) new rest)
+        → Reads L (length old) t (Ok n) (put_mid (n * row_words) (length new - n * row_words) new rest)
     unfolding table_of
     read_cleared clear =
         let (s, room, filled) = rows_there in
@@ -99,10 +98,10 @@ module _ {L : Limits} {t old : List ℕ} where
           left = tail_cleared s.trees old (omega (arith, s.count)) s.table n s.count clear ∙ rw s.is;
         }
 
-  module _ {r : Refusal} {new : List ℕ} (h : ReadsRows L t old (Refused r) new) where
+  module _ {r : Refusal} {new : List ℕ} (h : ReadsRows L t old (Err r) new) where
     pub refused_there : (whole_of L (length old) t ≡ bad r) × (new ≡ replicate (length old) 0)
     refused_there = let w = (refusal_is L (length old) t _ r (as_read h)).whole in (w, h.left ∙ ap (kept_of old) w)
 
-    pub read_refused : Reads L (length old) t (Refused r) new
+    pub read_refused : Reads L (length old) t (Err r) new
     unfolding table_of
     read_refused = record { answered = h.answered; left = refused_there.1 ∙ rw (refused_there.0, sub-zero) }

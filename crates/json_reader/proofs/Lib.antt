@@ -1,5 +1,4 @@
 -- What the proofs of several functions share.
-pub mod Handed
 pub mod Alike
 pub mod Comparing
 pub mod Marks
@@ -15,3 +14,4 @@ pub mod Endings
 pub mod Kept
 pub mod Unread
 pub mod Seeking
+pub mod Ordered

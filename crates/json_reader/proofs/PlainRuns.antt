@@ -5,8 +5,10 @@
 --     one-chars-end               as many as there are is one number
 --     plains-chars                the first k of n bytes that were read as a number, if these are plain
 -- Assumes nothing.
+use Rattle.std.specs.Prelude.{Some, Ok}
 use Prim.Native.Nat.{ℕ, zero, suc, ◌+◌, ◌*◌, ◌/◌, ◌%◌, ◌≤◌, ◌<◌}
-use mathlib.Core.Path.{◌≡◌, refl, sym, subst, ◌∙◌}
+use mathlib.Core.Path.{◌≡◌, refl, sym, ap, subst, ◌∙◌}
+use Rattle.text.proofs.Spelling.Characters.{char_in}
 use mathlib.Core.List.{List}
 use native.Mathlib.Nat.{add-zero}
 use native.Mathlib.Omega.{arith}
@@ -16,7 +18,6 @@ use Rattle.laws.proofs.Places.{any_default}
 use Rattle.text.specs.Text.{byte_at}
 use Rattle.text.specs.Chars.{step_by, step_at, Chars, stay, more}
 use Rattle.text.specs.Strings.{string_end}
-use Rattle.text.specs.declared.Step.TheVariants.{Char}
 use Rattle.text.proofs.Walks.{end_at_lem}
 use Rattle.json_reader.specs.Plain.{packed_at, Plain, Bytes, CharsEnd, Stops}
 use Rattle.json_reader.specs.declared.strings.Stop.{Stop}
@@ -31,7 +32,7 @@ chars_later (more e p) = omega (arith, chars_later p)
 
 pub chars_string : {t : List ℕ} {i j : ℕ} → Chars t i j → string_end t j ≡ string_end t i
 chars_string stay = refl
-chars_string {t} {i} (more {code = code} {len = len} e p) = chars_string p ∙ sym (end_at_lem t i (Char code len) e)
+chars_string {t} {i} (more {code = code} {len = len} e p) = chars_string p ∙ sym (end_at_lem t i (Ok (Some (code, len))) e)
 
 pub stops_from : {t : List ℕ} {i j : ℕ} {s : Stop} → Chars t i j → Stops t j s → Stops t i s
 stops_from c s =
@@ -43,16 +44,16 @@ stops_from c s =
 pub one_chars_end : {t : List ℕ} {i a b : ℕ} → CharsEnd t i a → CharsEnd t i b → a ≡ b
 one_chars_end x y = same x.chars y.chars x.ends y.ends
   where
-    same : {t : List ℕ} {i a b : ℕ} → Chars t i a → Chars t i b → ((code len : ℕ) → step_at t a ≡ Char code len → ⊥)
-        → ((code len : ℕ) → step_at t b ≡ Char code len → ⊥) → a ≡ b
+    same : {t : List ℕ} {i a b : ℕ} → Chars t i a → Chars t i b → ((code len : ℕ) → step_at t a ≡ Ok (Some (code, len)) → ⊥)
+        → ((code len : ℕ) → step_at t b ≡ Ok (Some (code, len)) → ⊥) → a ≡ b
     same stay stay m n = refl
     same stay (more {code = code} {len = len} e p) m n = absurd (m code len e)
     same (more {code = code} {len = len} e p) stay m n = absurd (n code len e)
     same {t} {b = b} (more {len = len} e p) (more {i = i} {len = other} f q) m n =
-        let d : len ≡ other = cc in
+        let d : len ≡ other = ap (λ x. (char_in x).1) (sym e ∙ f) in
         same p (subst (λ k. Chars t (i + k) b) (sym d) q) m n
 
-plain_step : (t : List ℕ) (i : ℕ) → Plain (byte_at t i) → step_at t i ≡ Char (byte_at t i) 1
+plain_step : (t : List ℕ) (i : ℕ) → Plain (byte_at t i) → step_at t i ≡ Ok (Some (byte_at t i, 1))
 unfolding step_by
 plain_step t i p =
     rw (ne_eqb (byte_at t i) 34 p.no_quote, ne_eqb (byte_at t i) 92 p.no_slash, le-ltb (byte_at t i) 32 p.printable, lt-ltb (byte_at t i) 128 p.ascii)

@@ -7,6 +7,7 @@
 --     one_found                       two answers that a search allows are equal
 --     Seeking and its laws            what is sought among the values from the start is sought among those that are left
 -- Assumes nothing.
+use Rattle.std.specs.Prelude.{Option, Some, None}
 use Prim.Native.Nat.{ℕ, ◌+◌, ◌*◌, ◌≤◌, ◌<◌}
 use mathlib.Core.Path.{◌≡◌, refl, sym, ap, ◌∙◌}
 use mathlib.Core.Bool.{true, false}
@@ -28,8 +29,6 @@ use Rattle.text.specs.Doc.{Name, members_of, seek}
 use Rattle.text.proofs.Promise.{first_row_lem, inside, after, some_at, none_at, members_first, members_none}
 use Rattle.json_reader.specs.Rows.{kind_in, name_start_in, name_end_in, below_in}
 use Rattle.json_reader.specs.Lookup.{last_row, row_after, first_member, from_name, Standing, Finds}
-use Rattle.json_reader.specs.declared.lookup.Found.{Found}
-use Rattle.json_reader.specs.declared.lookup.Found.TheVariants.{Row, Nothing}
 
 module _ (t : List ℕ) (n : Name) where
   from_here : (g : Forest) → HasFirst g → same (name_of t (name_start g) (name_end g)) n ≡ true → from_name t n g ≡ g
@@ -145,12 +144,12 @@ pub standing : {t table : List ℕ} {end : ℕ} {n : Name} {f : Forest} {m : ℕ
 standing h = h
 
 -- two answers that a search allows are equal
-pub one_found : (t table : List ℕ) (end : ℕ) (n : Name) (f : Forest) (r s : Found) → Finds t table end n f r → Finds t table end n f s → r ≡ s
-one_found t table end n f (Row m) (Row k) a b =
+pub one_found : (t table : List ℕ) (end : ℕ) (n : Name) (f : Forest) (r s : Option ℕ) → Finds t table end n f r → Finds t table end n f s → r ≡ s
+one_found t table end n f (Some m) (Some k) a b =
     let same_rest : a.found ≡ b.found = a.first ∙ sym b.first in
     let same_size : size a.found ≡ size b.found = ap size same_rest in
     let same_row : m ≡ k = omega (arith, a.stands.ends, b.stands.ends, same_size) in
-    ap Row same_row
-one_found t table end n f (Row m) Nothing a b = let z : ◌≡◌ {A = ℕ} 0 1 = cc in absurd (omega arith)
-one_found t table end n f Nothing (Row k) a b = let z : ◌≡◌ {A = ℕ} 0 1 = cc in absurd (omega arith)
-one_found t table end n f Nothing Nothing a b = refl
+    ap Some same_row
+one_found t table end n f (Some m) None a b = let z : ◌≡◌ {A = ℕ} 0 1 = cc in absurd (omega arith)
+one_found t table end n f None (Some k) a b = let z : ◌≡◌ {A = ℕ} 0 1 = cc in absurd (omega arith)
+one_found t table end n f None None a b = refl

@@ -1,4 +1,7 @@
 -- Laws of the definitions of a value and of a member, one for each way that the code goes. Assumes nothing.
+use Rattle.std.specs.Prelude.{Result, Ok, Err}
+use Rattle.text.specs.declared.Fault.{Fault}
+use Rattle.text.specs.declared.Fault.TheVariants.{Malformed, Forbidden}
 use mathlib.Core.Path.{◌≡◌, refl, ap, ◌∙◌}
 use mathlib.Core.List.{List, [], ◌∷◌}
 use mathlib.Core.Bool.{Bool, true, false, cond}
@@ -18,8 +21,6 @@ use Rattle.text.specs.Tree.{curly, Forest, none, leaf}
 use Rattle.text.specs.Firsts.{HasFirst, rest_at}
 use Rattle.text.specs.Grammar.{closing}
 use Rattle.text.specs.Reader.{Read, good, bad, Reader, scalar_with, scalar_at, close_of, container, deep, value_with, inside_of, colon_at, member_with, member_of, value_at, elements_at, members_at, array_at, object_at}
-use Rattle.text.specs.declared.Token.{Token}
-use Rattle.text.specs.declared.Token.TheVariants.{End, No2, No3}
 use Rattle.text.specs.declared.Refusal.TheVariants.{Grammar, Character, Deep, Many}
 use Rattle.text.proofs.Laws.{value_parts}
 use Rattle.text.proofs.Placing.{single_value}
@@ -39,15 +40,15 @@ module _ (L : Limits) (t : List ℕ) (kind ns ne at n : ℕ) where
   scalar_many h = rw (le-leb _ _ h)
 
   module _ (h : n < L.values) where
-    pub scalar_end : (to : ℕ) → token_at t kind at ≡ End to → scalar_at L t kind ns ne at n ≡ good (leaf kind ns ne at to none) to
+    pub scalar_end : (to : ℕ) → token_at t kind at ≡ Ok to → scalar_at L t kind ns ne at n ≡ good (leaf kind ns ne at to none) to
     unfolding scalar_at scalar_with
     scalar_end to e = rw (lt-leb _ _ h, e)
 
-    pub scalar_no2 : (p : ℕ) → token_at t kind at ≡ No2 p → scalar_at L t kind ns ne at n ≡ bad (Grammar p)
+    pub scalar_no2 : (p : ℕ) → token_at t kind at ≡ Err (Malformed p) → scalar_at L t kind ns ne at n ≡ bad (Grammar p)
     unfolding scalar_at scalar_with
     scalar_no2 p e = rw (lt-leb _ _ h, e)
 
-    pub scalar_no3 : (p : ℕ) → token_at t kind at ≡ No3 p → scalar_at L t kind ns ne at n ≡ bad (Character p)
+    pub scalar_no3 : (p : ℕ) → token_at t kind at ≡ Err (Forbidden p) → scalar_at L t kind ns ne at n ≡ bad (Character p)
     unfolding scalar_at scalar_with
     scalar_no3 p e = rw (lt-leb _ _ h, e)
 
@@ -160,15 +161,15 @@ module _ (L : Limits) (t : List ℕ) (value : Reader) (done : Forest) (at n : �
   member_none h = rw (ne_eqb _ _ h)
 
   module _ (h : byte_at t at ≡ 34) where
-    pub member_no2 : (p : ℕ) → string_end t (at + 1) ≡ No2 p → member_of (loose L) t value done at n ≡ bad (Grammar p)
+    pub member_no2 : (p : ℕ) → string_end t (at + 1) ≡ Err (Malformed p) → member_of (loose L) t value done at n ≡ bad (Grammar p)
     unfolding member_of member_with
     member_no2 p e = rw (eq-eqb _ _ h, e)
 
-    pub member_no3 : (p : ℕ) → string_end t (at + 1) ≡ No3 p → member_of (loose L) t value done at n ≡ bad (Character p)
+    pub member_no3 : (p : ℕ) → string_end t (at + 1) ≡ Err (Forbidden p) → member_of (loose L) t value done at n ≡ bad (Character p)
     unfolding member_of member_with
     member_no3 p e = rw (eq-eqb _ _ h, e)
 
-    pub member_closed : (end : ℕ) → string_end t (at + 1) ≡ End end → member_of (loose L) t value done at n ≡ colon_at t value at end n
+    pub member_closed : (end : ℕ) → string_end t (at + 1) ≡ Ok end → member_of (loose L) t value done at n ≡ colon_at t value at end n
     unfolding member_of member_with
     member_closed end e = rw (eq-eqb _ _ h, e)
 
@@ -185,14 +186,14 @@ module _ (L : Limits) (t : List ℕ) (at : ℕ) where
   own_none h = none_aside (rw (ne_eqb _ _ h))
 
   module _ (h : byte_at t at ≡ 34) where
-    pub own_no2 : (p : ℕ) → string_end t (at + 1) ≡ No2 p → aside_name L t curly at ≡ []
+    pub own_no2 : (p : ℕ) → string_end t (at + 1) ≡ Err (Malformed p) → aside_name L t curly at ≡ []
     own_no2 p e = none_aside (rw (eq-eqb _ _ h, e))
 
-    pub own_no3 : (p : ℕ) → string_end t (at + 1) ≡ No3 p → aside_name L t curly at ≡ []
+    pub own_no3 : (p : ℕ) → string_end t (at + 1) ≡ Err (Forbidden p) → aside_name L t curly at ≡ []
     own_no3 p e = none_aside (rw (eq-eqb _ _ h, e))
 
 module _ (t : List ℕ) (at : ℕ) (h : byte_at t at ≡ 34) where
-  pub own_closed : (end : ℕ) → string_end t (at + 1) ≡ End end → own_name t curly at ≡ at ∷ []
+  pub own_closed : (end : ℕ) → string_end t (at + 1) ≡ Ok end → own_name t curly at ≡ at ∷ []
   own_closed end e = rw (eq-eqb _ _ h, e)
 
 -- ---- a value that is accepted is one
@@ -218,7 +219,7 @@ unfolding member_of member_with colon_at
 item_one L Array t depth done at n = value_one L t 0 0 at n depth
 item_one L Object t depth done at n = one_if (eqb (byte_at t at) 34) _ _ (member (string_end t (at + 1))) tt
   where
-    member : (k : Token) → OneValue (member_with (loose L) t (value_at L t depth) done at n k)
-    member (End end) = one_if (eqb (byte_at t (skip t end)) 58) _ _ (value_one L t (at + 1) (end - 1) (skip t (skip t end + 1)) n depth) tt
-    member (No2 p) = tt
-    member (No3 p) = tt
+    member : (k : Result ℕ (Fault ℕ)) → OneValue (member_with (loose L) t (value_at L t depth) done at n k)
+    member (Ok end) = one_if (eqb (byte_at t (skip t end)) 58) _ _ (value_one L t (at + 1) (end - 1) (skip t (skip t end + 1)) n depth) tt
+    member (Err (Malformed p)) = tt
+    member (Err (Forbidden p)) = tt

@@ -1,4 +1,5 @@
 -- Values that stand at a row, the row after one, and a member found by its name among rows. Assumes nothing: these are definitions.
+use Rattle.std.specs.Prelude.{Option, Some, None}
 use Rattle.std.specs.Prelude.{ℕ, ◌+◌, ◌≡◌, cond, List, eqb}
 use Rattle.std.proofs.Math.Option.{none, some}
 use Rattle.laws.specs.Order.{same}
@@ -9,8 +10,6 @@ use Rattle.text.specs.Firsts.{HasFirst, Kinds, name_start, name_end}
 use Rattle.text.specs.Standing.{Stands, StandsTo}
 use Rattle.text.specs.Doc.{Name, Property, property, label_at, doc_of, members_of, seek}
 use Rattle.json_reader.specs.Rows.{name_start_in, name_end_in, below_in}
-use Rattle.json_reader.specs.declared.lookup.Found.{Found}
-use Rattle.json_reader.specs.declared.lookup.Found.TheVariants.{Row, Nothing}
 
 -- a value stands at the row, the first of some; a row's kind tells whether it holds others
 pub record KnownAt (table : List ℕ) (row : ℕ) (f : Forest) : Type 0 where
@@ -53,6 +52,6 @@ pub record Standing (t table : List ℕ) (end : ℕ) (n : Name) (f : Forest) (m 
   pub is : seek n (members_of t f) ≡ some (first_member t found)
 
 -- what an answer says
-abbrev pub Finds : (t table : List ℕ) (end : ℕ) (n : Name) (f : Forest) → Found → Type 0
-Finds t table end n f (Row m) = Standing t table end n f m
-Finds t table end n f Nothing = seek n (members_of t f) ≡ none
+abbrev pub Finds : (t table : List ℕ) (end : ℕ) (n : Name) (f : Forest) → Option ℕ → Type 0
+Finds t table end n f (Some m) = Standing t table end n f m
+Finds t table end n f None = seek n (members_of t f) ≡ none

@@ -1,10 +1,15 @@
 -- A string compared with a byte string as written, as far as that goes, and the order at a difference. Assumes nothing: these are definitions.
-use Rattle.std.specs.Prelude.{ℕ, ◌≤◌, ◌≡◌, List, cond, length, drop, ltb, eqb}
+use Rattle.std.specs.declared.cmp.Ordering.{Ordering}
+use Rattle.std.specs.declared.cmp.Ordering.TheVariants.{Less, Equal, Greater}
+use Rattle.std.specs.Prelude.{ℕ, ◌≤◌, ◌<◌, ◌≡◌, List, cond, length, drop, ltb, eqb}
 use Rattle.laws.specs.Order.{same}
-use Rattle.laws.specs.declared.Order.{Order}
-use Rattle.laws.specs.declared.Order.TheVariants.{Less, Same, More}
 use Rattle.text.specs.Text.{byte_at}
 use Rattle.text.specs.Strings.{decode_from, decode}
+
+-- a byte that means nothing but itself in a string: no backslash
+pub record Raw (b : ℕ) : Type 0 where
+  pub byte : b < 256
+  pub no_escape : b ≡ 92 → ⊥
 
 -- What two strings have in common up to a place decides nothing: the first, decoded from there on, compares with the second as it is from there on as from
 -- their start.
@@ -18,5 +23,5 @@ pub record Alike (a b : List ℕ) (i : ℕ) : Type 0 where
   pub stops : byte_at a i ≡ byte_at b i → (byte_at a i ≡ 92 → ⊥) → byte_at a i ≡ 256
 
 -- the order by two bytes, 256 where a string is over, that differ unless both are over
-unfoldable pub order_at : (p q : ℕ) → Order
-order_at p q = cond (eqb p q) Same (cond (eqb p 256) Less (cond (eqb q 256) More (cond (ltb p q) Less More)))
+unfoldable pub order_at : (p q : ℕ) → Ordering
+order_at p q = cond (eqb p q) Equal (cond (eqb p 256) Less (cond (eqb q 256) Greater (cond (ltb p q) Less Greater)))

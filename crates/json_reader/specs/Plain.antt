@@ -1,9 +1,9 @@
 -- Bytes of a string that stand for themselves, several at a time, and runs of whole characters. Assumes nothing: these are definitions.
+use Rattle.std.specs.Prelude.{Some, Ok}
 use Rattle.std.specs.Prelude.{ℕ, zero, suc, ◌+◌, ◌-◌, ◌*◌, ◌/◌, ◌%◌, ◌≤◌, ◌<◌, ◌≡◌, Bool, true, false, List, length, get_or}
 use Rattle.text.specs.Text.{byte_at}
 use Rattle.text.specs.Chars.{step_at, Chars}
 use Rattle.text.specs.Strings.{string_end}
-use Rattle.text.specs.declared.Step.TheVariants.{Char}
 use Rattle.json_reader.specs.declared.strings.Stop.{Stop}
 use Rattle.json_reader.specs.declared.strings.Stepped.{Stepped}
 use Rattle.json_reader.specs.declared.strings.Stepped.TheVariants.{On, Done}
@@ -25,11 +25,6 @@ pub record Own (b : ℕ) : Type 0 where
   pub plain : Plain b
   pub no_part : b ≡ 47 → ⊥
   pub no_tilde : b ≡ 126 → ⊥
-
--- plain bytes, or only those that stand for themselves in a part too
-abbrev pub Class : (own : Bool) → ℕ → Type 0
-Class true b = Own b
-Class false b = Plain b
 
 -- what a test says of a statement: that it holds, or that it doesn't
 pub record Told (A : Type 0) (r : Bool) : Type 0 where
@@ -68,7 +63,7 @@ pub record AlikeRun (P : ℕ → Type 0) (s : List ℕ) (a : ℕ) (t : List ℕ)
 -- whole characters stand from a place inside a string up to another, and no further one
 pub record CharsEnd (t : List ℕ) (from to : ℕ) : Type 0 where
   pub chars : Chars t from to
-  pub ends : (code len : ℕ) → step_at t to ≡ Char code len → ⊥
+  pub ends : (code len : ℕ) → step_at t to ≡ Ok (Some (code, len)) → ⊥
 
 -- how far the whole characters from a place on stand, and how the string ends from there on
 pub record Stops (t : List ℕ) (from : ℕ) (s : Stop) : Type 0 where

@@ -1,4 +1,5 @@
 -- What the readers of a text's parts ask, and what they answer. Assumes nothing: these are definitions.
+use Rattle.std.specs.Prelude.{Result, Ok, Err}
 use Rattle.std.specs.Prelude.{ℕ, ◌+◌, ◌-◌, ◌*◌, ◌≤◌, ◌<◌, ◌≡◌, List, [], ◌∷◌, ◌⊎◌, Bool, true, cond, eqb, ltb, length, get_or}
 use Rattle.std.proofs.lemmas.List.Edits.{sets}
 use Rattle.std.proofs.Math.Seq.{slice}
@@ -17,8 +18,6 @@ use Rattle.json_reader.specs.declared.containers.Container.{Container}
 use Rattle.json_reader.specs.declared.containers.Container.TheVariants.{Array, Object}
 use Rattle.json_reader.specs.declared.members.ItemStart.{ItemStart}
 use Rattle.json_reader.specs.declared.members.ItemStart.TheVariants.{At, Wrong}
-use Rattle.json_reader.specs.declared.values.Progress.{Progress}
-use Rattle.json_reader.specs.declared.values.Progress.TheVariants.{Next, Stop}
 use Rattle.json_reader.specs.declared.values.Gathered.{Gathered}
 
 -- ---- the store of names ----
@@ -57,6 +56,13 @@ pub record StoreAsks (t names : List ℕ) : Type 0 where
 -- and that the text is within the limit of bytes
 abbrev pub TextAsks : (t names : List ℕ) → Type 0
 TextAsks t names = StoreAsks t names × (length t ≤ base.bytes)
+
+-- what is asked of a text that is read with a store made for it: its words are enough for the text, some, and no more than it may have values
+pub record NamesAsk (t : List ℕ) (words : ℕ) : Type 0 where
+  pub short : length t ≤ base.bytes
+  pub enough : Enough (length t) words
+  pub some : 0 < words
+  pub most : words ≤ base.values
 
 -- ---- what is asked of the readers ----
 
@@ -112,28 +118,28 @@ pub record Gone (parent : ℕ) (R : Read) (t : List ℕ) (at n : ℕ) (old new :
   pub few : after ≤ base.values
 
 -- a reader's answer says what R is; on a refusal the table may hold anything
-abbrev pub Took : (parent : ℕ) → Read → (t : List ℕ) (at n : ℕ) (old new : List ℕ) → Progress → Type 0
-Took parent R t at n old new (Next to after) = Gone parent R t at n old new to after
-Took parent R t at n old new (Stop r) = R ≡ bad r
+abbrev pub Took : (parent : ℕ) → Read → (t : List ℕ) (at n : ℕ) (old new : List ℕ) → Result (ℕ × ℕ) Refusal → Type 0
+Took parent R t at n old new (Ok (to, after)) = Gone parent R t at n old new to after
+Took parent R t at n old new (Err r) = R ≡ bad r
 
 -- the same of the reader of one value that was lent the store, of which it leaves the first `top` names as they were
-abbrev pub TookIn : Read → (t : List ℕ) (at n : ℕ) (old new : List ℕ) (top : ℕ) (names names' : List ℕ) → Progress → Type 0
+abbrev pub TookIn : Read → (t : List ℕ) (at n : ℕ) (old new : List ℕ) (top : ℕ) (names names' : List ℕ) → Result (ℕ × ℕ) Refusal → Type 0
 TookIn R t at n old new top names names' r = Took 0 R t at n old new r × KeptBelow top names names'
 
 -- what closing a container asks of what was read inside it, as rows after row n
-abbrev pub Closable : (n : ℕ) → Progress → Type 0
-Closable n (Next to after) = (n < after) × (Word after × Word to)
-Closable n (Stop r) = Prim.Unit {0}
+abbrev pub Closable : (n : ℕ) → Result (ℕ × ℕ) Refusal → Type 0
+Closable n (Ok (to, after)) = (n < after) × (Word after × Word to)
+Closable n (Err r) = Prim.Unit {0}
 
 -- the same, and that the container's own row fits
-abbrev pub CloseAsks : (kind ns ne at n : ℕ) → Progress → Type 0
+abbrev pub CloseAsks : (kind ns ne at n : ℕ) → Result (ℕ × ℕ) Refusal → Type 0
 CloseAsks kind ns ne at n inside = Closable n inside × Row n kind ns ne at 0 0
 
 -- and what it does: it stores the container's row
-abbrev pub Closes : (kind ns ne at n : ℕ) → Progress → (old new : List ℕ) → Progress → Type 0
-Closes kind ns ne at n (Next to after) old new r =
-    (r ≡ Next to after) × (new ≡ sets old (n * row_words) (row_of kind ns ne at to (after - n - 1) 0 0))
-Closes kind ns ne at n (Stop x) old new r = r ≡ Stop x
+abbrev pub Closes : (kind ns ne at n : ℕ) → Result (ℕ × ℕ) Refusal → (old new : List ℕ) → Result (ℕ × ℕ) Refusal → Type 0
+Closes kind ns ne at n (Ok (to, after)) old new r =
+    (r ≡ Ok (to, after)) × (new ≡ sets old (n * row_words) (row_of kind ns ne at to (after - n - 1) 0 0))
+Closes kind ns ne at n (Err x) old new r = r ≡ Err x
 
 -- ---- numbers
 
@@ -169,9 +175,9 @@ abbrev pub names_at : Limits → Container → List ℕ → (depth at n : ℕ) �
 names_at L of t depth = names_aside L t (value_at L t depth) (bracket_of of)
 
 -- what was read, given the earliest name that repeats one: `settle` of the reading, said of the answer
-abbrev pub settled : Earliest → Progress → Progress
+abbrev pub settled : Earliest → Result (ℕ × ℕ) Refusal → Result (ℕ × ℕ) Refusal
 settled nowhere read = read
-settled (found p) read = Stop (Repeated p)
+settled (found p) read = Err (Repeated p)
 
 -- what is asked where the names from `top` up to `end` are looked through: they stand in the order of the text, and the text and the store are as the
 -- readers were lent them
@@ -182,7 +188,7 @@ pub record SettleAsks (t names : List ℕ) (top end : ℕ) : Type 0 where
   pub most : length names ≤ base.values
 
 -- the answer then; the names below `top` stay
-pub record Settles (t : List ℕ) (top : ℕ) (items : Gathered) (names names' : List ℕ) (r : Progress) : Type 0 where
+pub record Settles (t : List ℕ) (top : ℕ) (items : Gathered) (names names' : List ℕ) (r : Result (ℕ × ℕ) Refusal) : Type 0 where
   pub is : r ≡ settled (first_repeat (tail_at t 1) (slice top items.end names)) items.read
   pub under : KeptBelow top names names'
 
@@ -242,9 +248,9 @@ Coloned t start to end (At ns ne from last) = Past t start to end ns ne from las
 Coloned t start to end (Wrong r last) = (last ≡ end) × ((value : Reader) (at n : ℕ) → colon_at t value at to n ≡ bad r)
 
 -- each name has its own value and four bytes, also behind an item
-abbrev pub Further : (end : ℕ) → Progress → Type 0
-Further end (Next to after) = (end < after) × (4 * end < to)
-Further end (Stop r) = Prim.Unit {0}
+abbrev pub Further : (end : ℕ) → Result (ℕ × ℕ) Refusal → Type 0
+Further end (Ok (to, after)) = (end < after) × (4 * end < to)
+Further end (Err r) = Prim.Unit {0}
 
 -- the answer on one item, and the name that it put aside
 pub record ItemTook (of : Container) (t : List ℕ) (depth end at n : ℕ) (old new names names' : List ℕ) (r : Gathered) : Type 0 where

@@ -3,11 +3,6 @@
 use Rattle.std.specs.Prelude.{ℕ, ◌≤◌, ◌<◌, List, length}
 use Rattle.laws.specs.Earliest.{Climbs}
 use Rattle.text.specs.Limits.{base}
-use Rattle.json_reader.specs.Rows.{Word}
-
--- three numbers that fit a word, so that no sum of two wraps
-abbrev pub Words : (behind p q : ℕ) → Type 0
-Words behind p q = Word behind × Word p × Word q
 
 -- two places behind quotes, and a number of bytes, that are words or one more
 abbrev pub AgreeAsks : (a b most : ℕ) → Type 0
@@ -18,10 +13,6 @@ pub record SomeAsks (t names : List ℕ) : Type 0 where
   pub short : length t < 4294967295
   pub climbs : Climbs names
   pub some : 0 < length names
-
--- names that are compared from behind so many bytes, as many as a text may have values or fewer
-abbrev pub ScratchAsks : (behind : ℕ) (names : List ℕ) → Type 0
-ScratchAsks behind names = Word behind × (length names ≤ base.values)
 
 -- names in the order of such a text, as many as it may have values or fewer
 pub record RepeatAsks (t names : List ℕ) : Type 0 where

@@ -3,15 +3,15 @@ ghost use Rattle.std.specs.Prelude.{◌≡◌, ◌≤◌};
 ghost use Rattle.text.specs.Text.{byte_at};
 
 // Bytes that reading tests for, as wide as what `peek` gives.
-pub(crate) const QUOTE: u16 = b'"' as u16;
+pub const QUOTE: u16 = b'"' as u16;
 
 pub const BACKSLASH: u16 = b'\\' as u16;
 
-pub(crate) const COLON: u16 = b':' as u16;
+pub const COLON: u16 = b':' as u16;
 
-pub(crate) const COMMA: u16 = b',' as u16;
+pub const COMMA: u16 = b',' as u16;
 
-pub(crate) const SPACE: u16 = b' ' as u16;
+pub const SPACE: u16 = b' ' as u16;
 
 pub(crate) const TAB: u16 = b'\t' as u16;
 
@@ -19,15 +19,15 @@ pub(crate) const LINE_FEED: u16 = b'\n' as u16;
 
 pub(crate) const RETURN: u16 = b'\r' as u16;
 
-pub(crate) const MINUS: u16 = b'-' as u16;
+pub const MINUS: u16 = b'-' as u16;
 
-pub(crate) const PLUS: u16 = b'+' as u16;
+pub const PLUS: u16 = b'+' as u16;
 
-pub(crate) const POINT: u16 = b'.' as u16;
+pub const POINT: u16 = b'.' as u16;
 
 pub const ZERO: u16 = b'0' as u16;
 
-pub(crate) const NINE: u16 = b'9' as u16;
+pub const NINE: u16 = b'9' as u16;
 
 pub const SLASH: u16 = b'/' as u16;
 
@@ -45,25 +45,25 @@ pub const SMALL_E: u16 = b'e' as u16;
 
 pub const LARGE_E: u16 = b'E' as u16;
 
-pub(crate) const SMALL_F: u16 = b'f' as u16;
+pub const SMALL_F: u16 = b'f' as u16;
 
-pub(crate) const SMALL_N: u16 = b'n' as u16;
+pub const SMALL_N: u16 = b'n' as u16;
 
 pub(crate) const SMALL_O: u16 = b'o' as u16;
 
 pub(crate) const SMALL_R: u16 = b'r' as u16;
 
-pub(crate) const SMALL_T: u16 = b't' as u16;
+pub const SMALL_T: u16 = b't' as u16;
 
-pub(crate) const SMALL_U: u16 = b'u' as u16;
+pub const SMALL_U: u16 = b'u' as u16;
 
-pub(crate) const OPEN_ARRAY: u16 = b'[' as u16;
+pub const OPEN_ARRAY: u16 = b'[' as u16;
 
-pub(crate) const CLOSE_ARRAY: u16 = b']' as u16;
+pub const CLOSE_ARRAY: u16 = b']' as u16;
 
-pub(crate) const OPEN_OBJECT: u16 = b'{' as u16;
+pub const OPEN_OBJECT: u16 = b'{' as u16;
 
-pub(crate) const CLOSE_OBJECT: u16 = b'}' as u16;
+pub const CLOSE_OBJECT: u16 = b'}' as u16;
 
 // What is behind the digits, and what `A` and `a` would be if they stood for 0: the first digit above 9 is ten.
 pub(crate) const BEHIND_NINE: u16 = NINE + 1;

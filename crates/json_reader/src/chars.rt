@@ -1,5 +1,5 @@
 // What stands at a place inside a string (docs/RULES.md, 3.4): one step, used by reading; decoding uses its escapes.
-ghost use Rattle.std.specs.Prelude.{◌≡◌, ◌+◌, ◌<◌, ◌≤◌, length};
+ghost use Rattle.std.specs.Prelude.{◌≡◌, ◌+◌, ◌<◌, ◌≤◌, length, cond, eqb, Ok, Err};
 ghost use Rattle.text.specs.Text.{byte_at};
 ghost use Rattle.text.specs.Chars.{digit_of, digit_at, hex4_at, letter_of, tail_at, raw_at, pair_at, unit_at, escape_at, step_at};
 
@@ -8,7 +8,7 @@ use crate::bytes::{
     SMALL_N, SMALL_O, SMALL_R, SMALL_T, SMALL_TEN, SMALL_U, SPACE, ZERO, peek,
 };
 use code_points::{checked, code2, code3, code4, tail};
-use text::{Hex, Step};
+use text::Fault;
 
 // The code points that short escapes stand for.
 const QUOTE_CODE: u32 = b'"' as u32;
@@ -39,35 +39,26 @@ pub fn digit(b: u16) -> u32
     }
 }
 
-// The digit at a place, or 16.
-fn hex_at(text: &[u8], at: usize) -> u32
-    ensures { result ≡ digit_at text.now at }
+// The digit at a place, or that place where none stands.
+fn hex_at(text: &[u8], at: usize) -> Result<u32, usize>
+    ensures { result ≡ cond (eqb (digit_at text.now at) 16) (Err at) (Ok (digit_at text.now at)) }
 {
-    digit(peek(text, at))
+    match digit(peek(text, at)) {
+        16 => Err(at),
+        d => Ok(d),
+    }
 }
 
 // The four digits from a place on, as a number, or the place of the first that is none.
-fn hex4(text: &[u8], at: usize) -> Hex
+fn hex4(text: &[u8], at: usize) -> Result<u32, usize>
     requires { at ≤ length text.now + 8 }
     ensures { result ≡ hex4_at text.now at }
 {
-    let a = hex_at(text, at);
-    if a == 16 {
-        return Hex::Bad(at);
-    }
-    let b = hex_at(text, at + 1);
-    if b == 16 {
-        return Hex::Bad(at + 1);
-    }
-    let c = hex_at(text, at + 2);
-    if c == 16 {
-        return Hex::Bad(at + 2);
-    }
-    let d = hex_at(text, at + 3);
-    if d == 16 {
-        return Hex::Bad(at + 3);
-    }
-    Hex::Unit(a % 16 * 4096 + b % 16 * 256 + c % 16 * 16 + d % 16)
+    let a = hex_at(text, at)?;
+    let b = hex_at(text, at + 1)?;
+    let c = hex_at(text, at + 2)?;
+    let d = hex_at(text, at + 3)?;
+    Ok(a % 16 * 4096 + b % 16 * 256 + c % 16 * 16 + d % 16)
 }
 
 // What the letter of a short escape stands for, or 0. No `match`: that becomes a jump through a table, which costs more than these tests.
@@ -115,12 +106,12 @@ fn tail_at(text: &[u8], at: usize) -> u32
 }
 
 // A raw character of several bytes, with the first byte b.
-fn raw(text: &[u8], at: usize, b: u16) -> Step
+fn raw(text: &[u8], at: usize, b: u16) -> Result<Option<(u32, usize)>, Fault<usize>>
     requires { at < length text.now }
     ensures { result ≡ raw_at text.now at b }
 {
     if b < 0xC0 {
-        return Step::Bad3(at);
+        return Err(Fault::Forbidden(at));
     }
     let x = tail_at(text, at + 1);
     if b < 0xE0 {
@@ -134,45 +125,45 @@ fn raw(text: &[u8], at: usize, b: u16) -> Step
     if b < 0xF8 {
         return checked(at, code4(b, x, y, z), 4);
     }
-    Step::Bad3(at)
+    Err(Fault::Forbidden(at))
 }
 
 // The raw character of several bytes at a place; 3 where none stands, past the end too.
-pub fn raw_at(text: &[u8], at: usize) -> Step
+pub fn raw_at(text: &[u8], at: usize) -> Result<Option<(u32, usize)>, Fault<usize>>
     ensures { result ≡ raw_at text.now at (byte_at text.now at) }
 {
     let b = peek(text, at);
     if b == OVER {
-        return Step::Bad3(at);
+        return Err(Fault::Forbidden(at));
     }
     raw(text, at, b)
 }
 
 // The escape at `at` of a high surrogate: a low one has to follow at once.
-fn pair(text: &[u8], at: usize, high: u32) -> Step
+fn pair(text: &[u8], at: usize, high: u32) -> Result<Option<(u32, usize)>, Fault<usize>>
     requires { at < length text.now }
     ensures { result ≡ pair_at text.now at high }
 {
     if peek(text, at + 6) != BACKSLASH {
-        return Step::Bad3(at);
+        return Err(Fault::Forbidden(at));
     }
     if peek(text, at + 7) != SMALL_U {
-        return Step::Bad3(at);
+        return Err(Fault::Forbidden(at));
     }
-    let Hex::Unit(low) = hex4(text, at + 8) else {
-        return Step::Bad3(at);
+    let Ok(low) = hex4(text, at + 8) else {
+        return Err(Fault::Forbidden(at));
     };
     if low < 0xDC00 {
-        return Step::Bad3(at);
+        return Err(Fault::Forbidden(at));
     }
     if low < 0xE000 {
         return checked(at, 65536 + high % 1024 * 1024 + low % 1024, 12);
     }
-    Step::Bad3(at)
+    Err(Fault::Forbidden(at))
 }
 
 // The escape at `at` with the value u.
-fn unit(text: &[u8], at: usize, u: u32) -> Step
+fn unit(text: &[u8], at: usize, u: u32) -> Result<Option<(u32, usize)>, Fault<usize>>
     requires { at < length text.now }
     ensures { result ≡ unit_at text.now at u }
 {
@@ -186,43 +177,43 @@ fn unit(text: &[u8], at: usize, u: u32) -> Step
 }
 
 // The escape whose backslash stands at `at`.
-pub(crate) fn escape(text: &[u8], at: usize) -> Step
+pub(crate) fn escape(text: &[u8], at: usize) -> Result<Option<(u32, usize)>, Fault<usize>>
     requires { at < length text.now }
     ensures { result ≡ escape_at text.now at }
 {
     let b = peek(text, at + 1);
     if b == SMALL_U {
         return match hex4(text, at + 2) {
-            Hex::Unit(u) => unit(text, at, u),
-            Hex::Bad(p) => Step::Bad2(p),
+            Ok(u) => unit(text, at, u),
+            Err(p) => Err(Fault::Malformed(p)),
         };
     }
     let code = letter(b);
     if code == 0 {
-        return Step::Bad2(at + 1);
+        return Err(Fault::Malformed(at + 1));
     }
-    Step::Char(code, 2)
+    Ok(Some((code, 2)))
 }
 
 // What stands at a place inside a string, after the opening quote.
-pub(crate) fn step_at(text: &[u8], at: usize) -> Step
+pub(crate) fn step_at(text: &[u8], at: usize) -> Result<Option<(u32, usize)>, Fault<usize>>
     ensures { result ≡ step_at text.now at }
 {
     let b = peek(text, at);
     if b == QUOTE {
-        return Step::Close;
+        return Ok(None);
     }
     if b == BACKSLASH {
         return escape(text, at);
     }
     if b < SPACE {
-        return Step::Bad2(at);
+        return Err(Fault::Malformed(at));
     }
     if b < 0x80 {
-        return Step::Char(b as u32, 1);
+        return Ok(Some((b as u32, 1)));
     }
     if b < OVER {
         return raw(text, at, b);
     }
-    Step::Bad2(at)
+    Err(Fault::Malformed(at))
 }

@@ -10,21 +10,11 @@ ghost use Rattle.json_reader.specs.Lookup.{row_after, Finds};
 use crate::names::name_is;
 use crate::rows::{below, name_end, name_start};
 
-// The largest number of a row: no table has so many.
-const LAST: usize = 18446744073709551615;
-
-// Where a member was found, if there is one.
-#[derive(Clone, Copy)]
-pub enum Found {
-    Row(usize),
-    Nothing,
-}
-
-// The row after a value and all that is below it.
+// The row after a value and all that is below it. The largest number is that of no row.
 pub fn next_row(table: &[u32], at: usize) -> usize
     ensures { result ≡ row_after table.now at }
 {
-    if at == LAST {
+    if at == usize::MAX {
         return at;
     }
     at + 1 + below(table, at)
@@ -38,15 +28,15 @@ fn is_named(text: &[u8], table: &[u32], at: usize, name: &[u8]) -> bool
 }
 
 // The row of the first value among those of the rows from .. end that has the name. The name is given decoded: a backslash in it is one.
-pub fn find(text: &[u8], table: &[u32], from: usize, end: usize, name: &[u8]) -> Found
+pub fn find(text: &[u8], table: &[u32], from: usize, end: usize, name: &[u8]) -> Option<usize>
     ensures { (f : Forest) → StandsTo table.now from end f → Finds text.now table.now end name.now f result }
 {
     let mut at = from;
     while at < end {
         if is_named(text, table, at, name) {
-            return Found::Row(at);
+            return Some(at);
         }
         at = next_row(table, at);
     }
-    Found::Nothing
+    None
 }

@@ -4,69 +4,50 @@ ghost use Rattle.std.specs.Prelude.{◌≡◌, ◌≤◌, length, drop};
 ghost use Rattle.laws.specs.Lists.{part_of};
 ghost use Rattle.laws.specs.Order.{is_same, is_less, same};
 ghost use Rattle.text.specs.Strings.{decode_from, decode, name_of};
-ghost use Rattle.json_reader.specs.Names.{Alike, order_at};
+ghost use Rattle.json_reader.specs.Names.{Raw, order_at};
 
 use crate::bytes::{BACKSLASH, OVER, peek};
-use crate::decode::{Next, cursor_at, next_byte};
-use laws::Order;
+use crate::decode::{Decoded, cursor_at};
+use crate::plain::{Class, alike_from};
+use std::cmp::Ordering;
 
-// How many bytes two byte strings have in common from their start, up to a backslash.
-fn alike(a: &[u8], b: &[u8]) -> usize
-    ensures { Alike a.now b.now result }
-{
-    let mut i: usize = 0;
-    loop {
-        let p = peek(a, i);
-        if p == BACKSLASH {
-            return i;
-        }
-        if p == OVER {
-            return i;
-        }
-        let q = peek(b, i);
-        if p != q {
-            return i;
-        }
-        i += 1;
+// Bytes of a string that mean nothing but themselves: all but a backslash.
+pub struct RawByte;
+
+impl Class for RawByte {
+    ghost holds = { Raw };
+
+    ghost within = { λ b raw. raw.byte };
+
+    fn has(b: u16) -> bool {
+        b < OVER && b != BACKSLASH
     }
 }
 
 // The order by the bytes at the first difference, 256 where a string is over.
-pub fn order_at(p: u16, q: u16) -> Order
+pub fn order_at(p: u16, q: u16) -> Ordering
     ensures { result ≡ order_at p q }
 {
-    if p == q {
-        return Order::Same;
+    match (p, q) {
+        (OVER, OVER) => Ordering::Equal,
+        (OVER, _) => Ordering::Less,
+        (_, OVER) => Ordering::Greater,
+        _ => p.cmp(&q),
     }
-    if p == OVER {
-        return Order::Less;
-    }
-    if q == OVER {
-        return Order::More;
-    }
-    if p < q { Order::Less } else { Order::More }
 }
 
 // Is the order that of two that are the same?
-pub fn is_same(o: Order) -> bool
+pub fn is_same(o: Ordering) -> bool
     ensures { result ≡ is_same o }
 {
-    match o {
-        Order::Same => true,
-        Order::Less => false,
-        Order::More => false,
-    }
+    o.is_eq()
 }
 
 // Is it that of one that comes before the other?
-pub(crate) fn is_less(o: Order) -> bool
+pub(crate) fn is_less(o: Ordering) -> bool
     ensures { result ≡ is_less o }
 {
-    match o {
-        Order::Less => true,
-        Order::Same => false,
-        Order::More => false,
-    }
+    o.is_lt()
 }
 
 // Do a string's inner bytes, decoded from a place on, go on as the literal does from there?
@@ -74,47 +55,30 @@ fn goes_on(a: &[u8], lit: &[u8], from: usize) -> bool
     requires { from ≤ length lit.now }
     ensures { result ≡ same (decode_from a.now from) (drop from lit.now) }
 {
-    let mut x = cursor_at(from);
-    let mut i = from;
-    loop {
-        let want = peek(lit, i);
-        match next_byte(a, x) {
-            Next::Over => {
-                return want == OVER;
-            }
-            Next::Byte(p, x2) => {
-                if p as u16 != want {
-                    return false;
-                }
-                x = x2;
-                i = i + 1;
-            }
-        }
-    }
+    let left = Decoded {
+        name: a,
+        at: cursor_at(from),
+    };
+    left.cmp(lit[from..].iter().copied()).is_eq()
 }
 
 // Do a string's inner bytes decode to the literal?
 pub fn slice_is(a: &[u8], lit: &[u8]) -> bool
     ensures { result ≡ same (decode a.now) lit.now }
 {
-    let i = alike(a, lit);
+    let i = alike_from::<RawByte>(a, 0, lit, 0, 0);
     let p = peek(a, i);
     if p == BACKSLASH {
         return goes_on(a, lit, i);
     }
-    let want = peek(lit, i);
-    p == want
+    p == peek(lit, i)
 }
 
 // The bytes of a text from s up to e, or none where they are not inside.
 pub fn slice(text: &[u8], s: usize, e: usize) -> &[u8]
     ensures { result.now ≡ part_of text.now s e }
 {
-    if e <= text.len() {
-        if s <= e { &text[s..e] } else { &text[..0] }
-    } else {
-        &text[..0]
-    }
+    text.get(s..e).unwrap_or(&[])
 }
 
 // Is a name of a text, decoded, the literal, as b"uid"?

@@ -1,9 +1,34 @@
 // Bytes of a string that stand for themselves (docs/RULES.md, 3.4), eight at a time.
-ghost use Rattle.std.specs.Prelude.{◌≡◌, ◌+◌, ◌-◌, ◌*◌, ◌<◌, ◌≤◌, length};
+ghost use Rattle.std.specs.Prelude.{◌≡◌, ℕ, ◌+◌, ◌-◌, ◌*◌, ◌<◌, ◌≤◌, length};
 ghost use Rattle.text.specs.Chars.{Chars};
-ghost use Rattle.json_reader.specs.Plain.{packed_at, Plain, Own, Class, Told, Bytes, AlikeBytes, MarkedBytes, AlikeTo, AlikeRun};
+ghost use Rattle.json_reader.specs.Plain.{packed_at, Plain, Own, Told, Bytes, AlikeBytes, MarkedBytes, AlikeTo, AlikeRun};
+ghost use native.Mathlib.Omega.{arith};
 
 use crate::bytes::{BACKSLASH, QUOTE, SLASH, SPACE, TILDE, peek};
+
+// A class of bytes, told one at a time.
+pub trait Class {
+    ghost holds: { ℕ → Type 0 };
+
+    fn has(b: u16) -> bool
+        ensures { Told (holds b) result };
+
+    // The end of a text, which is no byte, is in none.
+    ghost within: { (b : ℕ) → holds b → b < 256 };
+}
+
+// A class that is told of eight bytes at once too.
+pub trait Marked: Class {
+    // Marks of a number's eight bytes: each that isn't in the class has its highest bit.
+    fn marks(w: u64) -> u64
+        ensures { MarkedBytes Self.holds result w };
+}
+
+// Bytes that stand for themselves.
+pub struct PlainByte;
+
+// Those that stand for themselves in a part of a pointer too.
+pub struct OwnByte;
 
 // A number with a byte put below it.
 fn above(low: u8, high: u64) -> u64
@@ -28,52 +53,61 @@ fn eight(text: &[u8], at: usize) -> u64
     above(text[at], b)
 }
 
-// Marks of a number's eight bytes: each that isn't plain has its highest bit. No sum reaches the next byte, and with its second bit turned the quote stands
-// among the controls, below 33, and nothing else does.
-fn plain_marks(w: u64) -> u64
-    ensures { MarkedBytes Plain result w }
-{
-    let low = w & 0x7F7F7F7F7F7F7F7F;
-    let shown = (low ^ 0x0202020202020202) + 0x5F5F5F5F5F5F5F5F;
-    let no_back = (low ^ 0x5C5C5C5C5C5C5C5C) + 0x7F7F7F7F7F7F7F7F;
-    let good = shown & no_back;
-    (w | (good ^ 0x8080808080808080)) & 0x8080808080808080
-}
+impl Class for PlainByte {
+    ghost holds = { Plain };
 
-// The same where a slash and a tilde are marked too.
-fn own_marks(w: u64) -> u64
-    ensures { MarkedBytes Own result w }
-{
-    let low = w & 0x7F7F7F7F7F7F7F7F;
-    let no_slash = (low ^ 0x2F2F2F2F2F2F2F2F) + 0x7F7F7F7F7F7F7F7F;
-    let no_tilde = (low ^ 0x7E7E7E7E7E7E7E7E) + 0x7F7F7F7F7F7F7F7F;
-    let good = no_slash & no_tilde;
-    let marks = (w | (good ^ 0x8080808080808080)) & 0x8080808080808080;
-    plain_marks(w) | marks
-}
+    ghost within = { λ b p. Prim.omega (arith, p.ascii) };
 
-// The marks by which a class is told.
-fn marks_of(own: bool, w: u64) -> u64
-    ensures { MarkedBytes (Class own) result w }
-{
-    if own {
-        return own_marks(w);
+    fn has(b: u16) -> bool {
+        matches!(b, SPACE..0x80) && b != QUOTE && b != BACKSLASH
     }
-    plain_marks(w)
+}
+
+impl Marked for PlainByte {
+    // No sum reaches the next byte, and with its second bit turned the quote stands among the controls, below 33, and nothing else does.
+    fn marks(w: u64) -> u64 {
+        let low = w & 0x7F7F7F7F7F7F7F7F;
+        let shown = (low ^ 0x0202020202020202) + 0x5F5F5F5F5F5F5F5F;
+        let no_back = (low ^ 0x5C5C5C5C5C5C5C5C) + 0x7F7F7F7F7F7F7F7F;
+        let good = shown & no_back;
+        (w | (good ^ 0x8080808080808080)) & 0x8080808080808080
+    }
+}
+
+impl Class for OwnByte {
+    ghost holds = { Own };
+
+    ghost within = { λ b p. Prim.omega (arith, p.plain.ascii) };
+
+    fn has(b: u16) -> bool {
+        PlainByte::has(b) && b != SLASH && b != TILDE
+    }
+}
+
+impl Marked for OwnByte {
+    // The plain marks, and those of a slash and a tilde.
+    fn marks(w: u64) -> u64 {
+        let low = w & 0x7F7F7F7F7F7F7F7F;
+        let no_slash = (low ^ 0x2F2F2F2F2F2F2F2F) + 0x7F7F7F7F7F7F7F7F;
+        let no_tilde = (low ^ 0x7E7E7E7E7E7E7E7E) + 0x7F7F7F7F7F7F7F7F;
+        let good = no_slash & no_tilde;
+        let marks = (w | (good ^ 0x8080808080808080)) & 0x8080808080808080;
+        PlainByte::marks(w) | marks
+    }
 }
 
 // So many of a number's eight bytes, from the lowest on, are plain: those below the lowest mark.
 fn plain_bytes(w: u64) -> usize
     ensures { (result ≤ 8) × Bytes Plain result w }
 {
-    (u64::trailing_zeros(plain_marks(w)) / 8) as usize
+    (u64::trailing_zeros(PlainByte::marks(w)) / 8) as usize
 }
 
 // So many of two numbers' eight bytes, from the lowest on, are in a class and the same: those up to the lowest mark or bit that differs.
-fn alike_bytes(own: bool, v: u64, w: u64) -> usize
-    ensures { (result ≤ 8) × AlikeBytes (Class own) result v w }
+fn alike_bytes<C: Marked>(v: u64, w: u64) -> usize
+    ensures { (result ≤ 8) × AlikeBytes C.holds result v w }
 {
-    let ends = marks_of(own, v) | (v ^ w);
+    let ends = C::marks(v) | (v ^ w);
     (u64::trailing_zeros(ends) / 8) as usize
 }
 
@@ -104,29 +138,20 @@ pub(crate) fn plain_end(text: &[u8], from: usize) -> usize
 fn left_from(text: &[u8], at: usize) -> usize
     ensures { result ≡ length text.now - at }
 {
-    let n = text.len();
-    if n < at {
-        return 0;
-    }
-    n - at
+    text.len().saturating_sub(at)
 }
 
 // So many bytes stand from both of two places on: the fewer of the two.
 fn room(text: &[u8], a: usize, other: &[u8], b: usize) -> usize
     ensures { (result ≤ length text.now - a) × (result ≤ length other.now - b) }
 {
-    let first = left_from(text, a);
-    let second = left_from(other, b);
-    if first < second {
-        return first;
-    }
-    second
+    left_from(text, a).min(left_from(other, b))
 }
 
 // So many bytes stand alike from two places on and are in a class, told eight at a time: up to the first that isn't so, or fewer than eight bytes before the
 // end of a text. A turn adds eight, whatever it finds, so that none waits for the one before.
-pub(crate) fn alike_eights(own: bool, text: &[u8], a: usize, other: &[u8], b: usize) -> usize
-    ensures { AlikeTo (Class own) text.now a other.now b result }
+pub(crate) fn alike_eights<C: Marked>(text: &[u8], a: usize, other: &[u8], b: usize) -> usize
+    ensures { AlikeTo C.holds text.now a other.now b result }
 {
     let most = room(text, a, other, b);
     if most < 8 {
@@ -135,7 +160,7 @@ pub(crate) fn alike_eights(own: bool, text: &[u8], a: usize, other: &[u8], b: us
     let last = most - 8;
     let mut k: usize = 0;
     while k <= last {
-        let run = alike_bytes(own, eight(text, a + k), eight(other, b + k));
+        let run = alike_bytes::<C>(eight(text, a + k), eight(other, b + k));
         if run < 8 {
             let to = k + run;
             return to;
@@ -145,69 +170,48 @@ pub(crate) fn alike_eights(own: bool, text: &[u8], a: usize, other: &[u8], b: us
     k
 }
 
-// Is a byte in a class?
-fn stands(own: bool, b: u16) -> bool
-    ensures { Told (Class own b) result }
-{
-    if b < SPACE {
-        return false;
-    }
-    if 0x7F < b {
-        return false;
-    }
-    if b == QUOTE {
-        return false;
-    }
-    if b == BACKSLASH {
-        return false;
-    }
-    if !own {
-        return true;
-    }
-    if b == SLASH {
-        return false;
-    }
-    if b == TILDE {
-        return false;
-    }
-    true
-}
-
 // Does a byte stand for itself, in a part of a pointer too?
 pub fn is_own_byte(b: u16) -> bool
     ensures { Told (Own b) result }
 {
-    stands(true, b)
+    OwnByte::has(b)
 }
 
-// How many bytes stand alike from two places on and are in a class, up to the first that isn't so: where the eights stop a difference is found at once.
-fn alike_run(own: bool, text: &[u8], a: usize, other: &[u8], b: usize) -> usize
-    ensures { AlikeRun (Class own) text.now a other.now b result }
+// How many bytes stand alike from two places on and are in a class, up to the first that isn't so, if the first `known` of them are.
+pub fn alike_from<C: Class>(text: &[u8], a: usize, other: &[u8], b: usize, known: usize) -> usize
+    requires { AlikeTo C.holds text.now a other.now b known }
+    ensures { AlikeRun C.holds text.now a other.now b result }
 {
-    let mut k = alike_eights(own, text, a, other, b);
+    let mut k = known;
     loop {
         let p = peek(text, a + k);
-        let q = peek(other, b + k);
-        if p != q {
+        if p != peek(other, b + k) {
             return k;
         }
-        if !stands(own, p) {
+        if !C::has(p) {
             return k;
         }
         k += 1;
     }
 }
 
+// The same, told eight at a time: where the eights stop a difference is found at once.
+fn alike_run<C: Marked>(text: &[u8], a: usize, other: &[u8], b: usize) -> usize
+    ensures { AlikeRun C.holds text.now a other.now b result }
+{
+    alike_from::<C>(text, a, other, b, alike_eights::<C>(text, a, other, b))
+}
+
 // How many plain bytes stand alike from two places on.
 pub fn alike_plain_from(text: &[u8], a: usize, other: &[u8], b: usize) -> usize
     ensures { AlikeRun Plain text.now a other.now b result }
 {
-    alike_run(false, text, a, other, b)
+    alike_run::<PlainByte>(text, a, other, b)
 }
 
 // How many bytes stand alike that are plain and neither slashes nor tildes.
 pub fn alike_own_from(text: &[u8], a: usize, other: &[u8], b: usize) -> usize
     ensures { AlikeRun Own text.now a other.now b result }
 {
-    alike_run(true, text, a, other, b)
+    alike_run::<OwnByte>(text, a, other, b)
 }

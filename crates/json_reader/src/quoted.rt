@@ -1,85 +1,66 @@
 // Names told by the places of their quotes (docs/RULES.md, 3.5): compared decoded, each from a place inside it up to its closing quote. No end is looked for
 // first and a comparison stops at the first difference, so it costs no more than the shorter name.
-ghost use Rattle.std.specs.Prelude.{◌≡◌};
+ghost use Rattle.std.specs.Prelude.{◌≡◌, ◌+◌};
+ghost use Rattle.std.specs.Iterator.{YieldsFirst, item_count};
 ghost use Rattle.laws.specs.Order.{order_of};
-ghost use Rattle.repeats.specs.Quoted.{quoted_from};
-ghost use Rattle.json_reader.specs.Quoted.{rest_to, unread_to, ended, AlikeFrom};
+ghost use Rattle.repeats.specs.Quoted.{quoted_from, tail_at};
+ghost use Rattle.json_reader.specs.Quoted.{rest_to, ended, Written};
 
 use crate::bytes::{BACKSLASH, OVER, QUOTE, peek};
-use crate::decode::{Cursor, Next, cursor_at, next_byte};
+use crate::decode::{Cursor, cursor_at, next_byte};
 use crate::names::order_at;
-use crate::plain::alike_eights;
-use laws::Order;
+use crate::plain::{Class, PlainByte, alike_eights, alike_from};
+use laws::labels::Labels;
+use std::cmp::Ordering;
 
-// The next decoded byte of a string in a text, or nothing at its closing quote.
-fn next_in(text: &[u8], c: Cursor) -> Next
-    ensures { unread_to text.now result ≡ rest_to text.now c }
-{
-    let at = c.at;
-    let left = c.left;
-    if left != 0 {
-        return next_byte(text, c);
+// What is left at a cursor of a name in a text, decoded, up to its closing quote.
+#[derive(Drop)]
+struct Quoted<'a> {
+    text: &'a [u8],
+    at: Cursor,
+}
+
+impl<'a> Iterator for Quoted<'a> {
+    type Item = u8;
+
+    ghost next_gives = { YieldsFirst (λ s. rest_to s.text.now s.at) };
+
+    ghost remaining = { item_count (λ s. rest_to s.text.now s.at) };
+
+    fn next(&mut self) -> Option<u8> {
+        if self.at.left == 0 && peek(self.text, self.at.at) == QUOTE {
+            return None;
+        }
+        let (b, on) = next_byte(self.text, self.at)?;
+        self.at = on;
+        Some(b)
     }
-    if peek(text, at) == QUOTE {
-        return Next::Over;
-    }
-    next_byte(text, c)
 }
 
 // The order of two names' decoded bytes, from two places on.
-fn order_decoded(text: &[u8], a: usize, b: usize) -> Order
+fn order_decoded(text: &[u8], a: usize, b: usize) -> Ordering
     ensures { result ≡ order_of (quoted_from text.now a) (quoted_from text.now b) }
 {
-    let mut x = cursor_at(a);
-    let mut y = cursor_at(b);
-    loop {
-        match next_in(text, x) {
-            Next::Over => {
-                return match next_in(text, y) {
-                    Next::Over => Order::Same,
-                    Next::Byte(_, _) => Order::Less,
-                };
-            }
-            Next::Byte(p, x2) => match next_in(text, y) {
-                Next::Over => {
-                    return Order::More;
-                }
-                Next::Byte(q, y2) => {
-                    if p < q {
-                        return Order::Less;
-                    }
-                    if q < p {
-                        return Order::More;
-                    }
-                    x = x2;
-                    y = y2;
-                }
-            },
-        }
-    }
+    let first = Quoted {
+        text,
+        at: cursor_at(a),
+    };
+    first.cmp(Quoted {
+        text,
+        at: cursor_at(b),
+    })
 }
 
-// How many bytes stand alike from two places on, as written, none of them a quote, a backslash or the end.
-fn alike_from(text: &[u8], a: usize, b: usize) -> usize
-    ensures { AlikeFrom text.now a b result }
-{
-    let mut k: usize = 0;
-    loop {
-        let p = peek(text, a + k);
-        if p == BACKSLASH {
-            return k;
-        }
-        if p == QUOTE {
-            return k;
-        }
-        if p == OVER {
-            return k;
-        }
-        let q = peek(text, b + k);
-        if p != q {
-            return k;
-        }
-        k += 1;
+// Bytes of a name that mean nothing but themselves: neither its quote nor a backslash.
+struct WrittenByte;
+
+impl Class for WrittenByte {
+    ghost holds = { Written };
+
+    ghost within = { λ b written. written.raw.byte };
+
+    fn has(b: u16) -> bool {
+        b < OVER && b != BACKSLASH && b != QUOTE
     }
 }
 
@@ -94,10 +75,10 @@ fn ended(p: u16) -> u16
 }
 
 // The order of two names from two places on: as written up to a backslash, and decoded from there on.
-pub(crate) fn order_along(text: &[u8], a: usize, b: usize) -> Order
+fn order_along(text: &[u8], a: usize, b: usize) -> Ordering
     ensures { result ≡ order_of (quoted_from text.now a) (quoted_from text.now b) }
 {
-    let k = alike_from(text, a, b);
+    let k = alike_from::<WrittenByte>(text, a, text, b, 0);
     let x = a + k;
     let y = b + k;
     let p = peek(text, x);
@@ -112,7 +93,7 @@ pub(crate) fn order_along(text: &[u8], a: usize, b: usize) -> Order
 }
 
 // The same, where most names differ in the first byte: a test that is short enough to stand where a few names are compared.
-pub(crate) fn order_from(text: &[u8], a: usize, b: usize) -> Order
+fn order_from(text: &[u8], a: usize, b: usize) -> Ordering
     ensures { result ≡ order_of (quoted_from text.now a) (quoted_from text.now b) }
 {
     let first = peek(text, a);
@@ -130,10 +111,10 @@ pub(crate) fn order_from(text: &[u8], a: usize, b: usize) -> Order
 }
 
 // The order of two names from two places on, where many begin alike. Only sorting calls it, in one place, so that it becomes part of the merge.
-pub(crate) fn order_eights(text: &[u8], a: usize, b: usize) -> Order
+fn order_eights(text: &[u8], a: usize, b: usize) -> Ordering
     ensures { result ≡ order_of (quoted_from text.now a) (quoted_from text.now b) }
 {
-    let k = alike_eights(false, text, a, text, b);
+    let k = alike_eights::<PlainByte>(text, a, text, b);
     let x = a + k;
     let y = b + k;
     let p = peek(text, x);
@@ -148,4 +129,36 @@ pub(crate) fn order_eights(text: &[u8], a: usize, b: usize) -> Order
         }
     }
     order_along(text, x, y)
+}
+
+// The names at the places of their opening quotes, compared from `behind` bytes behind these on: more than one where all of them begin alike.
+#[derive(Clone, Copy)]
+pub(crate) struct Names<'a> {
+    pub text: &'a [u8],
+    pub behind: u32,
+}
+
+impl<'a> Labels for Names<'a> {
+    ghost label = { λ names. tail_at names.text.now names.behind };
+
+    fn order(&self, p: u32, q: u32) -> Ordering {
+        order_eights(self.text, self.inside(p), self.inside(q))
+    }
+
+    fn same(&self, p: u32, q: u32) -> bool {
+        order_from(self.text, self.inside(p), self.inside(q)).is_eq()
+    }
+
+    fn before(&self, p: u32, q: u32) -> bool {
+        order_along(self.text, self.inside(p), self.inside(q)).is_lt()
+    }
+}
+
+impl<'a> Names<'a> {
+    // Where a comparison of the name at a place begins.
+    fn inside(&self, place: u32) -> usize
+        ensures { result ≡ place + self.now.behind }
+    {
+        place as usize + self.behind as usize
+    }
 }

@@ -5,13 +5,13 @@ ghost use Rattle.json_reader.specs.Plain.{Stretched, CharsEnd, Stops};
 
 use crate::chars::step_at;
 use crate::plain::plain_end;
-use text::{Step, Token};
+use text::Fault;
 
 // How far the whole characters of a string stand, and how it ends.
 #[derive(Clone, Copy)]
 pub struct Stop {
     at: usize,
-    token: Token,
+    token: Result<usize, Fault<usize>>,
 }
 
 // What a stretch of a string comes to: the place after a plain byte, where plain ones may follow; or the end of its characters.
@@ -28,28 +28,28 @@ fn steps_end(text: &[u8], from: usize) -> Stepped
     let mut at = from;
     loop {
         match step_at(text, at) {
-            Step::Close => {
+            Ok(None) => {
                 return Stepped::Done(Stop {
                     at,
-                    token: Token::End(at + 1),
+                    token: Ok(at + 1),
                 });
             }
-            Step::Char(_, len) => {
+            Ok(Some((_, len))) => {
                 at = at + len;
                 if len == 1 {
                     return Stepped::On(at);
                 }
             }
-            Step::Bad2(p) => {
+            Err(Fault::Malformed(p)) => {
                 return Stepped::Done(Stop {
                     at,
-                    token: Token::No2(p),
+                    token: Err(Fault::Malformed(p)),
                 });
             }
-            Step::Bad3(p) => {
+            Err(Fault::Forbidden(p)) => {
                 return Stepped::Done(Stop {
                     at,
-                    token: Token::No3(p),
+                    token: Err(Fault::Forbidden(p)),
                 });
             }
         }
@@ -76,7 +76,7 @@ fn last_stop(text: &[u8], from: usize) -> Stop
 }
 
 // Where a string ends, from a place inside it.
-pub(crate) fn string_end(text: &[u8], from: usize) -> Token
+pub(crate) fn string_end(text: &[u8], from: usize) -> Result<usize, Fault<usize>>
     ensures { result ≡ string_end text.now from }
 {
     last_stop(text, from).token

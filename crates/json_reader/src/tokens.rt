@@ -10,7 +10,7 @@ use crate::bytes::{
 };
 use crate::rows::{ARRAY, FALSE, NULL, NUMBER, OBJECT, STRING, TRUE};
 use crate::strings::string_end;
-use text::Token;
+use text::Fault;
 
 // Is a byte white space?
 pub fn is_space(b: u16) -> bool
@@ -72,7 +72,7 @@ pub fn digits_end(text: &[u8], from: usize) -> usize
 }
 
 // A literal: the bytes of its word.
-fn literal(text: &[u8], lit: &[u8], from: usize) -> Token
+fn literal(text: &[u8], lit: &[u8], from: usize) -> Result<usize, Fault<usize>>
     ensures { result ≡ tokens.word_at text.now lit.now from }
 {
     let mut at = from;
@@ -80,11 +80,11 @@ fn literal(text: &[u8], lit: &[u8], from: usize) -> Token
     loop {
         let want = peek(lit, i);
         if want == OVER {
-            return Token::End(at);
+            return Ok(at);
         }
         let b = peek(text, at);
         if b != want {
-            return Token::No2(at);
+            return Err(Fault::Malformed(at));
         }
         at += 1;
         i += 1;
@@ -92,13 +92,13 @@ fn literal(text: &[u8], lit: &[u8], from: usize) -> Token
 }
 
 // One digit or more.
-pub fn digits(text: &[u8], at: usize) -> Token
+pub fn digits(text: &[u8], at: usize) -> Result<usize, Fault<usize>>
     ensures { result ≡ tokens.digits_at text.now at }
 {
     if digit_at(text, at) {
-        return Token::End(digits_end(text, at + 1));
+        return Ok(digits_end(text, at + 1));
     }
-    Token::No2(at)
+    Err(Fault::Malformed(at))
 }
 
 // The place after a minus, if there is one.
@@ -109,23 +109,23 @@ pub fn minus_end(text: &[u8], at: usize) -> usize
 }
 
 // A number's whole part: a zero, or digits that start with no zero.
-pub fn int(text: &[u8], at: usize) -> Token
+pub fn int(text: &[u8], at: usize) -> Result<usize, Fault<usize>>
     ensures { result ≡ tokens.int_at text.now at }
 {
     if peek(text, at) == ZERO {
-        return Token::End(at + 1);
+        return Ok(at + 1);
     }
     digits(text, at)
 }
 
 // A number's fraction, if there is one.
-pub fn frac(text: &[u8], at: usize) -> Token
+pub fn frac(text: &[u8], at: usize) -> Result<usize, Fault<usize>>
     ensures { result ≡ tokens.frac_at text.now at }
 {
     if peek(text, at) == POINT {
         return digits(text, at + 1);
     }
-    Token::End(at)
+    Ok(at)
 }
 
 // The place after a sign of the exponent, if there is one.
@@ -143,7 +143,7 @@ pub fn sign_end(text: &[u8], at: usize) -> usize
 }
 
 // A number's exponent, if there is one.
-fn exp(text: &[u8], at: usize) -> Token
+fn exp(text: &[u8], at: usize) -> Result<usize, Fault<usize>>
     ensures { result ≡ tokens.exp_at text.now at }
 {
     let b = peek(text, at);
@@ -153,7 +153,7 @@ fn exp(text: &[u8], at: usize) -> Token
     if b == LARGE_E {
         return digits(text, sign_end(text, at + 1));
     }
-    Token::End(at)
+    Ok(at)
 }
 
 // Does a fraction or an exponent stand at a place? Most numbers have neither.
@@ -171,20 +171,14 @@ fn more_at(text: &[u8], at: usize) -> bool
 }
 
 // A number: a minus or none, its whole part, its fraction and its exponent.
-fn number(text: &[u8], at: usize) -> Token
+fn number(text: &[u8], at: usize) -> Result<usize, Fault<usize>>
     ensures { result ≡ tokens.number_at text.now at }
 {
-    let whole = int(text, minus_end(text, at));
-    let Token::End(point) = whole else {
-        return whole;
-    };
+    let point = int(text, minus_end(text, at))?;
     if !more_at(text, point) {
-        return whole;
+        return Ok(point);
     }
-    let fraction = frac(text, point);
-    let Token::End(e) = fraction else {
-        return fraction;
-    };
+    let e = frac(text, point)?;
     exp(text, e)
 }
 
@@ -206,7 +200,7 @@ pub(crate) fn kind_of(b: u16) -> usize
 }
 
 // The token of a kind from NULL to STRING whose first byte stands at a place.
-pub(crate) fn token_end(text: &[u8], kind: usize, at: usize) -> Token
+pub(crate) fn token_end(text: &[u8], kind: usize, at: usize) -> Result<usize, Fault<usize>>
     requires { at ≤ length text.now }
     ensures { result ≡ tokens.token_at text.now kind at }
 {

@@ -15,22 +15,15 @@ use crate::bytes::{COMMA, peek};
 use crate::containers::{Container, closing, container_of, item_at, kind_in};
 use crate::limits::VALUES;
 use crate::members::ItemStart;
-use crate::repeated::{NONE, first_repeat};
+use crate::repeated::first_repeat;
 use crate::rows::{ARRAY, link, put_row};
 use crate::tokens::{kind_of, skip, token_end};
-use text::{Refusal, Token};
-
-// What reading some of a text gives: the place after it and the number of values so far, or the refusal.
-#[derive(Clone, Copy)]
-pub enum Progress {
-    Next(usize, usize),
-    Stop(Refusal),
-}
+use text::{Fault, Refusal};
 
 // What reading items gives, and where the names end that they and the items before them closed.
 #[derive(Clone, Copy)]
 pub struct Gathered {
-    pub read: Progress,
+    pub read: Result<(usize, usize), Refusal>,
     pub end: usize,
 }
 
@@ -67,45 +60,46 @@ fn read_scalar(
     ne: usize,
     at: usize,
     count: usize,
-) -> Progress
+) -> Result<(usize, usize), Refusal>
     requires { ScalarAsks text.now kind ns ne at count }
     ensures { Took 0 (scalar_at base text.now kind ns ne at count) text.now at count table.old table.new result }
 {
     match token_end(text, kind, at) {
-        Token::End(to) => {
+        Ok(to) => {
             put_row(table, count, kind, ns, ne, at, to, 0);
             let after = count + 1;
-            Progress::Next(to, after)
+            Ok((to, after))
         }
-        Token::No2(p) => Progress::Stop(Refusal::Grammar(p)),
-        Token::No3(p) => Progress::Stop(Refusal::Character(p)),
+        Err(Fault::Malformed(p)) => Err(Refusal::Grammar(p)),
+        Err(Fault::Forbidden(p)) => Err(Refusal::Character(p)),
     }
 }
 
 // Closes a container: its row, once what is inside is read.
 fn close(
     table: &mut [u32],
-    inside: Progress,
+    inside: Result<(usize, usize), Refusal>,
     kind: usize,
     ns: usize,
     ne: usize,
     at: usize,
     count: usize,
-) -> Progress
+) -> Result<(usize, usize), Refusal>
     requires { CloseAsks kind ns ne at count inside }
     ensures { Closes kind ns ne at count inside table.old table.new result }
 {
-    match inside {
-        Progress::Next(to, after) => {
-            put_row(table, count, kind, ns, ne, at, to, after - count - 1);
-            Progress::Next(to, after)
-        }
-        Progress::Stop(r) => Progress::Stop(r),
-    }
+    let (to, after) = inside?;
+    put_row(table, count, kind, ns, ne, at, to, after - count - 1);
+    Ok((to, after))
 }
 
 // What reading a container's items gives once its names are looked through: a repeated one stands before whatever ended the reading.
-fn settle(text: &[u8], names: &mut [u32], top: usize, items: Gathered) -> Progress
+fn settle(
+    text: &[u8],
+    names: &mut [u32],
+    top: usize,
+    items: Gathered,
+) -> Result<(usize, usize), Refusal>
     requires { SettleAsks text.now names.old top items.end }
     ensures { Settles text.now top items names.old names.new result }
 {
@@ -114,11 +108,10 @@ fn settle(text: &[u8], names: &mut [u32], top: usize, items: Gathered) -> Progre
     if end - top < 2 {
         return read;
     }
-    let place = first_repeat(text, &mut names[top..end]);
-    if place == NONE {
-        return read;
+    match first_repeat(text, &mut names[top..end]) {
+        Some(place) => Err(Refusal::Repeated(place as usize)),
+        None => read,
     }
-    Progress::Stop(Refusal::Repeated(place))
 }
 
 // The value at a place, as row `count`, where at most `depth` containers may be opened. The limit is asked first and not between a value's first byte and its
@@ -134,16 +127,16 @@ pub(crate) fn read_value(
     ne: usize,
     at: usize,
     count: usize,
-) -> Progress
+) -> Result<(usize, usize), Refusal>
     requires { ValueAsks text.now names.old top ns ne at count }
     ensures { TookIn (value_at (limits_in names.old) text.now depth ns ne at count) text.now at count table.old table.new top names.old names.new result }
 {
     if VALUES <= count {
-        return Progress::Stop(overfull(text, depth, at));
+        return Err(overfull(text, depth, at));
     }
     let kind = kind_at(text, at);
     if kind == 0 {
-        return Progress::Stop(Refusal::Grammar(at));
+        return Err(Refusal::Grammar(at));
     }
     if ARRAY <= kind {
         let of = container_of(kind);
@@ -165,12 +158,12 @@ fn read_container(
     ne: usize,
     at: usize,
     count: usize,
-) -> Progress
+) -> Result<(usize, usize), Refusal>
     requires { ContainerAsks text.now names.old top ns ne at count }
     ensures { TookIn (container_at of (limits_in names.old) text.now depth ns ne at count) text.now at count table.old table.new top names.old names.new result }
 {
     if depth == 0 {
-        return Progress::Stop(Refusal::Deep(at));
+        return Err(Refusal::Deep(at));
     }
     let items = read_items(text, table, names, depth - 1, top, of, at + 1, count + 1);
     let settled = settle(text, names, top, items);
@@ -197,7 +190,7 @@ fn read_items(
     let b = peek(text, start);
     if b == z {
         let next = start + 1;
-        let read = Progress::Next(next, first);
+        let read = Ok((next, first));
         return Gathered { read, end: top };
     }
     let parent = first - 1;
@@ -208,7 +201,7 @@ fn read_items(
         let item = read_item(text, table, names, depth, of, end, at, count);
         end = item.end;
         let read = item.read;
-        let Progress::Next(to, after) = read else {
+        let Ok((to, after)) = read else {
             return Gathered { read, end };
         };
         let x = skip(text, to);
@@ -216,11 +209,11 @@ fn read_items(
         if b == z {
             link(table, count, parent, 0);
             let next = x + 1;
-            let read = Progress::Next(next, after);
+            let read = Ok((next, after));
             return Gathered { read, end };
         }
         if b != COMMA {
-            let read = Progress::Stop(Refusal::Grammar(x));
+            let read = Err(Refusal::Grammar(x));
             return Gathered { read, end };
         }
         link(table, count, parent, after);
@@ -250,7 +243,7 @@ fn read_item(
             Gathered { read, end: last }
         }
         ItemStart::Wrong(r, last) => {
-            let read = Progress::Stop(r);
+            let read = Err(r);
             Gathered { read, end: last }
         }
     }

@@ -10,7 +10,6 @@ pub mod Orders
 pub mod Tables
 pub mod Outcomes
 pub mod Parts
-pub mod Cleared
 pub mod Decides
 pub mod Tests
 pub mod Bools

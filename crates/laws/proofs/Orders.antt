@@ -6,6 +6,8 @@
 --     before-irrefl, before-asym, before-trans, one_of_three     `before` is a strict and total order
 --     before-earlier                 and it is the byte order that the rules of `Earlier` state
 -- Assumes nothing.
+use Rattle.std.specs.declared.cmp.Ordering.{Ordering}
+use Rattle.std.specs.declared.cmp.Ordering.TheVariants.{Less, Equal, Greater}
 use mathlib.Core.Path.{◌≡◌, refl, sym, ap, ◌∙◌}
 use mathlib.Core.List.{List, [], ◌∷◌}
 use mathlib.Core.Bool.{Bool, true, false}
@@ -17,8 +19,6 @@ use lib.ListN.{length, get_or, drop, drop_of_length-le}
 use borrow.Author.Tests.{lt-ltb, le-ltb}
 use Rattle.laws.specs.Order.{order_of, is_same, is_less, same, before, Earlier, begins, smaller, equal}
 use Rattle.laws.proofs.Places.{drop_byte}
-use Rattle.laws.specs.declared.Order.{Order}
-use Rattle.laws.specs.declared.Order.TheVariants.{Less, Same, More}
 
 -- ---- the order at a pair of first bytes ----
 
@@ -26,7 +26,7 @@ pub order_less : (x y : ℕ) (xs ys : List ℕ) → x < y → order_of (x ∷ xs
 unfolding order_of
 order_less x y xs ys h = simp (lt-ltb x y h)
 
-pub order_more : (x y : ℕ) (xs ys : List ℕ) → y < x → order_of (x ∷ xs) (y ∷ ys) ≡ More
+pub order_more : (x y : ℕ) (xs ys : List ℕ) → y < x → order_of (x ∷ xs) (y ∷ ys) ≡ Greater
 unfolding order_of
 order_more x y xs ys h = simp (le-ltb x y (omega arith), lt-ltb y x h)
 
@@ -53,7 +53,7 @@ absent l i x xs ne = elim (dec_le (length l) i) [
 
 -- ---- same is equality ----
 
-pub order_refl : (xs : List ℕ) → order_of xs xs ≡ Same
+pub order_refl : (xs : List ℕ) → order_of xs xs ≡ Equal
 unfolding order_of
 order_refl [] = refl
 order_refl (x ∷ xs) = order_on x x xs xs (omega arith) (omega arith) ∙ order_refl xs
@@ -61,7 +61,7 @@ order_refl (x ∷ xs) = order_on x x xs xs (omega arith) (omega arith) ∙ order
 pub eq_same : (xs ys : List ℕ) → xs ≡ ys → same xs ys ≡ true
 eq_same xs ys e = rw (← e, order_refl xs)
 
-order_eq : (xs ys : List ℕ) → order_of xs ys ≡ Same → xs ≡ ys
+order_eq : (xs ys : List ℕ) → order_of xs ys ≡ Equal → xs ≡ ys
 unfolding order_of
 order_eq [] [] e = refl
 order_eq [] (y ∷ ys) e = let z : ◌≡◌ {A = ℕ} 0 1 = cc in absurd (omega arith)
@@ -69,15 +69,15 @@ order_eq (x ∷ xs) [] e = let z : ◌≡◌ {A = ℕ} 0 1 = cc in absurd (omega
 order_eq (x ∷ xs) (y ∷ ys) e = elim (dec_lt x y) [
   | yes k ↦ let d : order_of (x ∷ xs) (y ∷ ys) ≡ Less = order_less x y xs ys k in let z : ◌≡◌ {A = ℕ} 0 1 = cc in absurd (omega arith)
   | no k ↦ elim (dec_lt y x) [
-    | yes l ↦ let d : order_of (x ∷ xs) (y ∷ ys) ≡ More = order_more x y xs ys l in let z : ◌≡◌ {A = ℕ} 0 1 = cc in absurd (omega arith)
+    | yes l ↦ let d : order_of (x ∷ xs) (y ∷ ys) ≡ Greater = order_more x y xs ys l in let z : ◌≡◌ {A = ℕ} 0 1 = cc in absurd (omega arith)
     | no l ↦ let h : x ≡ y = omega arith in let r : xs ≡ ys = order_eq xs ys (sym (order_on x y xs ys (omega arith) (omega arith)) ∙ e) in cc
   ]
 ]
 
-is_same_lem : (o : Order) → is_same o ≡ true → o ≡ Same
+is_same_lem : (o : Ordering) → is_same o ≡ true → o ≡ Equal
 is_same_lem Less e = let z : ◌≡◌ {A = ℕ} 0 1 = cc in absurd (omega arith)
-is_same_lem Same e = refl
-is_same_lem More e = let z : ◌≡◌ {A = ℕ} 0 1 = cc in absurd (omega arith)
+is_same_lem Equal e = refl
+is_same_lem Greater e = let z : ◌≡◌ {A = ℕ} 0 1 = cc in absurd (omega arith)
 
 pub same_eq : (xs ys : List ℕ) → same xs ys ≡ true → xs ≡ ys
 same_eq xs ys e = order_eq xs ys (is_same_lem (order_of xs ys) e)
@@ -88,10 +88,10 @@ pub same_refl : (xs : List ℕ) → same xs xs ≡ true
 same_refl xs = ap is_same (order_refl xs)
 
 -- an order the other way round
-abbrev pub flip : Order → Order
-flip Less = More
-flip Same = Same
-flip More = Less
+abbrev pub flip : Ordering → Ordering
+flip Less = Greater
+flip Equal = Equal
+flip Greater = Less
 
 pub order_flip : (xs ys : List ℕ) → order_of ys xs ≡ flip (order_of xs ys)
 unfolding order_of
@@ -106,10 +106,10 @@ order_flip (x ∷ xs) (y ∷ ys) = elim (dec_lt x y) [
   ]
 ]
 
-flip_same : (o : Order) → is_same (flip o) ≡ is_same o
+flip_same : (o : Ordering) → is_same (flip o) ≡ is_same o
 flip_same Less = refl
-flip_same Same = refl
-flip_same More = refl
+flip_same Equal = refl
+flip_same Greater = refl
 
 pub same_sym : (xs ys : List ℕ) → same ys xs ≡ same xs ys
 same_sym xs ys = ap is_same (order_flip xs ys) ∙ flip_same (order_of xs ys)
@@ -124,7 +124,7 @@ first_less : (x y : ℕ) (xs ys : List ℕ) → order_of (x ∷ xs) (y ∷ ys) �
 first_less x y xs ys e = elim (dec_lt x y) [
   | yes k ↦ inl k
   | no k ↦ elim (dec_lt y x) [
-    | yes l ↦ let d : order_of (x ∷ xs) (y ∷ ys) ≡ More = order_more x y xs ys l in let z : ◌≡◌ {A = ℕ} 0 1 = cc in absurd (omega arith)
+    | yes l ↦ let d : order_of (x ∷ xs) (y ∷ ys) ≡ Greater = order_more x y xs ys l in let z : ◌≡◌ {A = ℕ} 0 1 = cc in absurd (omega arith)
     | no l ↦ inr (omega arith, sym (order_on x y xs ys (omega arith) (omega arith)) ∙ e)
   ]
 ]
@@ -145,10 +145,10 @@ order_trans (x ∷ xs) (y ∷ ys) (z ∷ zs) p q = go (first_less x y xs ys p) (
     go (inr a) (inl b) later = order_less x z xs zs (omega arith)
     go (inr a) (inr b) later = order_on x z xs zs (omega arith) (omega arith) ∙ later a.1 b.1
 
-is_less_lem : (o : Order) → is_less o ≡ true → o ≡ Less
+is_less_lem : (o : Ordering) → is_less o ≡ true → o ≡ Less
 is_less_lem Less e = refl
-is_less_lem Same e = let z : ◌≡◌ {A = ℕ} 0 1 = cc in absurd (omega arith)
-is_less_lem More e = let z : ◌≡◌ {A = ℕ} 0 1 = cc in absurd (omega arith)
+is_less_lem Equal e = let z : ◌≡◌ {A = ℕ} 0 1 = cc in absurd (omega arith)
+is_less_lem Greater e = let z : ◌≡◌ {A = ℕ} 0 1 = cc in absurd (omega arith)
 
 pub before_irrefl : (xs : List ℕ) → before xs xs ≡ false
 before_irrefl xs = ap is_less (order_refl xs)
@@ -165,10 +165,10 @@ pub data OneOf : Bool → Bool → Bool → Type 0 where
   second : OneOf false true false
   third : OneOf false false true
 
-one_outcome : (o : Order) → OneOf (is_less o) (is_same o) (is_less (flip o))
+one_outcome : (o : Ordering) → OneOf (is_less o) (is_same o) (is_less (flip o))
 one_outcome Less = first
-one_outcome Same = second
-one_outcome More = third
+one_outcome Equal = second
+one_outcome Greater = third
 
 pub one_of_three : (xs ys : List ℕ) → OneOf (before xs ys) (same xs ys) (before ys xs)
 one_of_three xs ys = rw (order_flip xs ys) (one_outcome (order_of xs ys))

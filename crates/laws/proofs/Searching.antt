@@ -1,6 +1,7 @@
 -- The searches for a repeated name, over the words of a list:
---     beside-start, beside-turn, beside_end      neighbours, from the right to the left
---     known-found, known_next, known-none        is a label among those of some words?
+--     earlier_kept, earlier_taken, earlier_first      the earlier of two places
+--     known_any                                  is a label among those of some places?
+--     beside_start, beside_same, beside_other, beside_end      neighbours, from the right to the left
 --     direct-start, direct-new, direct-known, direct-end      each word against those before it
 --     relabel                                    the first repeat under labels that agree in the same places
 --     in-slice, few-none, found-less             what is found is one of the words
@@ -13,64 +14,73 @@ use mathlib.Core.Bool.{Bool, true, false, cond}
 use Prim.Native.Nat.{ℕ, zero, suc, ◌+◌, ◌-◌, ◌≤◌, ◌<◌}
 use native.Mathlib.Omega.{arith}
 use native.Mathlib.Decide.{dec_le}
-use lib.Dec.{ltb}
 use lib.ListN.{length, get_or, take}
 use lib.Seq.{slice}
-use borrow.Author.Tests.{le-ltb}
+use borrow.Author.Tests.{lt-ltb, le-ltb}
+use Rattle.std.specs.Prelude.{◌||◌, Option, Some, None, unwrap_or, is_some}
+use Rattle.std.specs.List.{list_any}
 use Rattle.laws.specs.Order.{same, before}
 use Rattle.laws.proofs.Orders.{before_irrefl, before_trans}
-use Rattle.laws.specs.Each.{Some}
 use Rattle.laws.specs.Each as each
 use Rattle.laws.proofs.Slices.{slice_more, slice_none, slice_split, slice_all}
-use Rattle.laws.specs.Earliest.{Climbs, up_none, up_more, Earliest, nowhere, found, earlier, known, repeat_from, first_repeat, beside_from, least_beside, place_number, beside_number, ascend_from, ascending}
+use Rattle.laws.specs.Earliest.{Climbs, up_none, up_more, Earliest, nowhere, found, earlier, known, repeat_from, first_repeat, beside_from, least_beside, place_of, ascend_from, ascending}
 use Rattle.laws.proofs.Earliest.{Least, Repeats, least_unique, first_least}
+
+-- ---- is a label among those of some places?
+
+pub known_any : (label : ℕ → List ℕ) (name : List ℕ) (ps : List ℕ) → list_any (λ q. same (label q) name) ps ≡ known label name ps
+unfolding known
+known_any label name [] = refl
+known_any label name (p ∷ ps) = go (same (label p) name) (known_any label name ps)
+  where
+    go : (b : Bool) {rest : Bool} → rest ≡ known label name ps → (b || rest) ≡ cond b true (known label name ps)
+    go true e = refl
+    go false e = e
+
+-- ---- the earlier of two places
+
+pub some_same : {x y : ℕ} → Some x ≡ Some y → x ≡ y
+some_same {x} {y} e = ap (λ (o : Option ℕ). unwrap_or o x) e
+
+pub none_not_some : {x : ℕ} → ◌≡◌ {A = Option ℕ} None (Some x) → ⊥
+none_not_some e = let z : ◌≡◌ {A = ℕ} 0 1 = ap (λ (o : Option ℕ). cond (is_some o) 1 0) e in omega arith
+
+pub earlier_kept : (p q : ℕ) (m : Earliest) → Some q ≡ place_of m → q < p → Some q ≡ place_of (earlier p m)
+earlier_kept p q nowhere e h = absurd (none_not_some (sym e))
+earlier_kept p q (found x) e h = let i : q ≡ x = some_same e in rw (← i, lt-ltb q p h)
+
+pub earlier_taken : (p q : ℕ) (m : Earliest) → Some q ≡ place_of m → p ≤ q → Some p ≡ place_of (earlier p m)
+earlier_taken p q nowhere e h = refl
+earlier_taken p q (found x) e h = let i : q ≡ x = some_same e in rw (← i, le-ltb q p h)
+
+pub earlier_first : (p : ℕ) (m : Earliest) → ◌≡◌ {A = Option ℕ} None (place_of m) → Some p ≡ place_of (earlier p m)
+earlier_first p nowhere e = refl
+earlier_first p (found x) e = absurd (none_not_some e)
 
 module _ (label : ℕ → List ℕ) (l : List ℕ) where
   -- ---- neighbours
 
-  pub beside_start : (hi : ℕ) → place_number (beside_from label (get_or l (hi - 1) 0) (slice hi hi l)) ≡ 4294967296
+  pub beside_start : (hi : ℕ) → beside_from label (get_or l (hi - 1) 0) (slice hi hi l) ≡ nowhere
   unfolding beside_from
   beside_start hi = rw (slice_none hi hi l (omega arith) (omega arith))
 
-  lesser : (p : ℕ) (m : Earliest) → p < 4294967296 → cond (ltb (place_number m) p) (place_number m) p ≡ place_number (earlier p m)
-  lesser p nowhere h = rw (le-ltb 4294967296 p (omega arith))
-  lesser p (found q) h = go (ltb q p)
-    where
-      go : (b : Bool) → cond b q p ≡ place_number (cond b (found q) (found p))
-      go true = refl
-      go false = refl
-
-  pub beside_turn : (k next hi best : ℕ) → next ≡ k + 1 → k < hi → hi ≤ length l → get_or l k 0 < 4294967296
-      → best ≡ place_number (beside_from label (get_or l k 0) (slice next hi l))
-      → beside_number label (get_or l (k - 1) 0) (get_or l k 0) best ≡ place_number (beside_from label (get_or l (k - 1) 0) (slice k hi l))
+  beside_turn : (k next hi : ℕ) → next ≡ k + 1 → k < hi → hi ≤ length l
+      → beside_from label (get_or l (k - 1) 0) (slice k hi l)
+      ≡ cond (same (label (get_or l (k - 1) 0)) (label (get_or l k 0))) (earlier (get_or l k 0) (beside_from label (get_or l k 0) (slice next hi l))) (beside_from label (get_or l k 0) (slice next hi l))
   unfolding beside_from
-  beside_turn k next hi best n h i w e = rw (slice_more k hi l h i, e, n) (go (same (label (get_or l (k - 1) 0)) (label (get_or l k 0))) (beside_from label (get_or l k 0) (slice (k + 1) hi l)))
-    where
-      go : (b : Bool) (m : Earliest) → cond b (cond (ltb (place_number m) (get_or l k 0)) (place_number m) (get_or l k 0)) (place_number m) ≡ place_number (cond b (earlier (get_or l k 0) m) m)
-      go true m = lesser (get_or l k 0) m w
-      go false m = refl
+  beside_turn k next hi n h i = rw (slice_more k hi l h i, n)
+
+  pub beside_same : (k next hi : ℕ) → next ≡ k + 1 → k < hi → hi ≤ length l → same (label (get_or l (k - 1) 0)) (label (get_or l k 0)) ≡ true
+      → beside_from label (get_or l (k - 1) 0) (slice k hi l) ≡ earlier (get_or l k 0) (beside_from label (get_or l k 0) (slice next hi l))
+  beside_same k next hi n h i e = beside_turn k next hi n h i ∙ rw e
+
+  pub beside_other : (k next hi : ℕ) → next ≡ k + 1 → k < hi → hi ≤ length l → same (label (get_or l (k - 1) 0)) (label (get_or l k 0)) ≡ false
+      → beside_from label (get_or l (k - 1) 0) (slice k hi l) ≡ beside_from label (get_or l k 0) (slice next hi l)
+  beside_other k next hi n h i e = beside_turn k next hi n h i ∙ rw e
 
   pub beside_end : (lo hi : ℕ) → lo < hi → hi ≤ length l → beside_from label (get_or l lo 0) (slice (lo + 1) hi l) ≡ least_beside label (slice lo hi l)
   unfolding least_beside
   beside_end lo hi h i = rw (slice_more lo hi l h i)
-
-  -- ---- is a label among those of the words j up to i?
-
-  known_turn : (name : List ℕ) (j i : ℕ) → j < i → i ≤ length l
-      → known label name (slice j i l) ≡ cond (same (label (get_or l j 0)) name) true (known label name (slice (j + 1) i l))
-  unfolding known
-  known_turn name j i h k = rw (slice_more j i l h k)
-
-  pub known_found : (name : List ℕ) (j i : ℕ) → j < i → i ≤ length l → same (label (get_or l j 0)) name ≡ true → known label name (slice j i l) ≡ true
-  known_found name j i h k e = known_turn name j i h k ∙ rw e
-
-  pub known_next : (name : List ℕ) (j i : ℕ) → j < i → i ≤ length l → same (label (get_or l j 0)) name ≡ false
-      → known label name (slice (j + 1) i l) ≡ known label name (slice j i l)
-  known_next name j i h k e = sym (known_turn name j i h k ∙ rw e)
-
-  pub known_none : (name : List ℕ) (j i : ℕ) → j ≤ i → i ≤ j → known label name (slice j i l) ≡ false
-  unfolding known
-  known_none name j i h k = rw (slice_none j i l h k)
 
   -- ---- each against those before it
 
@@ -101,8 +111,8 @@ module _ (label : ℕ → List ℕ) (l : List ℕ) where
 module _ (f g : ℕ → List ℕ) where
   -- they agree in the same places
   pub record Alike (ps : List ℕ) : Type 0 where
-    pub there : (p q : ℕ) → Some (λ x. x ≡ p) ps → Some (λ x. x ≡ q) ps → f p ≡ f q → g p ≡ g q
-    pub back : (p q : ℕ) → Some (λ x. x ≡ p) ps → Some (λ x. x ≡ q) ps → g p ≡ g q → f p ≡ f q
+    pub there : (p q : ℕ) → each.Some (λ x. x ≡ p) ps → each.Some (λ x. x ≡ q) ps → f p ≡ f q → g p ≡ g q
+    pub back : (p q : ℕ) → each.Some (λ x. x ≡ p) ps → each.Some (λ x. x ≡ q) ps → g p ≡ g q → f p ≡ f q
 
   module _ {ps : List ℕ} (a : Alike ps) where
     there_repeats : {p : ℕ} → Repeats f ps p → Repeats g ps p
@@ -127,15 +137,15 @@ pub record Stands (l : List ℕ) (lo hi p : ℕ) : Type 0 where
   pub upto_end : at < hi
   pub is : get_or l at 0 ≡ p
 
-pub in_slice : (n : ℕ) (l : List ℕ) (lo hi p : ℕ) → lo + n ≡ hi → hi ≤ length l → Some (λ x. x ≡ p) (slice lo hi l) → Stands l lo hi p
+pub in_slice : (n : ℕ) (l : List ℕ) (lo hi p : ℕ) → lo + n ≡ hi → hi ≤ length l → each.Some (λ x. x ≡ p) (slice lo hi l) → Stands l lo hi p
 in_slice zero l lo hi p e h i = absurd (none (rw (slice_none lo hi l (omega arith) (omega arith)) at i) refl)
   where
-    none : {ps : List ℕ} → Some (λ x. x ≡ p) ps → ps ≡ [] → ⊥
+    none : {ps : List ℕ} → each.Some (λ x. x ≡ p) ps → ps ≡ [] → ⊥
     none (each.here q) z = let o : ◌≡◌ {A = ℕ} 0 1 = cc in omega arith
     none (each.later q) z = let o : ◌≡◌ {A = ℕ} 0 1 = cc in omega arith
 in_slice (suc n) l lo hi p e h i = go (rw (slice_more lo hi l (omega arith) h) at i) (λ j. in_slice n l (lo + 1) hi p (omega arith) h j)
   where
-    go : Some (λ x. x ≡ p) (get_or l lo 0 ∷ slice (lo + 1) hi l) → (Some (λ x. x ≡ p) (slice (lo + 1) hi l) → Stands l (lo + 1) hi p) → Stands l lo hi p
+    go : each.Some (λ x. x ≡ p) (get_or l lo 0 ∷ slice (lo + 1) hi l) → (each.Some (λ x. x ≡ p) (slice (lo + 1) hi l) → Stands l (lo + 1) hi p) → Stands l lo hi p
     go (each.here q) f = record { at = lo; from = omega arith; upto_end = omega arith; is = q }
     go (each.later j) f = let s = f j in record { at = s.at; from = let g = s.from in omega arith; upto_end = s.upto_end; is = s.is }
 
@@ -184,13 +194,13 @@ module _ (label : ℕ → List ℕ) where
   never e f = let z : ◌≡◌ {A = ℕ} 0 1 = cc in absurd (omega arith)
 
   -- each is before all that follow it
-  before_all : (x : ℕ) (ps : List ℕ) → ascend_from label x ps ≡ true → (q : ℕ) → Some (λ y. y ≡ q) ps → before (label x) (label q) ≡ true
+  before_all : (x : ℕ) (ps : List ℕ) → ascend_from label x ps ≡ true → (q : ℕ) → each.Some (λ y. y ≡ q) ps → before (label x) (label q) ≡ true
   unfolding ascend_from
   before_all x [] e q i = elim i [ ]
   before_all x (p ∷ ps) e q i = go (before (label x) (label p)) refl e i (λ g j. before_all p ps g q j)
     where
-      go : (b : Bool) → before (label x) (label p) ≡ b → cond b (ascend_from label p ps) false ≡ true → Some (λ y. y ≡ q) (p ∷ ps)
-          → (ascend_from label p ps ≡ true → Some (λ y. y ≡ q) ps → before (label p) (label q) ≡ true) → before (label x) (label q) ≡ true
+      go : (b : Bool) → before (label x) (label p) ≡ b → cond b (ascend_from label p ps) false ≡ true → each.Some (λ y. y ≡ q) (p ∷ ps)
+          → (ascend_from label p ps ≡ true → each.Some (λ y. y ≡ q) ps → before (label p) (label q) ≡ true) → before (label x) (label q) ≡ true
       go false f g i more = never g refl
       go true f g (each.here h) more = rw (← h) f
       go true f g (each.later j) more = before_trans (label x) (label p) (label q) f (more g j)
@@ -205,7 +215,7 @@ module _ (label : ℕ → List ℕ) where
       go false g = never g refl
 
   -- so no two are equal
-  none_equal : (ps : List ℕ) → ascending label ps ≡ true → (p q : ℕ) → Some (λ x. x ≡ q) ps → Some (λ x. x ≡ p) ps → q < p → label q ≡ label p → ⊥
+  none_equal : (ps : List ℕ) → ascending label ps ≡ true → (p q : ℕ) → each.Some (λ x. x ≡ q) ps → each.Some (λ x. x ≡ p) ps → q < p → label q ≡ label p → ⊥
   unfolding ascending
   none_equal [] e p q x5 _ l s = elim x5 [ ]
   none_equal (x ∷ ps) e p q (each.here h) (each.here k) l s = omega arith
@@ -221,7 +231,7 @@ module _ (label : ℕ → List ℕ) where
 
 -- ---- the first of some places climb too
 
-some_take : {q : ℕ} (n : ℕ) (ps : List ℕ) → Some (λ x. x ≡ q) (take n ps) → Some (λ x. x ≡ q) ps
+some_take : {q : ℕ} (n : ℕ) (ps : List ℕ) → each.Some (λ x. x ≡ q) (take n ps) → each.Some (λ x. x ≡ q) ps
 some_take {q = q} zero ps x' = elim x' [ ]
 some_take {q = q} (suc n) [] x3 = elim x3 [ ]
 some_take (suc n) (p ∷ ps) (each.here h) = each.here h

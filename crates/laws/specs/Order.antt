@@ -1,26 +1,26 @@
 -- Ascending byte order: how two runs of bytes compare. Assumes nothing: these are definitions.
+use Rattle.std.specs.declared.cmp.Ordering.{Ordering}
+use Rattle.std.specs.declared.cmp.Ordering.TheVariants.{Less, Equal, Greater}
 use Rattle.std.specs.Prelude.{ℕ, ◌<◌, List, [], ◌∷◌, Bool, true, false, cond, ltb}
-use Rattle.laws.specs.declared.Order.{Order}
-use Rattle.laws.specs.declared.Order.TheVariants.{Less, Same, More}
 
 -- the first byte that differs decides; a run stands before those that it begins
-unfoldable pub order_of : List ℕ → List ℕ → Order
-order_of [] [] = Same
+unfoldable pub order_of : List ℕ → List ℕ → Ordering
+order_of [] [] = Equal
 order_of [] (y ∷ ys) = Less
-order_of (x ∷ xs) [] = More
-order_of (x ∷ xs) (y ∷ ys) = let more = order_of xs ys in cond (ltb x y) Less (cond (ltb y x) More more)
+order_of (x ∷ xs) [] = Greater
+order_of (x ∷ xs) (y ∷ ys) = let more = order_of xs ys in cond (ltb x y) Less (cond (ltb y x) Greater more)
 
 -- is it Same?
-abbrev pub is_same : Order → Bool
+abbrev pub is_same : Ordering → Bool
 is_same Less = false
-is_same Same = true
-is_same More = false
+is_same Equal = true
+is_same Greater = false
 
 -- is it Less?
-abbrev pub is_less : Order → Bool
+abbrev pub is_less : Ordering → Bool
 is_less Less = true
-is_less Same = false
-is_less More = false
+is_less Equal = false
+is_less Greater = false
 
 -- are two runs of bytes equal?
 abbrev pub same : List ℕ → List ℕ → Bool

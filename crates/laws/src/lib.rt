@@ -1,12 +1,7 @@
-// What speaks of no format: the order of two runs of bytes, and lent buffers that are cleared.
+// What speaks of no format: facts on lists, numbers, the order of two runs of bytes, and walks.
+//   sort    one merge sort for every order
+//   labels  places that have labels: sorted by these, and the earliest whose label an earlier one has
 #![tactic(auto)]
 
-pub mod clear;
-
-// How one run of bytes stands to another in ascending byte order.
-#[derive(Clone, Copy)]
-pub enum Order {
-    Less,
-    Same,
-    More,
-}
+pub mod labels;
+pub mod sort;

@@ -1,73 +1,59 @@
 -- A run of a text's bytes, stored as far as there is room:
---     Least, least            the smaller of two numbers
---     Storing and its laws    what of the run is stored, and what is left
+--     run_stored, run_more    what of the run has room is copied, byte by byte
 --     run_past, run-wrote     a run that is past all that is counted; one that is stored and counted
 -- Assumes nothing.
-use Prim.Native.Nat.{ℕ, suc, ◌+◌, ◌-◌, ◌≤◌, ◌<◌}
-use mathlib.Core.Path.{◌≡◌, refl, sym, ap, ◌∙◌}
-use mathlib.Core.Bool.{cond}
-use mathlib.Core.List.{List}
+use Prim.Native.Nat.{ℕ, ◌+◌, ◌-◌, ◌≤◌, ◌<◌}
+use mathlib.Core.Path.{◌≡◌, sym, ap, ◌∙◌}
+use mathlib.Core.List.{List, append_assoc}
 use native.Mathlib.Decide.{dec_le}
 use native.Mathlib.Omega.{arith}
-use lib.Dec.{ltb}
-use lib.ListN.{length, get_or, set, length-set}
-use lib.Seq.{sets}
-use borrow.Author.Tests.{lt-ltb, le-ltb}
+use lib.ListN.{length, get_or, set, take, drop, length-drop, take-append-drop, drop_of_length-le}
+use lib.Seq.{sets, paste, get_or-drop, get_or-take, sets-eq, length-sets, length-take-le, take-take}
+use borrow.Author.Tests.{le-leb}
+use Rattle.std.proofs.lemmas.List.Edits.{paste_all, paste_more}
 use Rattle.laws.specs.Lists.{part_of}
 use Rattle.laws.proofs.Splits.{length_part}
-use Rattle.laws.proofs.Sets.{sets_out}
+use Rattle.laws.proofs.Sets.{sets_append, sets_out}
 use Rattle.output.specs.Written.{full, Wrote}
-use Rattle.output.proofs.Bytes.{counts_same, part_done, part_next_lem}
+use Rattle.output.proofs.Bytes.{counts_same}
 
--- r is one of the two, and not above the other
-pub record Least (a b r : ℕ) : Type 0 where
-  pub first : r ≤ a
-  pub second : r ≤ b
-  pub one : r < a → r ≡ b
+-- what of the run has room is copied: its first n bytes, all that there are or all that have room
+module _ (text : List ℕ) (from to n : ℕ) (old : List ℕ) (at : ℕ) (up : from ≤ to) (inside : to ≤ length text) (room : n ≤ length old - at)
+    (some : n ≤ to - from) (all : n < to - from → n ≡ length old - at) (within : at ≤ length old) where
+  abbrev run : List ℕ
+  run = take (to - from) (drop from text)
 
-pub least : (a b : ℕ) {r : ℕ} → r ≡ cond (ltb a b) a b → Least a b r
-least a b {r} e =
-    elim (dec_le b a) [
-      | yes le ↦ let q : r ≡ b = e ∙ rw (le-ltb a b le) in record { first = omega arith; second = omega arith; one = λ h. q }
-      | no lt ↦ let q : r ≡ a = e ∙ rw (lt-ltb a b (omega arith)) in record { first = omega arith; second = omega arith; one = λ h. absurd (omega arith) }
-    ]
+  run_is : part_of text from to ≡ run
+  unfolding part_of
+  run_is = rw (le-leb to (length text) inside, le-leb from to up)
 
--- the run from `from` up to `to` goes to the place `at` on; it is stored up to the place i, so that the next byte goes to p
-pub record Storing (text : List ℕ) (from to : ℕ) (old : List ℕ) (at stop : ℕ) (new : List ℕ) (i p : ℕ) : Type 0 where
-  pub stops : Least (to - from) (length old - at) (stop - from)
-  pub above : from ≤ stop
-  pub even : p + from ≡ at + i
-  pub before : i ≤ stop
-  pub long : length new ≡ length old
-  pub bytes : sets old at (part_of text from to) ≡ sets new p (part_of text i to)
+  long : length (take n run) ≡ n
+  long = length-take-le n run (rw (length-take-le (to - from) (drop from text) (rw length-drop (omega arith))) some)
 
-module _ {text : List ℕ} {from to : ℕ} {old : List ℕ} {at stop : ℕ} (up : from ≤ to) (inside : to ≤ length text) (room : at < length old) where
-  pub storing : {m : ℕ} → Least (to - from) (length old - at) m → stop ≡ from + m → Storing text from to old at stop old from at
-  storing {m} l e =
-      let q : stop - from ≡ m = omega arith in
-      record { stops = rw q l; above = omega arith; even = omega arith; before = omega arith; long = refl; bytes = refl }
+  -- the rest has no room, or there is none
+  rest_out : sets (sets old at (take n run)) (at + length (take n run)) (drop n run) ≡ sets old at (take n run)
+  rest_out =
+      elim (dec_le (to - from) n) [
+        | yes le ↦ rw (drop_of_length-le run {i = n} (omega (arith, length-take-le (to - from) (drop from text) (rw length-drop (omega arith)), le)))
+        | no lt ↦ sets_out (drop n run) (sets old at (take n run)) (at + length (take n run)) (rw (length-sets, long) (omega (arith, all (omega arith))))
+      ]
 
-  module _ {new : List ℕ} {i p : ℕ} (s : Storing text from to old at stop new i p) where
-    pub stored_next : i < stop → Storing text from to old at stop (set new p (get_or text i 0)) (i + 1) (p + 1)
-    stored_next h =
-        let one : p + 1 ≡ suc p = omega arith in
-        record {
-          stops = s.stops;
-          above = s.above;
-          even = omega (arith, s.even);
-          before = omega arith;
-          long = rw length-set s.long;
-          bytes = rw one (s.bytes ∙ ap (sets new p) (part_next_lem text i to inside (omega (arith, s.stops.first, s.above))));
-        }
+  pub run_stored : paste old at (take n (drop from text)) n ≡ sets old at (part_of text from to)
+  run_stored =
+      let first : take n (drop from text) ≡ take n run = sym (take-take n (to - from) (drop from text) some) in
+      let fits : at + length (take n run) ≤ length old = omega (arith, long) in
+      ap (λ (s : List ℕ). paste old at s n) first
+      ∙ paste_all old at (take n run) n (sym long)
+      ∙ sym (sets-eq (take n run) old at fits ∙ rw (long, append_assoc))
+      ∙ sym (ap (sets old at) (run_is ∙ sym (take-append-drop n run)) ∙ sets_append (take n run) (drop n run) old at ∙ rest_out)
 
-    pub stored_all : stop ≤ i → new ≡ sets old at (part_of text from to)
-    stored_all h =
-        elim (dec_le to stop) [
-          | yes le ↦ sym (s.bytes ∙ ap (sets new p) (part_done text i to inside (omega (arith, s.before))))
-          | no lt ↦
-              let q : stop - from ≡ length old - at = s.stops.one (omega (arith, s.above)) in
-              sym (s.bytes ∙ sets_out (part_of text i to) new p (omega (arith, q, s.even, s.long, s.before, s.above)))
-        ]
+-- a byte more is copied
+pub run_more : (text old : List ℕ) (from at n k : ℕ) → k < n → from + n ≤ length text → at + k < length old
+    → set (paste old at (take n (drop from text)) k) (at + k) (get_or text (from + k) 0) ≡ paste old at (take n (drop from text)) (k + 1)
+run_more text old from at n k below inside room =
+    let some : k < length (take n (drop from text)) = rw (length-take-le n (drop from text) (rw length-drop (omega arith))) below in
+    let byte : get_or text (from + k) 0 ≡ get_or (take n (drop from text)) k 0 = sym (get_or-drop from text k 0) ∙ sym (get_or-take n (drop from text) k 0 below) in
+    ap (set (paste old at (take n (drop from text)) k) (at + k)) byte ∙ paste_more old at (take n (drop from text)) k 0 room some
 
 -- past all that is counted nothing is stored, and the place stays one that is past
 pub run_past : {old : List ℕ} (at : ℕ) (bytes : List ℕ) → length old < full → full ≤ at → Wrote old at bytes old at

@@ -1,6 +1,7 @@
 -- What functions that write to a lent output promise. Assumes nothing: these are definitions.
-use Rattle.std.specs.Prelude.{ℕ, ◌+◌, ◌≤◌, ◌<◌, ◌≡◌, List, length}
+use Rattle.std.specs.Prelude.{ℕ, ◌+◌, ◌≤◌, ◌<◌, ◌≡◌, List, length, Option, Some, None, cond, eqb}
 use Rattle.std.proofs.lemmas.List.Edits.{sets}
+use Rattle.text.specs.Writing.{short_of}
 
 -- where counting stops: no lent output has so many bytes
 abbrev pub full : ℕ
@@ -16,3 +17,7 @@ pub record Wrote (old : List ℕ) (at : ℕ) (bytes new : List ℕ) (r : ℕ) : 
   pub to : CountedPlace (at + length bytes) r
   pub out : new ≡ sets old at bytes
   pub fits : length old < full
+
+-- the letter of a byte's short escape, if it has one
+abbrev pub short_escape : ℕ → Option ℕ
+short_escape b = cond (eqb (short_of b) 0) None (Some (short_of b))

@@ -1,9 +1,11 @@
 // Bytes for a lent output (docs/RULES.md, 6.7): each is counted, and stored where it fits. So the count says how long the output has to be.
-ghost use Rattle.std.specs.Prelude.{◌≡◌, cond, [], ◌∷◌, ◌<◌, ltb};
+ghost use Rattle.std.specs.Prelude.{◌≡◌, cond, [], ◌∷◌, ◌<◌};
 ghost use Rattle.std.proofs.lemmas.List.Edits.{sets};
 ghost use Rattle.laws.specs.Lists.{part_of, RunIn};
-ghost use Rattle.text.specs.Writing.{comma, small_hex, short_of, spelled_byte, coded};
-ghost use Rattle.output.specs.Written.{Wrote};
+ghost use Rattle.text.specs.Tree.{square, curly};
+ghost use Rattle.text.specs.Grammar.{opening, closing};
+ghost use Rattle.text.specs.Writing.{comma, small_hex, spelled_byte, coded};
+ghost use Rattle.output.specs.Written.{Wrote, short_escape};
 
 // Counting stops here: no lent output has so many bytes.
 pub const FULL: usize = 9223372036854775808;
@@ -22,13 +24,6 @@ pub fn put_byte(out: &mut [u8], at: usize, b: u8) -> usize
     at + 1
 }
 
-// The smaller of two numbers.
-fn smaller(a: usize, b: usize) -> usize
-    ensures { result ≡ cond (ltb a b) a b }
-{
-    if a < b { a } else { b }
-}
-
 // Stores the bytes of a text from one place up to another, as far as there is room: one run, whose end is known before it begins.
 fn store_run(text: &[u8], from: usize, to: usize, out: &mut [u8], at: usize)
     requires { RunIn text.now from to }
@@ -37,13 +32,9 @@ fn store_run(text: &[u8], from: usize, to: usize, out: &mut [u8], at: usize)
     if out.len() <= at {
         return;
     }
-    let stop = from + smaller(to - from, out.len() - at);
-    let mut i = from;
-    let mut p = at;
-    while i < stop {
-        out[p] = text[i];
-        i += 1;
-        p += 1;
+    let n = (to - from).min(out.len() - at);
+    for k in 0..n {
+        out[at + k] = text[from + k];
     }
 }
 
@@ -51,13 +42,7 @@ fn store_run(text: &[u8], from: usize, to: usize, out: &mut [u8], at: usize)
 pub fn put_run(text: &[u8], from: usize, to: usize, out: &mut [u8], at: usize) -> usize
     ensures { Wrote out.old at (part_of text.now from to) out.new result }
 {
-    if text.len() < to {
-        return at;
-    }
-    if to <= from {
-        return at;
-    }
-    if FULL <= at {
+    if text.len() < to || to <= from || FULL <= at {
         return at;
     }
     store_run(text, from, to, out, at);
@@ -74,19 +59,33 @@ pub fn put_comma(first: bool, out: &mut [u8], at: usize) -> usize
     put_byte(out, at, b',')
 }
 
-// The letter of a byte's short escape, or 0.
-fn short_of(b: u8) -> u8
-    ensures { result ≡ short_of b }
+// The opening bracket of an object, or else of an array.
+pub fn open_of(object: bool) -> u8
+    ensures { result ≡ opening (cond object curly square) }
+{
+    if object { b'{' } else { b'[' }
+}
+
+// The closing one.
+pub fn close_of(object: bool) -> u8
+    ensures { result ≡ closing (cond object curly square) }
+{
+    if object { b'}' } else { b']' }
+}
+
+// The letter of a byte's short escape, if it has one.
+fn short_of(b: u8) -> Option<u8>
+    ensures { result ≡ short_escape b }
 {
     match b {
-        b'"' => b'"',
-        b'\\' => b'\\',
-        8 => b'b',
-        b'\t' => b't',
-        b'\n' => b'n',
-        12 => b'f',
-        b'\r' => b'r',
-        _ => 0,
+        b'"' => Some(b'"'),
+        b'\\' => Some(b'\\'),
+        8 => Some(b'b'),
+        b'\t' => Some(b't'),
+        b'\n' => Some(b'n'),
+        12 => Some(b'f'),
+        b'\r' => Some(b'r'),
+        _ => None,
     }
 }
 
@@ -115,8 +114,7 @@ fn put_coded(b: u8, out: &mut [u8], at: usize) -> usize
 pub fn put_spelled_byte(b: u8, out: &mut [u8], at: usize) -> usize
     ensures { Wrote out.old at (spelled_byte b) out.new result }
 {
-    let short = short_of(b);
-    if short != 0 {
+    if let Some(short) = short_of(b) {
         let p = put_byte(out, at, b'\\');
         return put_byte(out, p, short);
     }

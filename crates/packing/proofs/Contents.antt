@@ -2,6 +2,9 @@
 --     text-told, text-tested       UTF-8 of characters that a string may hold
 --     number-told, number-tested   one number of the grammar
 -- Assumes nothing.
+use Rattle.std.specs.Prelude.{Option, Some, None, Result, Ok, Err}
+use Rattle.text.specs.declared.Fault.{Fault}
+use Rattle.text.specs.declared.Fault.TheVariants.{Malformed, Forbidden}
 use mathlib.Core.Path.{◌≡◌, refl, sym, ap, ap₂, subst, ◌∙◌}
 use mathlib.Core.List.{List, [], ◌∷◌, ◌++◌}
 use mathlib.Core.Bool.{Bool, true, false}
@@ -22,10 +25,6 @@ use Rattle.text.specs.Tokens.{number_at}
 use Rattle.text.specs.Utf8.{utf8}
 use Rattle.text.specs.Spelling.{Spell, raw, short, unit, pair, utf8s}
 use Rattle.text.specs.Grammar.{Number, numeral}
-use Rattle.text.specs.declared.Step.{Step}
-use Rattle.text.specs.declared.Step.TheVariants.{Close, Char, Bad2, Bad3}
-use Rattle.text.specs.declared.Token.{Token}
-use Rattle.text.specs.declared.Token.TheVariants.{End, No2, No3}
 use Rattle.text.proofs.Walks.{Long, long}
 use Rattle.text.proofs.Spelling.Codes.{ascii_good, by_utf8, one_byte}
 use Rattle.text.proofs.Spelling.Taken.{high_step, spelled_step}
@@ -40,11 +39,11 @@ use Rattle.packing.specs.Fields.{on_raw, text_body, text_from, is_text, ends_at,
 
 -- ---- the walk's own equation
 
-raw_later : (k l : ℕ → Bool) (i : ℕ) (s : Step) → Long s → ((j : ℕ) → i < j → k j ≡ l j) → on_raw k i s ≡ on_raw l i s
-raw_later k l i Close h e = refl
-raw_later k l i (Char code n) h e = e (i + n) (omega arith)
-raw_later k l i (Bad2 p) h e = refl
-raw_later k l i (Bad3 p) h e = refl
+raw_later : (k l : ℕ → Bool) (i : ℕ) (s : Result (Option (ℕ × ℕ)) (Fault ℕ)) → Long s → ((j : ℕ) → i < j → k j ≡ l j) → on_raw k i s ≡ on_raw l i s
+raw_later k l i (Ok None) h e = refl
+raw_later k l i (Ok (Some (code, n))) h e = e (i + n) (omega arith)
+raw_later k l i (Err (Malformed p)) h e = refl
+raw_later k l i (Err (Forbidden p)) h e = refl
 
 body_later : (w : List ℕ) (k l : ℕ → Bool) (i : ℕ) → ((j : ℕ) → i < j → k j ≡ l j) → text_body w k i ≡ text_body w l i
 body_later w k l i e =
@@ -97,12 +96,12 @@ module _ (w : List ℕ) (small : AllBelow 256 w) (i : ℕ) (later : (j : ℕ) �
         is = drop_byte w i l ∙ rw (one_byte (byte_at w i) h) (ap (λ (v : List ℕ). byte_at w i ∷ v) r.is);
       }
 
-  high_here : 128 ≤ byte_at w i → byte_at w i < 256 → i < length w → (s : Step) → raw_at w i (byte_at w i) ≡ s → on_raw (text_from w) i s ≡ true → TextAt w i
+  high_here : 128 ≤ byte_at w i → byte_at w i < 256 → i < length w → (s : Result (Option (ℕ × ℕ)) (Fault ℕ)) → raw_at w i (byte_at w i) ≡ s → on_raw (text_from w) i s ≡ true → TextAt w i
   unfolding utf8s
-  high_here h g l Close p q = let z : ◌≡◌ {A = Bool} false true = q in let n : ◌≡◌ {A = ℕ} 0 1 = cc in absurd (omega arith)
-  high_here h g l (Bad2 x) p q = let z : ◌≡◌ {A = Bool} false true = q in let n : ◌≡◌ {A = ℕ} 0 1 = cc in absurd (omega arith)
-  high_here h g l (Bad3 x) p q = let z : ◌≡◌ {A = Bool} false true = q in let n : ◌≡◌ {A = ℕ} 0 1 = cc in absurd (omega arith)
-  high_here h g l (Char c n) p q =
+  high_here h g l (Ok None) p q = let z : ◌≡◌ {A = Bool} false true = q in let n : ◌≡◌ {A = ℕ} 0 1 = cc in absurd (omega arith)
+  high_here h g l (Err (Malformed x)) p q = let z : ◌≡◌ {A = Bool} false true = q in let n : ◌≡◌ {A = ℕ} 0 1 = cc in absurd (omega arith)
+  high_here h g l (Err (Forbidden x)) p q = let z : ◌≡◌ {A = Bool} false true = q in let n : ◌≡◌ {A = ℕ} 0 1 = cc in absurd (omega arith)
+  high_here h g l (Ok (Some (c, n))) p q =
       let a = char_at w i (high_step w i (byte_at w i) refl h g ∙ p) in
       let m = some_bytes a.spelled in
       let s = a.size in
@@ -155,8 +154,8 @@ text_through (c ∷ cs) g w i e =
     (λ h. let f = first_high c h in
     let first : get_or w (i + 0) 256 ≡ byte_at (utf8 c) 0 = there w i (utf8 c) (utf8s cs) e 0 256 f.2 in
     let b : byte_at w i ≡ byte_at (utf8 c) 0 = rw add-zero at first in
-    let s : step_at w i ≡ Char c (length (utf8 c)) = spelled_step w i (raw g.0 (omega arith)) (utf8s cs) e in
-    let r : raw_at w i (byte_at w i) ≡ Char c (length (utf8 c)) = sym (high_step w i (byte_at w i) refl (omega arith) (omega arith)) ∙ s in
+    let s : step_at w i ≡ Ok (Some (c, length (utf8 c))) = spelled_step w i (raw g.0 (omega arith)) (utf8s cs) e in
+    let r : raw_at w i (byte_at w i) ≡ Ok (Some (c, length (utf8 c))) = sym (high_step w i (byte_at w i) refl (omega arith) (omega arith)) ∙ s in
     text_high w i (omega arith) (omega arith) ∙ rw r (text_through cs g.1 w (i + length (utf8 c)) (beyond w i (utf8 c) (utf8s cs) e)))
 
 pub text_tested : (w : List ℕ) → IsText w → is_text w ≡ true
@@ -168,19 +167,19 @@ pub number_told : (w : List ℕ) → is_number w ≡ true → Number w
 unfolding is_number
 number_told w e = go (number_at w 0) ((number_exact w).told 0 (omega arith)) e
   where
-    go : (k : Token) → TokenSays w Number 0 k → ends_at (length w) k ≡ true → Number w
-    go (End to) s q =
+    go : (k : Result ℕ (Fault ℕ)) → TokenSays w Number 0 k → ends_at (length w) k ≡ true → Number w
+    go (Ok to) s q =
         let n : to ≡ length w = eqb-true to (length w) q in
         subst Number (stands_whole (rw n at s.stands)) s.is
-    go (No2 x) s q = let z : ◌≡◌ {A = Bool} false true = q in let n : ◌≡◌ {A = ℕ} 0 1 = cc in absurd (omega arith)
-    go (No3 x) s q = let z : ◌≡◌ {A = Bool} false true = q in let n : ◌≡◌ {A = ℕ} 0 1 = cc in absurd (omega arith)
+    go (Err (Malformed x)) s q = let z : ◌≡◌ {A = Bool} false true = q in let n : ◌≡◌ {A = ℕ} 0 1 = cc in absurd (omega arith)
+    go (Err (Forbidden x)) s q = let z : ◌≡◌ {A = Bool} false true = q in let n : ◌≡◌ {A = ℕ} 0 1 = cc in absurd (omega arith)
 
 pub number_tested : (w : List ℕ) → Number w → is_number w ≡ true
 unfolding is_number
 number_tested w d =
     go (number_at w 0) refl ((number_exact w).follow (length w + 1) 0 w (256 ∷ []) (omega arith) d (record { digits = refl; dots = refl; powers = refl }) like_whole)
   where
-    go : (k : Token) → number_at w 0 ≡ k → TokenFollows (length w + 1) (0 + length w) k → ends_at (length w) k ≡ true
-    go (End to) p g = ⊎_elim (λ e. eq-eqb to (length w) (omega arith)) (λ e. absurd (omega (arith, e.word))) g
-    go (No2 x) p g = absurd (omega (arith, g.word))
-    go (No3 x) p g = absurd (omega (arith, three_text w numeral 0 x p))
+    go : (k : Result ℕ (Fault ℕ)) → number_at w 0 ≡ k → TokenFollows (length w + 1) (0 + length w) k → ends_at (length w) k ≡ true
+    go (Ok to) p g = ⊎_elim (λ e. eq-eqb to (length w) (omega arith)) (λ e. absurd (omega (arith, e.word))) g
+    go (Err (Malformed x)) p g = absurd (omega (arith, g.word))
+    go (Err (Forbidden x)) p g = absurd (omega (arith, three_text w numeral 0 x p))

@@ -1,6 +1,9 @@
 -- What is promised of packing and unpacking (02, Req 12), sentence by sentence: `StoresCards`. It is said of any vault, by what a caller lends and gets back,
 -- in the words of the grammar (`Accepts`), of the format by rules (`PackedAs`) and of values (`SameValue`). proofs/Promise.antt proves it of `vaulted`
 -- (specs/Services.antt), for all limits that refuse repeated names. t and u are texts, f and g trees, p is any bytes. Assumes nothing: these are definitions.
+use Rattle.std.specs.Prelude.{Result}
+use Rattle.packing.specs.declared.PackRefusal.{PackRefusal}
+use Rattle.packing.specs.declared.UnpackRefusal.{UnpackRefusal}
 use Rattle.std.specs.Prelude.{ℕ, ◌+◌, ◌*◌, ◌≤◌, ◌<◌, ◌≡◌, ◌⊎◌, ◌↔◌, List, [], ◌++◌, length, take, replicate}
 use Rattle.laws.specs.Lists.{filled}
 use Rattle.text.specs.Limits.{Limits, row_words}
@@ -18,8 +21,6 @@ use Rattle.packing.specs.Format.{PackedAs}
 use Rattle.packing.specs.Values.{SameValue, SpelledToken}
 use Rattle.packing.specs.Unpackable.{Fits, Unpackable}
 use Rattle.packing.specs.Services.{Packs, Unpacks, Vault}
-use Rattle.packing.specs.declared.Packing.{Packing}
-use Rattle.packing.specs.declared.Unpacking.{Unpacking}
 
 -- ---- how a call ends
 
@@ -78,9 +79,9 @@ pub record StoresCards (L : Limits) (vault : Vault) : Type 0 where
   pub pack_ends : (t : List ℕ) (words room : ℕ) → EndsBy PackLine words room (vault.pack t words room)
   pub unpack_ends : (p : List ℕ) (room : ℕ) → UnpackEnds room (vault.unpack p room)
   -- for every input, answer, table and output are determined: two outcomes that a contract (`Packs`, `Unpacks`) allows are equal
-  pub one_packing : (words room : ℕ) (t : List ℕ) (a b : Packing) (x y o q : List ℕ) → Packs L words room t a x o → Packs L words room t b y q
+  pub one_packing : (words room : ℕ) (t : List ℕ) (a b : Result (ℕ × ℕ) PackRefusal) (x y o q : List ℕ) → Packs L words room t a x o → Packs L words room t b y q
       → (a ≡ b) × (x ≡ y) × (o ≡ q)
-  pub one_unpacking : (room : ℕ) (p : List ℕ) (a b : Unpacking) (o q : List ℕ) → Unpacks L room p a o → Unpacks L room p b q → (a ≡ b) × (o ≡ q)
+  pub one_unpacking : (room : ℕ) (p : List ℕ) (a b : Result (ℕ × ℕ) UnpackRefusal) (o q : List ℕ) → Unpacks L room p a o → Unpacks L room p b q → (a ≡ b) × (o ≡ q)
   -- Packing: any text that reading accepts is packed, if every content fits (that is, if any bytes pack it) and the output has room; ..
   pub packs : (t : List ℕ) (words room : ℕ)
       → Accepted (vault.pack t words room) ↔ ((f : Forest) × (p : List ℕ) × Packable L words t f p × (length p ≤ room))

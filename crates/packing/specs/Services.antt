@@ -1,6 +1,9 @@
 -- Packing a text and unpacking bytes as a caller sees them: the answer, the whole table and the whole output. 12: reading's refusals come first, then 51,
 -- then 52 with the bytes needed; unpacking's are 53, and then 52. Then the contracts of `pack` and `unpack` (crate vault), `Packs` and `Unpacks`; at the end
 -- both as one vault, `vaulted`, of which the promise (specs/Promise.antt) is proved. Assumes nothing: these are definitions.
+use Rattle.std.specs.Prelude.{Result, Ok, Err}
+use Rattle.packing.specs.declared.UnpackRefusal.{UnpackRefusal}
+use Rattle.packing.specs.declared.UnpackRefusal.TheVariants.{NotPacked, TooShort}
 use Rattle.std.specs.Prelude.{ℕ, ◌≡◌, List, [], cond, length, ltb}
 use Rattle.std.proofs.Math.Option.{Option, none, some}
 use Rattle.laws.specs.Lists.{filled}
@@ -17,11 +20,6 @@ use Rattle.packing.specs.Packed.{packed, widest, widest_allowed}
 use Rattle.packing.specs.Unpacked.{unpacked}
 use Rattle.packing.specs.declared.PackRefusal.{PackRefusal}
 use Rattle.packing.specs.declared.PackRefusal.TheVariants.{Given, Wide, Short}
-use Rattle.packing.specs.declared.Packing.{Packing}
-use Rattle.packing.specs.declared.Packing.TheVariants.{Packed, Denied}
-use Rattle.packing.specs.declared.Unpacking.{Unpacking}
-use Rattle.packing.specs.declared.Unpacking.TheVariants.{Unpacked, NotPacked}
-use Rattle.packing.specs.declared.Unpacking.TheVariants as unpacking
 
 -- ---- packing
 
@@ -44,9 +42,9 @@ unfoldable pub pack_of : Limits → (words room : ℕ) → List ℕ → Stored
 pack_of L words room t = pack_read room t (whole_of L words t)
 
 -- the answer: the row count and the bytes written, or the refusal
-unfoldable pub answer_of_stored : Stored → Packing
-answer_of_stored (stored f p) = Packed (size f) (length p)
-answer_of_stored (unstored r) = Denied r
+unfoldable pub answer_of_stored : Stored → Result (ℕ × ℕ) PackRefusal
+answer_of_stored (stored f p) = Ok (size f, length p)
+answer_of_stored (unstored r) = Err r
 
 -- the refusal on paper
 unfoldable pub refused_packing : PackRefusal → Paper
@@ -55,9 +53,9 @@ refused_packing Wide = numbers 51 0 0
 refused_packing (Short needed) = numbers 52 needed 0
 
 -- the answer on paper: 0, the row count and the bytes written; or the refusal's two numbers
-unfoldable pub paper_of_packing : Packing → Paper
-paper_of_packing (Packed rows n) = numbers 0 rows n
-paper_of_packing (Denied r) = refused_packing r
+unfoldable pub paper_of_packing : Result (ℕ × ℕ) PackRefusal → Paper
+paper_of_packing (Ok (rows, n)) = numbers 0 rows n
+paper_of_packing (Err r) = refused_packing r
 
 -- the whole table: the rows and zero after them; after a refusal zero
 unfoldable pub table_of_stored : (words : ℕ) → Stored → List ℕ
@@ -87,16 +85,20 @@ unfoldable pub unpack_of : Limits → (room : ℕ) → List ℕ → Restored
 unpack_of L room p = unpack_doc room (unpacked L p)
 
 -- the answer: the number of values and the bytes written, or the refusal
-unfoldable pub answer_of_restored : Restored → Unpacking
-answer_of_restored (restored values t) = Unpacked values (length t)
-answer_of_restored not_packed = NotPacked
-answer_of_restored (short needed) = unpacking.Short needed
+unfoldable pub answer_of_restored : Restored → Result (ℕ × ℕ) UnpackRefusal
+answer_of_restored (restored values t) = Ok (values, length t)
+answer_of_restored not_packed = Err NotPacked
+answer_of_restored (short needed) = Err (TooShort needed)
+
+-- the refusal on paper: 53 has no place
+abbrev pub refused_unpacking : UnpackRefusal → Paper
+refused_unpacking NotPacked = numbers 53 0 0
+refused_unpacking (TooShort needed) = numbers 52 needed 0
 
 -- the answer on paper: 0, the number of values and the bytes written; or the refusal's two numbers
-unfoldable pub paper_of_unpacking : Unpacking → Paper
-paper_of_unpacking (Unpacked values n) = numbers 0 values n
-paper_of_unpacking NotPacked = numbers 53 0 0
-paper_of_unpacking (unpacking.Short needed) = numbers 52 needed 0
+unfoldable pub paper_of_unpacking : Result (ℕ × ℕ) UnpackRefusal → Paper
+paper_of_unpacking (Ok (values, n)) = numbers 0 values n
+paper_of_unpacking (Err r) = refused_unpacking r
 
 -- the whole output: the text and zero after it; after a refusal zero
 unfoldable pub output_of_restored : (room : ℕ) → Restored → List ℕ
@@ -107,13 +109,13 @@ output_of_restored room (short needed) = filled room []
 -- ---- contracts
 
 -- what packing's contract says of an answer, and of what is left in a table of so many words and an output of so many bytes
-pub record Packs (L : Limits) (words room : ℕ) (t : List ℕ) (answer : Packing) (table output : List ℕ) : Type 0 where
+pub record Packs (L : Limits) (words room : ℕ) (t : List ℕ) (answer : Result (ℕ × ℕ) PackRefusal) (table output : List ℕ) : Type 0 where
   pub answered : answer ≡ answer_of_stored (pack_of L words room t)
   pub left : table ≡ table_of_stored words (pack_of L words room t)
   pub bytes : output ≡ output_of_stored room (pack_of L words room t)
 
 -- what unpacking's contract says of an answer, and of what is left in an output of so many bytes
-pub record Unpacks (L : Limits) (room : ℕ) (p : List ℕ) (answer : Unpacking) (output : List ℕ) : Type 0 where
+pub record Unpacks (L : Limits) (room : ℕ) (p : List ℕ) (answer : Result (ℕ × ℕ) UnpackRefusal) (output : List ℕ) : Type 0 where
   pub answered : answer ≡ answer_of_restored (unpack_of L room p)
   pub bytes : output ≡ output_of_restored room (unpack_of L room p)
 

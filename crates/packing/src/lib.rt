@@ -1,28 +1,32 @@
-// What packing and unpacking answer (docs/RULES.md, 10). There is no code here: the definitions of specs/ name these types, and the contracts of crate vault
-// cite the definitions.
+// What packing and unpacking answer (docs/RULES.md, 10). The definitions of specs/ name these types, and the contracts of crate vault cite the definitions.
+// There is no code here but what makes one answer of another.
 #![tactic(auto)]
+
+ghost use Rattle.std.specs.Prelude.{◌≡◌};
+ghost use Rattle.packing.specs.declared.PackRefusal.TheVariants.{Given};
 
 use text::Refusal;
 
 // Why a text isn't packed: reading's refusal; 51, a content that is too long; 52, an output that is too short, with the bytes needed.
-#[derive(Clone, Copy)]
+#[derive(Clone, Copy, Debug, PartialEq, Eq)]
 pub enum PackRefusal {
     Given(Refusal),
     Wide,
     Short(usize),
 }
 
-// What packing answers: the number of rows and of bytes, or the refusal.
-#[derive(Clone, Copy)]
-pub enum Packing {
-    Packed(usize, usize),
-    Denied(PackRefusal),
+// A text that isn't read isn't packed.
+impl From<Refusal> for PackRefusal {
+    ghost from_gives = { λ refusal r. r ≡ Given refusal };
+
+    fn from(refusal: Refusal) -> PackRefusal {
+        PackRefusal::Given(refusal)
+    }
 }
 
-// What unpacking answers: the number of values and of bytes; 53, that nothing packs to this; or 52, with the bytes needed.
-#[derive(Clone, Copy)]
-pub enum Unpacking {
-    Unpacked(usize, usize),
+// Why bytes aren't unpacked: 53, nothing packs to these; or 52, an output that is too short, with the bytes needed.
+#[derive(Clone, Copy, Debug, PartialEq, Eq)]
+pub enum UnpackRefusal {
     NotPacked,
-    Short(usize),
+    TooShort(usize),
 }

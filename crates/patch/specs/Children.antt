@@ -1,4 +1,5 @@
 -- The names of members by their rows, and a member that was looked for. Assumes nothing: these are definitions.
+use Rattle.std.specs.Prelude.{Option, Some, None}
 use Rattle.std.specs.Prelude.{ℕ, ◌+◌, ◌≤◌, ◌≡◌, List}
 use Rattle.std.proofs.Math.Option.{none}
 use Rattle.laws.specs.Lists.{part_of}
@@ -8,8 +9,6 @@ use Rattle.text.specs.Strings.{name_of}
 use Rattle.text.specs.Doc.{Name, object, members_of, doc_of}
 use Rattle.json_reader.specs.Rows.{name_start_in, name_end_in}
 use Rattle.json_reader.specs.Lookup.{KnownAt, Standing}
-use Rattle.json_reader.specs.declared.lookup.Found.{Found}
-use Rattle.json_reader.specs.declared.lookup.Found.TheVariants.{Row, Nothing}
 use Rattle.contact.specs.Pointer.{child}
 
 -- ---- names
@@ -36,6 +35,6 @@ pub record ChildAt (t table : List ℕ) (limit row : ℕ) (n : Name) (g : Forest
   pub held : Held table limit m place.found
 
 -- what an answer says of a member
-abbrev pub ChildFound : (t table : List ℕ) → (limit row : ℕ) → Name → Forest → Found → Type 0
-ChildFound t table limit row n g (Row m) = ChildAt t table limit row n g m
-ChildFound t table limit row n g Nothing = child n (doc_of t g) ≡ none
+abbrev pub ChildFound : (t table : List ℕ) → (limit row : ℕ) → Name → Forest → Option ℕ → Type 0
+ChildFound t table limit row n g (Some m) = ChildAt t table limit row n g m
+ChildFound t table limit row n g None = child n (doc_of t g) ≡ none

@@ -1,5 +1,7 @@
 -- Which of the conditions 22 to 26 the listed entries break first, and the key that breaks it: the smallest in byte order, named by its place.
 -- Assumes nothing: these are definitions.
+use Rattle.std.specs.Prelude.{Option, Some, None, Result, Ok, Err}
+use Rattle.contact.specs.declared.LocalRefusal.{LocalRefusal}
 use Rattle.std.specs.Prelude.{ℕ, zero, suc, ◌+◌, ◌-◌, ◌≤◌, ◌<◌, ◌≡◌, Bool, false, cond, List, eqb, leb, get_or}
 use Rattle.laws.specs.Order.{before}
 use Rattle.laws.specs.Sorting.{Sorted}
@@ -12,10 +14,6 @@ use Rattle.contact.specs.Localize.{key_refusal}
 use Rattle.pointers.specs.Pointers.{strip}
 use Rattle.patch.specs.declared.conditions.Fault.{Fault}
 use Rattle.patch.specs.declared.conditions.Fault.TheVariants.{Tilde, Own, Clash, InArray, NoObject}
-use Rattle.patch.specs.declared.conditions.Named.{Named}
-use Rattle.patch.specs.declared.conditions.Named.TheVariants.{Nothing, Row}
-use Rattle.patch.specs.declared.conditions.Condition.{Condition}
-use Rattle.patch.specs.declared.conditions.Condition.TheVariants.{Kept, Broken}
 use Rattle.patch.specs.Children.{key_at}
 use Rattle.patch.specs.Entries.{Listed}
 use Rattle.patch.specs.Neighbours.{keys_of, key_order}
@@ -55,13 +53,13 @@ at_fault NoObject t table rows n walks i = eqb (get_or walks i 0) (walk_code no_
 -- ---- the smallest key
 
 -- a row, or the best so far if its key stands before the row's
-abbrev pub smaller_row : (t table : List ℕ) → (row : ℕ) → (best : Named) → Named
-smaller_row t table row Nothing = Row row
-smaller_row t table row (Row best) = cond (before (key_at t table best) (key_at t table row)) (Row best) (Row row)
+abbrev pub smaller_row : (t table : List ℕ) → (row : ℕ) → (best : Option ℕ) → Option ℕ
+smaller_row t table row None = Some row
+smaller_row t table row (Some best) = cond (before (key_at t table best) (key_at t table row)) (Some best) (Some row)
 
 -- of the k entries from i on, those at fault: the row whose key is the smallest
-unfoldable pub least_row : Fault → (t table rows : List ℕ) → (n : ℕ) → (walks : List ℕ) → (i k : ℕ) → Named
-least_row fault t table rows n walks i zero = Nothing
+unfoldable pub least_row : Fault → (t table rows : List ℕ) → (n : ℕ) → (walks : List ℕ) → (i k : ℕ) → Option ℕ
+least_row fault t table rows n walks i zero = None
 least_row fault t table rows n walks i (suc k) =
     let later = least_row fault t table rows n walks (i + 1) k in
     cond (at_fault fault t table rows n walks i) (smaller_row t table (get_or rows i 0) later) later
@@ -81,12 +79,12 @@ abbrev pub quote_in : (table : List ℕ) → (row : ℕ) → ℕ
 quote_in table row = name_start_in table row - 1
 
 -- kept if no row is named; else broken by the row's key
-abbrev pub condition_by : (table : List ℕ) → Fault → Named → Condition
-condition_by table fault Nothing = Kept
-condition_by table fault (Row row) = Broken (key_refusal (number_of fault) (quote_in table row))
+abbrev pub condition_by : (table : List ℕ) → Fault → Option ℕ → Result Unit LocalRefusal
+condition_by table fault None = Ok tt
+condition_by table fault (Some row) = Err (key_refusal (number_of fault) (quote_in table row))
 
 -- so of the first n entries, for one fault
-abbrev pub one_condition : Fault → (t table rows : List ℕ) → (n : ℕ) → (walks : List ℕ) → Condition
+abbrev pub one_condition : Fault → (t table rows : List ℕ) → (n : ℕ) → (walks : List ℕ) → Result Unit LocalRefusal
 one_condition fault t table rows n walks = condition_by table fault (least_row fault t table rows n walks 0 n)
 
 -- ---- in the words of `fault_in`
@@ -104,18 +102,18 @@ abbrev pub ListedPlaces : (t table rows : List ℕ) (n : ℕ) (place : Name → 
 ListedPlaces t table rows n place = (i : ℕ) → i < n → place (listed_key t table rows i) ≡ quote_in table (get_or rows i 0)
 
 -- what is found, as the code says it: the key by its place
-abbrev pub condition_of : (place : Name → ℕ) → PatchFault → Condition
-condition_of place all_kept = Kept
-condition_of place (broken_by number key) = Broken (key_refusal number (place key))
+abbrev pub condition_of : (place : Name → ℕ) → PatchFault → Result Unit LocalRefusal
+condition_of place all_kept = Ok tt
+condition_of place (broken_by number key) = Err (key_refusal number (place key))
 
 -- the first of 22, 23 and 24 that the first n entries break, if they are listed in the order of their pointers
-abbrev pub FirstKey : (t table rows : List ℕ) (n : ℕ) → Condition → Type 0
+abbrev pub FirstKey : (t table rows : List ℕ) (n : ℕ) → Result Unit LocalRefusal → Type 0
 FirstKey t table rows n r =
     (place : Name → ℕ) (ms : Members) → Listed t table rows 0 n ms → Sorted key_order (keys_of ms) → ListedPlaces t table rows n place
     → r ≡ condition_of place (key_fault ms)
 
 -- the first of 25 and 26 that they break on a document
-abbrev pub FirstAstray : (t table rows : List ℕ) (n : ℕ) (walks : List ℕ) → Condition → Type 0
+abbrev pub FirstAstray : (t table rows : List ℕ) (n : ℕ) (walks : List ℕ) → Result Unit LocalRefusal → Type 0
 FirstAstray t table rows n walks r =
     (place : Name → ℕ) (d : Doc) (ms : Members) → Listed t table rows 0 n ms → ListedPlaces t table rows n place → Walked t table rows walks 0 n 0 d
     → r ≡ condition_of place (walk_fault d ms)

@@ -1,4 +1,5 @@
 -- What is written of a card for a language, before it is judged again; and what the functions that write it promise. Assumes nothing: these are definitions.
+use Rattle.std.specs.Prelude.{Result, Ok, Err}
 use Rattle.std.specs.Prelude.{ℕ, ◌≤◌, ◌<◌, ◌≡◌, List, [], true, cond, ltb, length}
 use Rattle.std.proofs.Math.Option.{Option, none, some}
 use Rattle.std.proofs.lemmas.List.Edits.{sets}
@@ -25,10 +26,6 @@ use Rattle.patch.specs.Conditions.{ListedPlaces, condition_of, key_fault, walk_f
 use Rattle.patch.specs.Marks.{ShortKeys}
 use Rattle.patch.specs.Tails.{BeginAlike}
 use Rattle.patch.specs.Patched.{Said, BaseAt}
-use Rattle.patch.specs.declared.conditions.Condition.{Condition}
-use Rattle.patch.specs.declared.conditions.Condition.TheVariants.{Kept, Broken}
-use Rattle.patch.specs.declared.compose.Attempt.{Attempt}
-use Rattle.patch.specs.declared.compose.Attempt.TheVariants.{Bytes, Refused}
 
 -- ---- the draft
 
@@ -38,14 +35,14 @@ pub data Draft : Type 0 where
   refusal : LocalRefusal → (tried : List ℕ) → Draft
 
 -- what is found before anything is written: a key at fault, named by its place, or else what comes then
-abbrev pub unless_broken : Condition → Draft → Draft
-unless_broken Kept later = later
-unless_broken (Broken q) later = refusal q []
+abbrev pub unless_broken : Result Unit LocalRefusal → Draft → Draft
+unless_broken (Ok tt) later = later
+unless_broken (Err q) later = refusal q []
 
 -- what is found while the text is written: it is a draft, unless a key is at fault
-abbrev pub unless_astray : Condition → (text : List ℕ) → Draft
-unless_astray Kept text = draft text
-unless_astray (Broken q) text = refusal q text
+abbrev pub unless_astray : Result Unit LocalRefusal → (text : List ℕ) → Draft
+unless_astray (Ok tt) text = draft text
+unless_astray (Err q) text = refusal q text
 
 -- 22 to 26, of the members of a PatchObject: 22 to 24 ask the keys, 25 and 26 where they lead in the card without its localizations
 abbrev pub entries_draft : (place : Name → ℕ) → Doc → Members → Draft
@@ -85,17 +82,17 @@ Countable card ms =
     NoClash (entries_of ms) → ParentsThere (entries_of ms) (start card) → length (written (patched_doc card ms)) < full
 
 -- so many bytes, if they have room; else 27
-abbrev pub fitting_of : (count room : ℕ) → Attempt
-fitting_of count room = cond (ltb room count) (Refused (Short count)) (Bytes count)
+abbrev pub fitting_of : (count room : ℕ) → Result ℕ LocalRefusal
+fitting_of count room = cond (ltb room count) (Err (Short count)) (Ok count)
 
 -- A draft was written to an output as far as there is room, and the answer tells its length or 27; or its refusal was answered, and what was written before it
 -- was found stands in the output.
-abbrev pub Drafted : Draft → (old new : List ℕ) → Attempt → Type 0
+abbrev pub Drafted : Draft → (old new : List ℕ) → Result ℕ LocalRefusal → Type 0
 Drafted (draft t) old new r = (r ≡ fitting_of (length t) (length old)) × (new ≡ sets old 0 t)
-Drafted (refusal q tried) old new r = (r ≡ Refused q) × (new ≡ sets old 0 tried)
+Drafted (refusal q tried) old new r = (r ≡ Err q) × (new ≡ sets old 0 tried)
 
 -- the card was written as the listed entries leave it, which ascend and do not clash; or 25 or 26 was found
-abbrev pub PutSorted : (card ctable : List ℕ) → (leave : ℕ) → (text table rows : List ℕ) → (n shared : ℕ) → (old new : List ℕ) → Attempt → Type 0
+abbrev pub PutSorted : (card ctable : List ℕ) → (leave : ℕ) → (text table rows : List ℕ) → (n shared : ℕ) → (old new : List ℕ) → Result ℕ LocalRefusal → Type 0
 PutSorted card ctable leave text table rows n shared old new r =
     (place : Name → ℕ) (g : Forest) (ms : Members) → BaseAt card ctable leave 0 true g → Said text table rows 0 n 0 ms
     → BeginAlike text table rows n shared → ListedPlaces text table rows n place → Countable (doc_of card g) ms
@@ -117,17 +114,17 @@ PlacesOf text entries place = (key : Name) → HasKey key (members_of text entri
 
 -- The card as the PatchObject at a row of a table leaves it was written, or was not. Its names and those of the card are distinct, and its text is so
 -- short that each place in it is a cue.
-abbrev pub Makes : (card ctable : List ℕ) → (leave : ℕ) → (text table : List ℕ) → (patch : ℕ) → (old new : List ℕ) → Attempt → Type 0
+abbrev pub Makes : (card ctable : List ℕ) → (leave : ℕ) → (text table : List ℕ) → (patch : ℕ) → (old new : List ℕ) → Result ℕ LocalRefusal → Type 0
 Makes card ctable leave text table patch old new r =
     (place : Name → ℕ) (g p : Forest) → BaseAt card ctable leave 0 true g → Held table most_entries patch p → DistinctMembers (members_of text (inside_at p))
     → PlacesOf text (inside_at p) place → ShortKeys text → Countable (doc_of card g) (members_of text (inside_at p))
     → Drafted (entries_draft place (doc_of card g) (members_of text (inside_at p))) old new r
 
 -- the same, if the PatchObject has no more entries than this
-abbrev pub MakesUpTo : (most : ℕ) → (card ctable : List ℕ) → (leave : ℕ) → (text table : List ℕ) → (patch : ℕ) → (old new : List ℕ) → Attempt → Type 0
+abbrev pub MakesUpTo : (most : ℕ) → (card ctable : List ℕ) → (leave : ℕ) → (text table : List ℕ) → (patch : ℕ) → (old new : List ℕ) → Result ℕ LocalRefusal → Type 0
 MakesUpTo most card ctable leave text table patch old new r = EntriesUpTo table patch most → Makes card ctable leave text table patch old new r
 
 -- the card as the PatchObject of a language leaves it
-abbrev pub MakesFor : (text table : List ℕ) → (lang : Name) → (old new : List ℕ) → Attempt → Type 0
+abbrev pub MakesFor : (text table : List ℕ) → (lang : Name) → (old new : List ℕ) → Result ℕ LocalRefusal → Type 0
 MakesFor text table lang old new r =
     (f : Forest) → CardIn text table f → Drafted (draft_of (key_place text f lang) (doc_of text f) lang) old new r

@@ -27,16 +27,6 @@ stripped parts (member key label d ms) = entry (strip parts (pointer_of key)) (c
 abbrev pub most_entries : ℕ
 most_entries = base.values
 
--- the sizes of the lists on which fewer are sorted
-abbrev pub few_entries : ℕ
-few_entries = 64
-
-abbrev pub some_entries : ℕ
-some_entries = 640
-
-abbrev pub more_entries : ℕ
-more_entries = 4096
-
 -- how many values there are, not looking inside them
 abbrev pub width : Forest → ℕ
 width T.none = 0

@@ -1,7 +1,7 @@
 -- 24 by neighbours: of entries in the order of their pointers, the smallest key that clashes with the next one. Assumes nothing: these are definitions.
+use Rattle.std.specs.declared.cmp.Ordering.{Ordering}
 use Rattle.std.specs.Prelude.{List, [], ◌∷◌}
 use Rattle.std.proofs.Math.Option.{Option, none}
-use Rattle.laws.specs.declared.Order.{Order}
 use Rattle.text.specs.Doc.{Name, Members, empty, member}
 use Rattle.contact.specs.Pointer.{pointer_of, clash}
 use Rattle.contact.specs.Faults.{smaller_key, key_if}
@@ -13,7 +13,7 @@ keys_of empty = []
 keys_of (member key label d ms) = key ∷ keys_of ms
 
 -- the order of two keys by their pointers
-abbrev pub key_order : (key other : Name) → Order
+abbrev pub key_order : (key other : Name) → Ordering
 key_order key other = pointer_order (pointer_of key) (pointer_of other)
 
 -- the smallest, in byte order, of the keys that clash with the next one

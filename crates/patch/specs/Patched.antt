@@ -1,7 +1,8 @@
 -- An object written as the entries of a patch leave it, member by member: what becomes of a member, what an entry adds, and the bytes of each.
 -- Assumes nothing: these are definitions.
+use Rattle.std.specs.Prelude.{Some, None, Option}
 use Rattle.std.specs.Prelude.{ℕ, ◌+◌, ◌≤◌, ◌<◌, ◌≡◌, Bool, true, false, cond, List, [], ◌∷◌, ◌++◌, eqb, length, get_or}
-use Rattle.std.proofs.Math.Option.{Option, none, some}
+use Rattle.std.proofs.Math.Option.{Option as Maybe, none, some}
 use Rattle.laws.specs.Order.{same}
 use Rattle.text.specs.Text.{bytes}
 use Rattle.text.specs.Tree.{Forest, leaf, node, size}
@@ -25,8 +26,6 @@ use Rattle.patch.specs.Tails.{BeginAlike}
 use Rattle.patch.specs.Conditions.{walk_code, Walked}
 use Rattle.patch.specs.Marks.{met, Around, MetWith, FilledWith, MarkIn, RunCued, ShortKeys, point_at, Waiting, Mark, Marked, Unmet}
 use Rattle.patch.specs.Copied.{head_of, label_in}
-use Rattle.pointers.specs.declared.keys.After.{After}
-use Rattle.pointers.specs.declared.keys.After.TheVariants.{Nothing, At}
 use Rattle.patch.specs.declared.runs.Run.{Run}
 use Rattle.patch.specs.declared.writing.Pen.{Pen}
 
@@ -95,13 +94,13 @@ pub record BaseAt (t table : List ℕ) (leave row : ℕ) (root : Bool) (g : Fore
 -- ---- what becomes of a member
 
 -- by what is said of it, and its value if nothing is: left out, or written with a value
-abbrev pub kept_by : Option Change → Doc → Option Doc
+abbrev pub kept_by : Maybe Change → Doc → Maybe Doc
 kept_by none d = some d
 kept_by (some remove) d = none
 kept_by (some (set v)) d = some v
 
 -- the member n with the value d in an object for which the entries are
-unfoldable pub stays : (root : Bool) → Name → List Entry → Doc → Option Doc
+unfoldable pub stays : (root : Bool) → Name → List Entry → Doc → Maybe Doc
 stays root n es d =
     let said = kept_by (mine n es) (applied d (under n es)) in
     cond (is_out root n) none said
@@ -109,12 +108,12 @@ stays root n es d =
 -- ---- what an entry adds
 
 -- a value is added where no member of its name was found
-abbrev pub freshly : Option Property → Doc → Option Doc
+abbrev pub freshly : Maybe Property → Doc → Maybe Doc
 freshly none v = some v
 freshly (some p) v = none
 
 -- what an entry adds to an object with these members
-abbrev pub adds : Members → Entry → Option Doc
+abbrev pub adds : Members → Entry → Maybe Doc
 adds ms (entry (last n) remove) = none
 adds ms (entry (last n) (set v)) = freshly (seek n ms) v
 adds ms (entry (down n p) c) = none
@@ -135,9 +134,9 @@ is_last (last n) = true
 is_last (down n p) = false
 
 -- the same, of what follows a part
-abbrev pub is_nothing : After → Bool
-is_nothing Nothing = true
-is_nothing (At to) = false
+abbrev pub is_nothing : Option ℕ → Bool
+is_nothing None = true
+is_nothing (Some to) = false
 
 -- is there a first entry, and does its pointer end so?
 abbrev pub ends_first : List Entry → Bool
@@ -156,19 +155,19 @@ stray_of kind = cond (eqb kind 6) 1 2
 -- ---- the bytes of one member
 
 -- the bytes of a member that is written, or none
-abbrev pub piece : Option Doc → (first : Bool) → (label : List ℕ) → List ℕ
+abbrev pub piece : Maybe Doc → (first : Bool) → (label : List ℕ) → List ℕ
 piece none first label = []
 piece (some d) first label = head_of 7 first label ++ written d
 
 -- is the next one the first?
-abbrev pub since : Option Doc → (first : Bool) → Bool
+abbrev pub since : Maybe Doc → (first : Bool) → Bool
 since none first = first
 since (some d) first = false
 
 -- ---- contracts
 
 -- one member was written, or none
-pub record Passed (old : List ℕ) (from : Pen) (o : Option Doc) (label new : List ℕ) (r : Pen) : Type 0 where
+pub record Passed (old : List ℕ) (from : Pen) (o : Maybe Doc) (label new : List ℕ) (r : Pen) : Type 0 where
   pub wrote : Wrote old from.to (piece o from.first label) new r.to
   pub next : r.first ≡ since o from.first
 

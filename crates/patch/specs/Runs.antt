@@ -1,8 +1,8 @@
 -- Entries in ascending order of which none is a prefix of another, and the place at which a run of them is parted by a name. Assumes nothing: these are definitions.
+use Rattle.std.specs.declared.cmp.Ordering.{Ordering}
+use Rattle.std.specs.declared.cmp.Ordering.TheVariants.{Less, Equal, Greater}
 use Rattle.std.specs.Prelude.{ℕ, ◌+◌, ◌/◌, ◌≤◌, ◌<◌, ◌≡◌, Bool, true, false, cond, List, [], ◌∷◌, leb, ltb}
 use Rattle.laws.specs.Order.{order_of}
-use Rattle.laws.specs.declared.Order.{Order}
-use Rattle.laws.specs.declared.Order.TheVariants.{Less, Same, More}
 use Rattle.text.specs.Doc.{Name, Members, empty, member}
 use Rattle.contact.specs.Pointer.{Pointer, first_part, clash}
 use Rattle.contact.specs.Patch.{Change, Entry, entry}
@@ -27,10 +27,10 @@ pub data InOrder : List Entry → Type 0 where
 -- ---- a run parted by a name
 
 -- by the order of an entry's first part and the name: is the entry before the place? Those of the very name are, if the place is past them
-abbrev pub stands_before : (past : Bool) → Order → Bool
+abbrev pub stands_before : (past : Bool) → Ordering → Bool
 stands_before past Less = true
-stands_before past Same = past
-stands_before past More = false
+stands_before past Equal = past
+stands_before past Greater = false
 
 -- the entries stand all on one side of the place: before it, or not before it
 pub data Side (past : Bool) (n : Name) (is : Bool) : List Entry → Type 0 where

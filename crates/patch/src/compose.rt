@@ -1,33 +1,26 @@
 // The localized card (docs/RULES.md, 6), written for a lent output: all entries of the language's PatchObject, or a refusal from 21 to 27.
-ghost use Rattle.std.specs.Prelude.{◌≡◌, ◌<◌, length};
+ghost use Rattle.std.specs.Prelude.{◌≡◌, ◌<◌, ◌≤◌, length};
 ghost use Rattle.patch.specs.Patched.{RunAsks};
-ghost use Rattle.patch.specs.Entries.{few_entries, some_entries, more_entries, most_entries};
+ghost use Rattle.patch.specs.Entries.{most_entries};
 ghost use Rattle.patch.specs.Drafts.{fitting_of, PutSorted, MakeAsks, Makes, MakesUpTo, MakesFor};
 
 use crate::children::child_row;
-use crate::conditions::{Condition, first_astray, first_key};
+use crate::conditions::{first_astray, first_key};
 use crate::entries::{FEW_ENTRIES, MORE_ENTRIES, MOST_ENTRIES, SOME_ENTRIES, collect, count};
 use crate::sort::{common, sort};
 use crate::writing::put_card;
 use contact::LocalRefusal;
-use json_reader::lookup::{Found, next_row};
+use json_reader::lookup::next_row;
 use json_reader::rows::{OBJECT, kind};
 
-// So many bytes were written, or nothing that counts.
-#[derive(Clone, Copy)]
-pub enum Attempt {
-    Bytes(usize),
-    Refused(LocalRefusal),
-}
-
 // So many bytes, if they have room; else 27.
-fn fitting(count: usize, room: usize) -> Attempt
+fn fitting(count: usize, room: usize) -> Result<usize, LocalRefusal>
     ensures { result ≡ fitting_of count room }
 {
     if room < count {
-        return Attempt::Refused(LocalRefusal::Short(count));
+        return Err(LocalRefusal::Short(count));
     }
-    Attempt::Bytes(count)
+    Ok(count)
 }
 
 // The card written as the sorted entries leave it, which do not clash and whose keys begin alike up to `shared`; unless 25, 26 or 27 is broken. What was
@@ -44,16 +37,14 @@ fn put_sorted(
     n: usize,
     out: &mut [u8],
     shared: usize,
-) -> Attempt
+) -> Result<usize, LocalRefusal>
     requires { RunAsks rows.now cues.old walks.old 0 n }
     ensures { PutSorted card.now card_table.now leave text.now table.now rows.now n shared out.old out.new result }
 {
     let count = put_card(
         card, card_table, leave, text, table, rows, cues, walks, n, out, shared,
     );
-    if let Condition::Broken(r) = first_astray(text, table, rows, n, walks) {
-        return Attempt::Refused(r);
-    }
+    first_astray(text, table, rows, n, walks)?;
     fitting(count, out.len())
 }
 
@@ -70,7 +61,7 @@ fn compose_on(
     cues: &mut [u32],
     walks: &mut [u8],
     out: &mut [u8],
-) -> Attempt
+) -> Result<usize, LocalRefusal>
     requires { MakeAsks table.now patch rows.old cues.old walks.old }
     ensures { MakesUpTo (length rows.old) card.now card_table.now leave text.now table.now patch out.old out.new result }
 {
@@ -79,59 +70,15 @@ fn compose_on(
     let n = collect(table, first, end, rows);
     let shared = common(text, table, rows, n);
     sort(text, table, shared, rows, cues, 0, n);
-    if let Condition::Broken(r) = first_key(text, table, rows, n) {
-        return Attempt::Refused(r);
-    }
+    first_key(text, table, rows, n)?;
     put_sorted(
         card, card_table, leave, text, table, rows, cues, walks, n, out, shared,
     )
 }
 
-// The same, on lists for few entries.
-fn compose_few(
-    card: &[u8],
-    card_table: &[u32],
-    leave: usize,
-    text: &[u8],
-    table: &[u32],
-    patch: usize,
-    out: &mut [u8],
-) -> Attempt
-    requires { patch < length table.now }
-    ensures { MakesUpTo few_entries card.now card_table.now leave text.now table.now patch out.old out.new result }
-{
-    let mut rows = [0u32; FEW_ENTRIES];
-    let mut cues = [0u32; FEW_ENTRIES];
-    let mut walks = [0u8; FEW_ENTRIES];
-    compose_on(
-        card, card_table, leave, text, table, patch, &mut rows, &mut cues, &mut walks, out,
-    )
-}
-
-// The same, on lists for all entries that a short text can have.
-fn compose_some(
-    card: &[u8],
-    card_table: &[u32],
-    leave: usize,
-    text: &[u8],
-    table: &[u32],
-    patch: usize,
-    out: &mut [u8],
-) -> Attempt
-    requires { patch < length table.now }
-    ensures { MakesUpTo some_entries card.now card_table.now leave text.now table.now patch out.old out.new result }
-{
-    let mut rows = [0u32; SOME_ENTRIES];
-    let mut cues = [0u32; SOME_ENTRIES];
-    let mut walks = [0u8; SOME_ENTRIES];
-    compose_on(
-        card, card_table, leave, text, table, patch, &mut rows, &mut cues, &mut walks, out,
-    )
-}
-
-// The same, on lists for more. It becomes part of no other function: so these arrays are in no frame but its own.
+// The same, on lists for N entries. It becomes part of no other function: so these arrays are in no frame but its own.
 #[inline(never)]
-fn compose_more(
+fn compose_in<const N: usize>(
     card: &[u8],
     card_table: &[u32],
     leave: usize,
@@ -139,48 +86,19 @@ fn compose_more(
     table: &[u32],
     patch: usize,
     out: &mut [u8],
-) -> Attempt
-    requires { patch < length table.now }
-    ensures { MakesUpTo more_entries card.now card_table.now leave text.now table.now patch out.old out.new result }
+) -> Result<usize, LocalRefusal>
+    requires { (patch < length table.now) × (N ≤ most_entries) }
+    ensures { MakesUpTo N card.now card_table.now leave text.now table.now patch out.old out.new result }
 {
-    if table.len() <= patch {
-        return compose_more(card, card_table, leave, text, table, patch, out);
-    }
-    let mut rows = [0u32; MORE_ENTRIES];
-    let mut cues = [0u32; MORE_ENTRIES];
-    let mut walks = [0u8; MORE_ENTRIES];
-    compose_on(
-        card, card_table, leave, text, table, patch, &mut rows, &mut cues, &mut walks, out,
-    )
-}
-
-// The same, on lists for as many entries as there can be, in a frame of their own too.
-#[inline(never)]
-fn compose_many(
-    card: &[u8],
-    card_table: &[u32],
-    leave: usize,
-    text: &[u8],
-    table: &[u32],
-    patch: usize,
-    out: &mut [u8],
-) -> Attempt
-    requires { patch < length table.now }
-    ensures { MakesUpTo most_entries card.now card_table.now leave text.now table.now patch out.old out.new result }
-{
-    if table.len() <= patch {
-        return compose_many(card, card_table, leave, text, table, patch, out);
-    }
-    let mut rows = [0u32; MOST_ENTRIES];
-    let mut cues = [0u32; MOST_ENTRIES];
-    let mut walks = [0u8; MOST_ENTRIES];
+    let mut rows = [0u32; N];
+    let mut cues = [0u32; N];
+    let mut walks = [0u8; N];
     compose_on(
         card, card_table, leave, text, table, patch, &mut rows, &mut cues, &mut walks, out,
     )
 }
 
 // The same, on lists sized by the number of entries, which are closed before what was written is judged.
-#[inline(never)]
 fn compose(
     card: &[u8],
     card_table: &[u32],
@@ -189,38 +107,41 @@ fn compose(
     table: &[u32],
     patch: usize,
     out: &mut [u8],
-) -> Attempt
+) -> Result<usize, LocalRefusal>
     requires { patch < length table.now }
     ensures { Makes card.now card_table.now leave text.now table.now patch out.old out.new result }
 {
-    if table.len() <= patch {
-        return compose(card, card_table, leave, text, table, patch, out);
+    match count(table, patch + 1, next_row(table, patch)) {
+        0..=FEW_ENTRIES => {
+            compose_in::<FEW_ENTRIES>(card, card_table, leave, text, table, patch, out)
+        }
+        0..=SOME_ENTRIES => {
+            compose_in::<SOME_ENTRIES>(card, card_table, leave, text, table, patch, out)
+        }
+        0..=MORE_ENTRIES => {
+            compose_in::<MORE_ENTRIES>(card, card_table, leave, text, table, patch, out)
+        }
+        _ => compose_in::<MOST_ENTRIES>(card, card_table, leave, text, table, patch, out),
     }
-    let n = count(table, patch + 1, next_row(table, patch));
-    if n <= FEW_ENTRIES {
-        return compose_few(card, card_table, leave, text, table, patch, out);
-    }
-    if n <= SOME_ENTRIES {
-        return compose_some(card, card_table, leave, text, table, patch, out);
-    }
-    if n <= MORE_ENTRIES {
-        return compose_more(card, card_table, leave, text, table, patch, out);
-    }
-    compose_many(card, card_table, leave, text, table, patch, out)
 }
 
 // The card as the PatchObject that it has for a language leaves it.
-pub fn compose_for(text: &[u8], table: &[u32], language: &[u8], out: &mut [u8]) -> Attempt
+pub fn compose_for(
+    text: &[u8],
+    table: &[u32],
+    language: &[u8],
+    out: &mut [u8],
+) -> Result<usize, LocalRefusal>
     ensures { MakesFor text.now table.now language.now out.old out.new result }
 {
-    let Found::Row(all) = child_row(text, table, 0, b"localizations") else {
-        return Attempt::Refused(LocalRefusal::NoLanguage);
+    let Some(all) = child_row(text, table, 0, b"localizations") else {
+        return Err(LocalRefusal::NoLanguage);
     };
-    let Found::Row(patch) = child_row(text, table, all, language) else {
-        return Attempt::Refused(LocalRefusal::NoLanguage);
+    let Some(patch) = child_row(text, table, all, language) else {
+        return Err(LocalRefusal::NoLanguage);
     };
     if kind(table, patch) != OBJECT {
-        return Attempt::Refused(LocalRefusal::NoLanguage);
+        return Err(LocalRefusal::NoLanguage);
     }
     compose(text, table, all, text, table, patch, out)
 }

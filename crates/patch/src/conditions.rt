@@ -11,9 +11,9 @@ use crate::children::key_at;
 use crate::marks::{IN_ARRAY, NO_OBJECT};
 use contact::LocalRefusal;
 use json_reader::rows::name_start;
-use laws::Order;
 use pointers::keys::{clashes, has_bad_tilde, is_own};
 use pointers::parts::name_order;
+use std::cmp::Ordering;
 
 // What a key can be at fault for: 22 to 26.
 #[derive(Clone, Copy)]
@@ -23,20 +23,6 @@ enum Fault {
     Clash,
     InArray,
     NoObject,
-}
-
-// The row of the key that is named, if there is one.
-#[derive(Clone, Copy)]
-enum Named {
-    Nothing,
-    Row(usize),
-}
-
-// All are kept, or one is broken.
-#[derive(Clone, Copy)]
-pub(crate) enum Condition {
-    Kept,
-    Broken(LocalRefusal),
 }
 
 // The key that is listed at i.
@@ -52,10 +38,7 @@ fn listed_key<'a>(text: &'a [u8], table: &[u32], rows: &[u32], i: usize) -> &'a 
 fn walk_at(walks: &[u8], i: usize) -> u8
     ensures { result ≡ get_or walks.now i 0 }
 {
-    if i < walks.len() {
-        return walks[i];
-    }
-    0
+    walks.get(i).copied().unwrap_or(0)
 }
 
 // 24: does the entry at i clash with the next one?
@@ -96,28 +79,33 @@ fn at_fault(
 }
 
 // A row, or the best so far if its key stands before the row's in byte order.
-fn smaller_key(text: &[u8], table: &[u32], row: usize, best: Named) -> Named
+fn smaller_key(text: &[u8], table: &[u32], row: usize, best: Option<usize>) -> Option<usize>
     ensures { result ≡ smaller_row text.now table.now row best }
 {
-    let Named::Row(other) = best else {
-        return Named::Row(row);
+    let Some(other) = best else {
+        return Some(row);
     };
     match name_order(key_at(text, table, other), key_at(text, table, row)) {
-        Order::Less => Named::Row(other),
-        Order::Same => Named::Row(row),
-        Order::More => Named::Row(row),
+        Ordering::Less => Some(other),
+        Ordering::Equal => Some(row),
+        Ordering::Greater => Some(row),
     }
 }
 
 // Of the entries at fault the one whose key is the smallest.
-fn least(fault: Fault, text: &[u8], table: &[u32], rows: &[u32], n: usize, walks: &[u8]) -> Named
+fn least(
+    fault: Fault,
+    text: &[u8],
+    table: &[u32],
+    rows: &[u32],
+    n: usize,
+    walks: &[u8],
+) -> Option<usize>
     requires { n ≤ length rows.now }
     ensures { result ≡ least_row fault text.now table.now rows.now n walks.now 0 n }
 {
-    let mut best = Named::Nothing;
-    let mut i = n;
-    while 0 < i {
-        i -= 1;
+    let mut best = None;
+    for i in (0..n).rev() {
         if at_fault(fault, text, table, rows, n, walks, i) {
             let row = rows[i] as usize;
             best = smaller_key(text, table, row, best);
@@ -158,18 +146,24 @@ fn one_condition(
     rows: &[u32],
     n: usize,
     walks: &[u8],
-) -> Condition
+) -> Result<(), LocalRefusal>
     requires { n ≤ length rows.now }
     ensures { result ≡ one_condition fault text.now table.now rows.now n walks.now }
 {
-    let Named::Row(row) = least(fault, text, table, rows, n, walks) else {
-        return Condition::Kept;
+    let Some(row) = least(fault, text, table, rows, n, walks) else {
+        return Ok(());
     };
-    Condition::Broken(refusal(fault, quote_at(table, row)))
+    Err(refusal(fault, quote_at(table, row)))
 }
 
 // The same of 22, 23 or 24, which ask for no walk.
-fn key_condition(fault: Fault, text: &[u8], table: &[u32], rows: &[u32], n: usize) -> Condition
+fn key_condition(
+    fault: Fault,
+    text: &[u8],
+    table: &[u32],
+    rows: &[u32],
+    n: usize,
+) -> Result<(), LocalRefusal>
     requires { n ≤ length rows.now }
     ensures { result ≡ one_condition fault text.now table.now rows.now n [] }
 {
@@ -177,16 +171,17 @@ fn key_condition(fault: Fault, text: &[u8], table: &[u32], rows: &[u32], n: usiz
 }
 
 // The first of 22, 23 and 24 that the entries break, which are listed in the order of their pointers.
-pub(crate) fn first_key(text: &[u8], table: &[u32], rows: &[u32], n: usize) -> Condition
+pub(crate) fn first_key(
+    text: &[u8],
+    table: &[u32],
+    rows: &[u32],
+    n: usize,
+) -> Result<(), LocalRefusal>
     requires { n ≤ length rows.now }
     ensures { FirstKey text.now table.now rows.now n result }
 {
-    if let Condition::Broken(r) = key_condition(Fault::Tilde, text, table, rows, n) {
-        return Condition::Broken(r);
-    }
-    if let Condition::Broken(r) = key_condition(Fault::Own, text, table, rows, n) {
-        return Condition::Broken(r);
-    }
+    key_condition(Fault::Tilde, text, table, rows, n)?;
+    key_condition(Fault::Own, text, table, rows, n)?;
     key_condition(Fault::Clash, text, table, rows, n)
 }
 
@@ -197,12 +192,10 @@ pub(crate) fn first_astray(
     rows: &[u32],
     n: usize,
     walks: &[u8],
-) -> Condition
+) -> Result<(), LocalRefusal>
     requires { n ≤ length rows.now }
     ensures { FirstAstray text.now table.now rows.now n walks.now result }
 {
-    if let Condition::Broken(r) = one_condition(Fault::InArray, text, table, rows, n, walks) {
-        return Condition::Broken(r);
-    }
+    one_condition(Fault::InArray, text, table, rows, n, walks)?;
     one_condition(Fault::NoObject, text, table, rows, n, walks)
 }

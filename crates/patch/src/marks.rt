@@ -7,7 +7,7 @@ ghost use Rattle.patch.specs.Marks.{PlaceWord, MetWord, FilledWith, MetWith, Run
 
 use crate::children::key_at;
 use json_reader::bytes::{SLASH, peek};
-use pointers::keys::{After, after_part};
+use pointers::keys::after_part;
 
 // No card has a key as long as this, nor as many rows.
 pub(crate) const MET: usize = 2147483648;
@@ -44,9 +44,7 @@ fn fill(cues: &mut [u32], lo: usize, hi: usize, w: u32)
     requires { RunIn cues.old lo hi }
     ensures { FilledWith cues.old lo hi w cues.new }
 {
-    for i in lo..hi {
-        cues[i] = w;
-    }
+    cues[lo..hi].fill(w);
 }
 
 // The entries from lo up to hi have met the member at a row.
@@ -63,9 +61,7 @@ pub(crate) fn end_all(walks: &mut [u8], lo: usize, hi: usize, code: u8)
     requires { RunIn walks.old lo hi }
     ensures { FilledWith walks.old lo hi code walks.new }
 {
-    for i in lo..hi {
-        walks[i] = code;
-    }
+    walks[lo..hi].fill(code);
 }
 
 // Where the part after the one at a place of a key begins, as a cue; 0 if there is none.
@@ -73,8 +69,8 @@ fn next_cue(key: &[u8], at: usize) -> u32
     ensures { NextCue key.now at result }
 {
     match after_part(key, at) {
-        After::Nothing => 0,
-        After::At(to) => place_word(to),
+        None => 0,
+        Some(to) => place_word(to),
     }
 }
 

@@ -6,7 +6,7 @@ ghost use Rattle.output.specs.Written.{Wrote};
 ghost use Rattle.pointers.specs.Parts.{part_left};
 ghost use Rattle.patch.specs.Spelled.{spelled_rest};
 
-use json_reader::decode::{Cursor, Next, cursor_at};
+use json_reader::decode::{Cursor, cursor_at};
 use output::put::{put_byte, put_run, put_spelled_byte};
 use pointers::parts::{own_end, part_byte};
 
@@ -29,13 +29,11 @@ fn put_spelled_rest(key: &[u8], from: Cursor, out: &mut [u8], at: usize) -> usiz
 {
     let mut p = at;
     let mut c = from;
-    loop {
-        let Next::Byte(b, on) = part_byte(key, c) else {
-            return put_byte(out, p, b'"');
-        };
+    while let Some((b, on)) = part_byte(key, c) {
         p = put_spelled_byte(b, out, p);
         c = on;
     }
+    put_byte(out, p, b'"')
 }
 
 // The part of a pointer at the cursor as a new name, between quotes. Bytes that spell themselves, mostly all of them, are copied in one run.

@@ -8,8 +8,8 @@ ghost use Rattle.patch.specs.Runs.{next_step, next_hint, stands_before, Bound, R
 
 use crate::children::key_at;
 use crate::marks::MET;
-use laws::Order;
 use pointers::parts::{name_order, part_order_at};
+use std::cmp::Ordering;
 
 // A run of the listed entries: those from lo up to hi.
 #[derive(Clone, Copy)]
@@ -28,7 +28,7 @@ fn part_order_of(
     cues: &[u32],
     i: usize,
     name: &[u8],
-) -> Order
+) -> Ordering
     requires { MarkIn rows.now cues.now i }
     ensures { result ≡ order_of (part_at text.now table.now ptext.now ptable.now rows.now cues.now i) (decode name.now) }
 {
@@ -56,20 +56,10 @@ fn stands_before(
     ensures { result ≡ stands_before past (order_of (part_at text.now table.now ptext.now ptable.now rows.now cues.now i) (decode name.now)) }
 {
     match part_order_of(text, table, ptext, ptable, rows, cues, i, name) {
-        Order::Less => true,
-        Order::Same => past,
-        Order::More => false,
+        Ordering::Less => true,
+        Ordering::Equal => past,
+        Ordering::Greater => false,
     }
-}
-
-// A step, or the most that there is room for.
-fn at_most(step: usize, most: usize) -> usize
-    ensures { result ≤ most }
-{
-    if step < most {
-        return step;
-    }
-    most
 }
 
 // A place from a on and before b: the one that was hinted at, or, where that was looked at, a step from the end that is nearest to it, or the middle if that is
@@ -78,7 +68,7 @@ fn probe(a: usize, b: usize, near: usize, step: usize) -> usize
     requires { a < b }
     ensures { (a ≤ result) × (result < b) }
 {
-    let away = at_most(step, (b - a) / 2);
+    let away = step.min((b - a) / 2);
     if near < a {
         return a + away;
     }

@@ -13,9 +13,8 @@ use crate::runs::{Run, next_hint, run_of};
 use json_reader::decode::cursor_at;
 use json_reader::lookup::next_row;
 use json_reader::rows::{ARRAY, NULL, OBJECT, kind, name_end, name_start, value_end, value_start};
-use laws::clear::clear_words;
 use output::put::{put_byte, put_comma, put_run};
-use pointers::keys::{After, after_part};
+use pointers::keys::after_part;
 
 // Where the next byte goes, whether the next member is the first of its object, and near which place of the list its entries may stand.
 #[derive(Clone, Copy)]
@@ -29,11 +28,10 @@ struct Pen {
 fn behind(from: Pen, to: usize) -> Pen
     ensures { result ≡ pen_behind from to }
 {
-    let hint = from.hint;
     Pen {
         to,
         first: false,
-        hint,
+        ..from
     }
 }
 
@@ -41,10 +39,8 @@ fn behind(from: Pen, to: usize) -> Pen
 fn hinted(from: Pen, own: Run) -> Pen
     ensures { result ≡ pen_hinted from own }
 {
-    let to = from.to;
-    let first = from.first;
     let hint = next_hint(from.hint, own);
-    Pen { to, first, hint }
+    Pen { hint, ..from }
 }
 
 // ---- values as they are
@@ -112,13 +108,10 @@ fn copy_value(text: &[u8], table: &[u32], row: usize, out: &mut [u8], at: usize)
 // left out; row 0 is the card itself, so 0 leaves out none. The keys of all entries begin alike up to `shared`
 
 // Does nothing follow a part?
-fn is_nothing(o: After) -> bool
+fn is_nothing(o: Option<usize>) -> bool
     ensures { result ≡ is_nothing o }
 {
-    match o {
-        After::Nothing => true,
-        After::At(_) => false,
-    }
+    o.is_none()
 }
 
 // The member that the entry at the row e adds to an object that lacks it; none if it is null. Its name begins at a place of the entry's key.
@@ -378,7 +371,7 @@ pub(crate) fn put_card(
     requires { RunAsks rows.now cues.old walks.old 0 n }
     ensures { PutCard text.now table.now leave ptext.now ptable.now rows.now n shared walks.new out.old out.new result }
 {
-    clear_words(&mut cues[..n]);
+    cues[..n].fill(0);
     let all = Run { lo: 0, hi: n };
     put_value(
         text, table, 0, leave, ptext, ptable, rows, cues, walks, all, out, 0, shared,

@@ -3,6 +3,7 @@
 --     firsts-none, firsts-array, firsts-object     right after a bracket, by the number of what must come
 --     act-spot                                     elsewhere that number is the spot's
 -- Assumes nothing.
+use Rattle.std.specs.Prelude.{Ok}
 use mathlib.Core.Path.{◌≡◌, refl}
 use mathlib.Core.Bool.{cond}
 use mathlib.Core.List.{List}
@@ -14,7 +15,6 @@ use Rattle.laws.proofs.Branches.{if_equal}
 use Rattle.text.specs.Limits.{base}
 use Rattle.text.specs.Tree.{Bracket}
 use Rattle.text.specs.declared.Refusal.TheVariants.{Grammar}
-use Rattle.text.specs.declared.Reading.TheVariants.{Rows}
 use Rattle.wire.specs.Machine.{value, name, after, going, over, refuse, items, firsts, closes}
 use Rattle.wire.specs.Held.{opened_of, spot_at}
 use Rattle.pieces.specs.Turns.{act_at, act_of}
@@ -30,7 +30,7 @@ act_spot (suc (suc (suc (suc zero)))) at n os b h k = refl
 act_spot (suc (suc (suc (suc (suc spot))))) at n os b h k = absurd (omega arith)
 
 module _ (at n depth bits b : ℕ) where
-  pub closes_none : depth ≡ 0 → closes at n (opened_of depth bits) b ≡ cond (eqb b 256) (over (Rows n)) (refuse (Grammar at))
+  pub closes_none : depth ≡ 0 → closes at n (opened_of depth bits) b ≡ cond (eqb b 256) (over (Ok n)) (refuse (Grammar at))
   unfolding closes opened_of
   closes_none d = rw d
 

@@ -5,9 +5,11 @@
 --     piece-room                a piece for which the limit leaves room
 --     answer-words              an answer by its words
 -- Assumes nothing.
+use Rattle.std.specs.Prelude.{Result, Ok, Err}
+use Rattle.text.specs.declared.Refusal.{Refusal}
 use mathlib.Core.Path.{◌≡◌, refl, sym, ap, ◌∙◌}
 use mathlib.Core.List.{List, [], ◌∷◌}
-use mathlib.Core.Bool.{cond}
+use mathlib.Core.Bool.{Bool, true, false, cond}
 use Prim.Native.Nat.{ℕ, zero, suc, ◌+◌, ◌-◌, ◌≤◌, ◌<◌}
 use native.Mathlib.Decide.{dec_le}
 use native.Mathlib.Omega.{arith}
@@ -21,8 +23,6 @@ use Rattle.text.specs.Limits.{Limits, base}
 use Rattle.text.specs.Text.{byte_at}
 use Rattle.text.specs.Tree.{Bracket}
 use Rattle.text.specs.Sheet.{numbers, refused, paper}
-use Rattle.text.specs.declared.Reading.{Reading}
-use Rattle.text.specs.declared.Reading.TheVariants.{Rows, Refused}
 use Rattle.text.specs.declared.Refusal.TheVariants.{TooLong, Grammar, Character, Repeated, Deep, Many, Small}
 use Rattle.wire.specs.declared.Held.{Held}
 use Rattle.wire.specs.Machine.{Spot, State, going, over, feed, finish, feeds, cut_off, piece}
@@ -34,6 +34,11 @@ use Rattle.wire.proofs.Answers.{piece_short, piece_long}
 use Rattle.pieces.specs.Turns.{ended}
 use Rattle.pieces.specs.Passing.{Leads}
 use Rattle.pieces.proofs.Steps.{at_going, at_over}
+
+-- how many bytes the end counts for
+abbrev pub one : Bool → ℕ
+one false = 0
+one true = 1
 
 -- the state s and then the first i bytes of t; the words are those at `place` and i more
 abbrev pub After : State → List ℕ → (place i : ℕ) → Held → Type 0
@@ -82,18 +87,18 @@ module _ (s : State) (t : List ℕ) (place : ℕ) where
   pub all_of : feeds base s (slice 0 (length t) t) ≡ feeds base s t
   all_of = ap (feeds base s) (slice_all t)
 
-  over_on : (i : ℕ) (a : Reading) → i ≤ length t → feeds base s (slice 0 i t) ≡ over a → feeds base s t ≡ over a
+  over_on : (i : ℕ) (a : Result ℕ Refusal) → i ≤ length t → feeds base s (slice 0 i t) ≡ over a → feeds base s t ≡ over a
   over_on i a l e =
       sym all_of
       ∙ rw (slice_split 0 i (length t) t (omega arith) l (omega arith), cut base s (slice 0 i t) (slice i (length t) t), e) (stays base a (slice i (length t) t))
 
-  ended_over : (last : ℕ) (x : State) (a : Reading) → x ≡ over a → ended last x ≡ over a
+  ended_over : (last : Bool) (x : State) (a : Result ℕ Refusal) → x ≡ over a → ended last x ≡ over a
   unfolding feed
-  ended_over zero x a e = e
-  ended_over (suc n) x a e = rw e
+  ended_over false x a e = e
+  ended_over true x a e = rw e
 
   -- an answer, whether a byte of the text brought it or its end
-  pub over_all : (to last : ℕ) (h r : Held) → to ≤ length t → (to ≡ length t + last → ⊥) → 54 ≤ r.spot → After s t place to h
+  pub over_all : (to : ℕ) (last : Bool) (h r : Held) → to ≤ length t → (to ≡ length t + one last → ⊥) → 54 ≤ r.spot → After s t place to h
       → state_at (place + to + 1) r ≡ feed base (state_at (place + to) h) (byte_at t to) → state_at r.place r ≡ ended last (feeds base s t)
   over_all to last h r l n u a e = elim (dec_le (length t) to) [
     | no o ↦
@@ -104,9 +109,9 @@ module _ (s : State) (t : List ℕ) (place : ℕ) where
     | yes o ↦ at_last last (omega arith) n
   ]
     where
-      at_last : (last : ℕ) → to ≡ length t → (to ≡ length t + last → ⊥) → state_at r.place r ≡ ended last (feeds base s t)
-      at_last zero q n = absurd (n (omega arith))
-      at_last (suc k) q n =
+      at_last : (last : Bool) → to ≡ length t → (to ≡ length t + one last → ⊥) → state_at r.place r ≡ ended last (feeds base s t)
+      at_last false q n = absurd (n (omega arith))
+      at_last true q n =
           let end : byte_at t to ≡ 256 = get_or-eq_default t 256 (omega arith) in
           at_over r.place r u ∙ sym (at_over (place + to + 1) r u) ∙ e ∙ ap (λ (x : State). feed base x (byte_at t to)) a
           ∙ rw (end, q) (ap (finish base) all_of)
@@ -131,13 +136,13 @@ piece_room L i s (b ∷ p) f l = piece_short L i s (b ∷ p) f (omega arith)
 
 -- ---- all bytes, with no answer yet
 
-pub all_fed : (s : State) (t : List ℕ) (place to last : ℕ) (h r : Held) → to ≤ length t → to ≡ length t + last → After s t place to h
+pub all_fed : (s : State) (t : List ℕ) (place to : ℕ) (last : Bool) (h r : Held) → to ≤ length t → to ≡ length t + one last → After s t place to h
     → r ≡ placed (place + to) h.values h.depth h.opened h.spot h.from h.bits h.high → state_at r.place r ≡ ended last (feeds base s t)
 unfolding state_at
-all_fed s t place to zero h r l q a e =
+all_fed s t place to false h r l q a e =
     let k : to ≡ length t = omega arith in
     rw e (a ∙ rw k (all_of s t place))
-all_fed s t place to (suc n) h r l q a e = absurd (omega arith)
+all_fed s t place to true h r l q a e = absurd (omega arith)
 
 -- so many bytes are within the limit
 pub within_most : (size room : ℕ) → (cond (ltb size room) size room ≤ size) × (cond (ltb size room) size room ≤ room) × (cond (ltb size room) size room < size → cond (ltb size room) size room ≡ room)
@@ -171,16 +176,16 @@ module _ (h : Held) (p : List ℕ) (m : ℕ) (w : m ≡ cond (ltb (length p) (10
 
 -- ---- an answer by its words
 
-pub answer_words_lem : (a : Reading) → numbers (100 + (paper a).number - 100) (paper a).second 0 ≡ paper a
+pub answer_words_lem : (a : Result ℕ Refusal) → numbers (100 + (paper a).number - 100) (paper a).second 0 ≡ paper a
 unfolding paper refused
-answer_words_lem (Rows n) = refl
-answer_words_lem (Refused TooLong) = refl
-answer_words_lem (Refused (Grammar p)) = refl
-answer_words_lem (Refused (Character p)) = refl
-answer_words_lem (Refused (Repeated p)) = refl
-answer_words_lem (Refused (Deep p)) = refl
-answer_words_lem (Refused (Many p)) = refl
-answer_words_lem (Refused (Small n)) = refl
+answer_words_lem (Ok n) = refl
+answer_words_lem (Err TooLong) = refl
+answer_words_lem (Err (Grammar p)) = refl
+answer_words_lem (Err (Character p)) = refl
+answer_words_lem (Err (Repeated p)) = refl
+answer_words_lem (Err (Deep p)) = refl
+answer_words_lem (Err (Many p)) = refl
+answer_words_lem (Err (Small n)) = refl
 
 pub answer_is : (h r : Held) → 54 ≤ h.spot → r ≡ held_of (state_of h) → (100 ≤ r.spot) × (numbers (r.spot - 100) r.from 0 ≡ answer_of (state_of h))
 unfolding held_of

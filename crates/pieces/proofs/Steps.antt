@@ -5,6 +5,8 @@
 --     number_is                        in a number
 --     string-spot, string-is           in a string; `still_is` has the words of its next place
 -- Assumes nothing.
+use Rattle.std.specs.Prelude.{Option, Result}
+use Rattle.text.specs.declared.Fault.{Fault}
 use mathlib.Core.Path.{◌≡◌, refl, sym, ap, ◌∙◌}
 use mathlib.Core.Bool.{Bool, true, false, cond}
 use mathlib.Core.List.{List, [], ◌∷◌}
@@ -21,7 +23,6 @@ use Rattle.text.specs.declared.Refusal.TheVariants.{Grammar, Character}
 use Rattle.wire.specs.Figures.{turn_of}
 use Rattle.wire.specs.Inners.{move_of}
 use Rattle.wire.specs.declared.Inner.{Inner}
-use Rattle.wire.specs.declared.Move.{Move}
 use Rattle.wire.specs.declared.Held.{Held}
 use Rattle.wire.specs.Machine.{Spot, value, first, name, colon, after, number, string, key, State, going, over, refuse, closes, after_of, word_on, on_turn, on_move, feed}
 use Rattle.wire.specs.Held.{opened_of, figure_at, literal_at, inner_at, inner_code, inner_from, inner_bits, inner_high, spot_at, told_at, state_at, placed}
@@ -237,7 +238,7 @@ module _ (at : ℕ) (h : Held) (b : ℕ) where
       ∙ ap (going (at + 1) h.values (opened_of h.depth h.opened)) (still_is h.spot s f))
 
   -- in a string, by what the byte does
-  pub string_way : (m : Move) → 22 ≤ h.spot → h.spot < 54 → m ≡ move_of at (inner_at (h.spot - first_of h.spot) h.from h.bits h.high) b
+  pub string_way : (m : Result (Option Inner) (Fault ℕ)) → 22 ≤ h.spot → h.spot < 54 → m ≡ move_of at (inner_at (h.spot - first_of h.spot) h.from h.bits h.high) b
       → feed base (state_at at h) b
       ≡ on_move at h.values (opened_of h.depth h.opened) (λ x. strung (first_of h.spot) x) (spot_at (behind_of (first_of h.spot)) 0 0 0) m
   string_way m l u e =
@@ -245,7 +246,7 @@ module _ (at : ℕ) (h : Held) (b : ℕ) where
       let i : Inner = inner_at (h.spot - first_of h.spot) h.from h.bits h.high in
       ap (λ (s : State). feed base s b) (at_going at h u ∙ ap (going at h.values o) (string_spot h.spot h.from h.bits h.high l u))
       ∙ string_is at h.values o b (first_of h.spot) i
-      ∙ ap (λ (x : Move). on_move at h.values o (λ x. strung (first_of h.spot) x) (spot_at (behind_of (first_of h.spot)) 0 0 0) x) (sym e)
+      ∙ ap (λ (x : Result (Option Inner) (Fault ℕ)). on_move at h.values o (λ x. strung (first_of h.spot) x) (spot_at (behind_of (first_of h.spot)) 0 0 0) x) (sym e)
 
   -- a spot's class
   pub feed_at : (spot : Spot) → h.spot < 54 → spot_at h.spot h.from h.bits h.high ≡ spot

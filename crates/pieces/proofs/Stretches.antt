@@ -24,7 +24,10 @@ use Rattle.text.specs.Chars.{Chars}
 use Rattle.text.specs.Tokens.{run_end, is_space, is_digit, skip, digits_end}
 use Rattle.text.specs.Tree.{Bracket}
 use Rattle.text.proofs.TokenEnds.{run_on_lem, run_end_lem, run_span}
-use Rattle.wire.specs.Figures.{Figure, Minus, Nought, Whole, Point, Fraction, Exponent, Sign, Digits, Goes, turn_of, exp_turn, frac_turn}
+use Rattle.wire.specs.declared.Figure.{Figure}
+use Rattle.wire.specs.declared.Figure.TheVariants.{Minus, Nought, Whole, Point, Fraction, Exponent, Sign, Digits}
+use Rattle.wire.specs.declared.Turn.TheVariants.{Goes}
+use Rattle.wire.specs.Figures.{turn_of, exp_turn, frac_turn}
 use Rattle.wire.specs.Machine.{going, on_turn, feeds}
 use Rattle.wire.specs.Held.{figure_at, inner_at, spot_at}
 use Rattle.wire.proofs.Whole.{cut}

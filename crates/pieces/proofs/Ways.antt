@@ -1,14 +1,15 @@
 -- One law for each way the code goes: by the digits or bytes that are left (`hex-..`, `tail-..`), by a digit or another byte (`turn_either`), and past
 -- the numbers of a match (`past`, `..-last`). Assumes nothing.
+use Rattle.std.specs.Prelude.{Some, Ok}
 use mathlib.Core.Path.{◌≡◌, refl}
 use mathlib.Core.Bool.{Bool, true, false, cond}
 use Prim.Native.Nat.{ℕ, zero, suc, ◌-◌, ◌≤◌}
 use native.Mathlib.Omega.{arith}
 use lib.ListN.{get_or-eq_default}
 use Rattle.wire.specs.declared.Inner.TheVariants.{Four, Tails}
-use Rattle.wire.specs.declared.Move.TheVariants.{Still}
-use Rattle.wire.specs.Figures.{Digits}
-use Rattle.wire.specs.Inners.{checked, unit_move, hex_move, tail_move}
+use Rattle.wire.specs.declared.Figure.TheVariants.{Digits}
+use Rattle.code_points.specs.Characters.{is_character}
+use Rattle.wire.specs.Inners.{sound, checked, unit_move, hex_move, tail_move}
 use Rattle.wire.specs.Held.{figure_at, inner_at}
 use Rattle.pieces.specs.Turns.{turn_at, awaited_at, behind_at}
 
@@ -16,7 +17,7 @@ pub hex_last : (from left u : ℕ) → left ≡ 0 → unit_move from u ≡ hex_m
 unfolding hex_move
 hex_last from left u e = rw e
 
-pub hex_later : (from left u : ℕ) → (left ≡ 0 → ⊥) → Still (Four from (left - 1) u) ≡ hex_move from left u
+pub hex_later : (from left u : ℕ) → (left ≡ 0 → ⊥) → Ok (Some (Four from (left - 1) u)) ≡ hex_move from left u
 unfolding hex_move
 hex_later from zero u h = absurd (h refl)
 hex_later from (suc left) u h = let e : suc left - 1 ≡ left = omega arith in rw e
@@ -25,7 +26,7 @@ pub tail_last : (from left c : ℕ) → left ≡ 0 → checked from c ≡ tail_m
 unfolding tail_move
 tail_last from left c e = rw e
 
-pub tail_later : (from left c : ℕ) → (left ≡ 0 → ⊥) → Still (Tails from (left - 1) c) ≡ tail_move from left c
+pub tail_later : (from left c : ℕ) → (left ≡ 0 → ⊥) → Ok (Some (Tails from (left - 1) c)) ≡ tail_move from left c
 unfolding tail_move
 tail_later from zero c h = absurd (h refl)
 tail_later from (suc left) c h = let e : suc left - 1 ≡ left = omega arith in rw e
@@ -63,3 +64,8 @@ behind_last k h = rw get_or-eq_default
 pub inner_last : (k from bits high : ℕ) → 15 ≤ k → inner_at k from bits high ≡ Tails from 1 bits
 unfolding inner_at
 inner_last k from bits high h = rw get_or-eq_default
+
+-- a string may hold what is a character
+pub sound_is : (c : ℕ) → sound c ≡ is_character c
+unfolding sound is_character
+sound_is c = refl

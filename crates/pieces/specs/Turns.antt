@@ -1,9 +1,10 @@
 -- What the functions for single bytes answer, by the numbers of spots (`spot_at`, crate wire). Assumes nothing: these are definitions.
-use Rattle.std.specs.Prelude.{ℕ, zero, suc, ◌+◌, ◌-◌, cond, List, [], ◌∷◌, get_or, ltb, eqb}
+use Rattle.std.specs.Prelude.{ℕ, ◌+◌, ◌-◌, Bool, true, false, cond, List, [], ◌∷◌, get_or, ltb, eqb}
 use Rattle.text.specs.Limits.{base}
 use Rattle.text.specs.Tree.{Bracket}
 use Rattle.text.specs.declared.Refusal.TheVariants.{Grammar}
-use Rattle.wire.specs.Figures.{Turn, Goes, Ends, Stuck}
+use Rattle.wire.specs.declared.Turn.{Turn}
+use Rattle.wire.specs.declared.Turn.TheVariants.{Goes, Ends, Stuck}
 use Rattle.wire.specs.declared.Inner.{Inner}
 use Rattle.wire.specs.Machine.{Spot, value, first, name, colon, after, word, number, string, key, State, going, refuse, begins, quotes, firsts, closes, finish}
 use Rattle.wire.specs.Held.{figure_at}
@@ -47,6 +48,6 @@ abbrev pub behind_of : (start : ℕ) → ℕ
 behind_of start = cond (ltb start 38) 4 3
 
 -- what was fed was all that comes, or not
-abbrev pub ended : (last : ℕ) → State → State
-ended zero s = s
-ended (suc n) s = finish base s
+abbrev pub ended : (last : Bool) → State → State
+ended false s = s
+ended true s = finish base s

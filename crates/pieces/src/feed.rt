@@ -12,8 +12,10 @@ use crate::spots::{
     AFTER, CHARACTER, COLON, GRAMMAR, KEYS, LITERALS, NUMBERS, TEXTS, inner_at, inside, moved, told,
 };
 use crate::values::{act, closes};
+use json_reader::bytes::QUOTE;
 use json_reader::tokens::is_space;
-use wire::{Held, Move};
+use text::Fault;
+use wire::Held;
 
 // Between tokens.
 fn between(at: u32, h: Held, b: u16) -> Held
@@ -91,16 +93,16 @@ fn in_string(at: u32, h: Held, b: u16) -> Held
     ensures { state_at (at + 1) result ≡ machine.feed base (state_at at h) b }
 {
     let first = first_of(h.spot);
-    if b == b'"' as u16 {
+    if b == QUOTE {
         if h.spot == first {
             return moved(h, behind(first));
         }
     }
     match step(at, inner_at(h.spot - first, h.from, h.bits, h.high), b) {
-        Move::Still(s) => inside(h, first, s),
-        Move::Closed => moved(h, behind(first)),
-        Move::Wrong2(p) => told(h, GRAMMAR, p),
-        Move::Wrong3(p) => told(h, CHARACTER, p),
+        Ok(Some(s)) => inside(h, first, s),
+        Ok(None) => moved(h, behind(first)),
+        Err(Fault::Malformed(p)) => told(h, GRAMMAR, p),
+        Err(Fault::Forbidden(p)) => told(h, CHARACTER, p),
     }
 }
 

@@ -2,17 +2,19 @@
 // the number can't end.
 ghost use Rattle.std.specs.Prelude.{◌≡◌, cond};
 ghost use Rattle.text.specs.Tokens.{is_digit};
-ghost use Rattle.wire.specs.Figures.{Minus, Exponent, exp_turn, frac_turn, turn_of};
+ghost use Rattle.wire.specs.declared.Figure.TheVariants.{Minus, Exponent};
+ghost use Rattle.wire.specs.Figures.{exp_turn, frac_turn, turn_of};
 ghost use Rattle.wire.specs.Held.{figure_at};
 ghost use Rattle.pieces.specs.Turns.{turn_at};
 
 use crate::spots::{AFTER, GRAMMAR, NUMBERS};
+use json_reader::bytes::{LARGE_E, MINUS, NINE, PLUS, POINT, SMALL_E, ZERO};
 
 const NOUGHT: u32 = NUMBERS + 1;
 
 pub(crate) const WHOLE: u32 = NUMBERS + 2;
 
-const POINT: u32 = NUMBERS + 3;
+const AFTER_POINT: u32 = NUMBERS + 3;
 
 pub(crate) const FRACTION: u32 = NUMBERS + 4;
 
@@ -26,23 +28,20 @@ pub(crate) const DIGITS: u32 = NUMBERS + 7;
 fn digit_or(b: u16, next: u32, other: u32) -> u32
     ensures { result ≡ cond (is_digit b) next other }
 {
-    if b < 48 {
-        return other;
+    match b {
+        ZERO..=NINE => next,
+        _ => other,
     }
-    if b < 58 {
-        return next;
-    }
-    other
 }
 
 // Where an exponent may begin.
 fn exp_turn(b: u16) -> u32
     ensures { turn_at result ≡ exp_turn b }
 {
-    if b == 101 {
+    if b == SMALL_E {
         return EXPONENT;
     }
-    if b == 69 {
+    if b == LARGE_E {
         return EXPONENT;
     }
     AFTER
@@ -52,8 +51,8 @@ fn exp_turn(b: u16) -> u32
 fn frac_turn(b: u16) -> u32
     ensures { turn_at result ≡ frac_turn b }
 {
-    if b == 46 {
-        return POINT;
+    if b == POINT {
+        return AFTER_POINT;
     }
     exp_turn(b)
 }
@@ -62,7 +61,7 @@ fn frac_turn(b: u16) -> u32
 fn minus_turn(b: u16) -> u32
     ensures { turn_at result ≡ turn_of Minus b }
 {
-    if b == 48 {
+    if b == ZERO {
         return NOUGHT;
     }
     digit_or(b, WHOLE, GRAMMAR)
@@ -72,10 +71,10 @@ fn minus_turn(b: u16) -> u32
 fn exponent_turn(b: u16) -> u32
     ensures { turn_at result ≡ turn_of Exponent b }
 {
-    if b == 45 {
+    if b == MINUS {
         return SIGN;
     }
-    if b == 43 {
+    if b == PLUS {
         return SIGN;
     }
     digit_or(b, DIGITS, GRAMMAR)

@@ -5,10 +5,10 @@ ghost use Rattle.pieces.specs.Turns.{awaited_at, behind_at};
 use crate::spots::{AFTER, GRAMMAR, LITERALS};
 
 // The byte that must come leads on.
-fn expect(b: u16, want: u16, next: u32) -> u32
+fn expect(b: u16, want: u8, next: u32) -> u32
     ensures { result ≡ cond (eqb b want) next 102 }
 {
-    if b == want {
+    if b == want as u16 {
         return next;
     }
     GRAMMAR
@@ -19,14 +19,14 @@ pub(crate) fn spelled(k: u32, b: u16) -> u32
     ensures { result ≡ cond (eqb b (awaited_at k)) (behind_at k) 102 }
 {
     match k {
-        0 => expect(b, 117, LITERALS + 1),
-        1 => expect(b, 108, LITERALS + 2),
-        2 => expect(b, 108, AFTER),
-        3 => expect(b, 97, LITERALS + 4),
-        4 => expect(b, 108, LITERALS + 5),
-        5 => expect(b, 115, LITERALS + 6),
-        6 => expect(b, 101, AFTER),
-        7 => expect(b, 114, LITERALS + 8),
-        _ => expect(b, 117, LITERALS + 6),
+        0 => expect(b, b'u', LITERALS + 1),
+        1 => expect(b, b'l', LITERALS + 2),
+        2 => expect(b, b'l', AFTER),
+        3 => expect(b, b'a', LITERALS + 4),
+        4 => expect(b, b'l', LITERALS + 5),
+        5 => expect(b, b's', LITERALS + 6),
+        6 => expect(b, b'e', AFTER),
+        7 => expect(b, b'r', LITERALS + 8),
+        _ => expect(b, b'u', LITERALS + 6),
     }
 }

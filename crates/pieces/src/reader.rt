@@ -10,7 +10,7 @@ ghost use Rattle.pieces.specs.Turns.{ended};
 use crate::feed::feed;
 use crate::runs::run;
 use crate::spots::{ACCEPTED, OVER, TOO_LONG, VALUE, moved};
-use crate::words::{tidy, tidy_answer};
+use crate::words::{alone, tidy, tidy_answer};
 use json_reader::bytes::peek;
 use json_reader::limits::BYTES;
 use text::Paper;
@@ -20,27 +20,17 @@ use wire::Held;
 fn at_place(h: Held, place: u32) -> Held
     ensures { result ≡ placed place h.values h.depth h.opened h.spot h.from h.bits h.high }
 {
-    Held {
-        place,
-        values: h.values,
-        depth: h.depth,
-        opened: h.opened,
-        spot: h.spot,
-        from: h.from,
-        bits: h.bits,
-        high: h.high,
-    }
+    Held { place, ..h }
 }
 
-// Some bytes, for which the limit leaves room, and then the end if it has come (`last` is 1): by runs, and single bytes between them. One loop for both, so
+// Some bytes, for which the limit leaves room, and then the end if it has come (`last`): by runs, and single bytes between them. One loop for both, so
 // that the code of a byte stands in it and isn't called.
-fn feed_all(start: Held, text: &[u8], last: usize) -> Held
+fn feed_all(start: Held, text: &[u8], last: bool) -> Held
     requires text_len_bound { length text.now ≤ 1048576 - start.place }
     requires going { start.spot < 54 }
-    requires once { last ≤ 1 }
     ensures { state_of result ≡ ended last (machine.feeds base (state_of start) text.now) }
 {
-    let stop = text.len() + last;
+    let stop = text.len() + last as usize;
     let mut h = start;
     let mut i: usize = 0;
     loop {
@@ -78,16 +68,7 @@ fn within(place: u32, size: usize) -> usize
 pub fn start() -> Held
     ensures { result ≡ held_of machine.start }
 {
-    Held {
-        place: 0,
-        values: 0,
-        depth: 0,
-        opened: 0,
-        spot: VALUE,
-        from: 0,
-        bits: 0,
-        high: 0,
-    }
+    alone(VALUE, 0)
 }
 
 // A byte beyond the limit: 1, unless there was an answer before it.
@@ -97,16 +78,7 @@ fn beyond(h: Held) -> Held
     if OVER <= h.spot {
         return tidy(h);
     }
-    Held {
-        place: 0,
-        values: 0,
-        depth: 0,
-        opened: 0,
-        spot: TOO_LONG,
-        from: 0,
-        bits: 0,
-        high: 0,
-    }
+    alone(TOO_LONG, 0)
 }
 
 // Takes a piece.
@@ -117,7 +89,7 @@ pub fn take(held: Held, piece: &[u8]) -> Held
         return tidy(held);
     }
     let size = within(held.place, piece.len());
-    let got = feed_all(held, &piece[..size], 0);
+    let got = feed_all(held, &piece[..size], false);
     if size < piece.len() {
         return beyond(got);
     }
@@ -132,7 +104,7 @@ pub fn end(held: Held) -> Held
         return tidy(held);
     }
     let nothing: [u8; 0] = [];
-    tidy(feed_all(held, &nothing, 1))
+    tidy(feed_all(held, &nothing, true))
 }
 
 // What it answers: "go on", or the answer once there is one.

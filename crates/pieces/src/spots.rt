@@ -43,14 +43,11 @@ pub(crate) fn open(h: Held, spot: u32, from: u32, bits: u32, high: u32) -> Held
     ensures { result ≡ placed h.place h.values h.depth h.opened spot from bits high }
 {
     Held {
-        place: h.place,
-        values: h.values,
-        depth: h.depth,
-        opened: h.opened,
         spot,
         from,
         bits,
         high,
+        ..h
     }
 }
 

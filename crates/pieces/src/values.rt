@@ -21,14 +21,9 @@ fn begun(at: u32, h: Held, spot: u32) -> Held
         return told(h, MANY, at);
     }
     Held {
-        place: h.place,
         values: h.values + 1,
-        depth: h.depth,
-        opened: h.opened,
         spot,
-        from: h.from,
-        bits: h.bits,
-        high: h.high,
+        ..h
     }
 }
 
@@ -44,14 +39,11 @@ fn opens(at: u32, h: Held, bit: u64) -> Held
         return told(h, MANY, at);
     }
     Held {
-        place: h.place,
         values: h.values + 1,
         depth: h.depth + 1,
         opened: h.opened % 0x8000000000000000 * 2 + bit,
         spot: FIRST,
-        from: h.from,
-        bits: h.bits,
-        high: h.high,
+        ..h
     }
 }
 
@@ -130,14 +122,10 @@ fn shut(h: Held) -> Held
     ensures { result ≡ placed h.place h.values (h.depth - 1) (h.opened / 2) 4 h.from h.bits h.high }
 {
     Held {
-        place: h.place,
-        values: h.values,
         depth: h.depth - 1,
         opened: h.opened / 2,
         spot: AFTER,
-        from: h.from,
-        bits: h.bits,
-        high: h.high,
+        ..h
     }
 }
 

@@ -17,17 +17,17 @@ fn low_bits(opened: u64, depth: u32) -> u64
     opened % (1u64 << depth)
 }
 
-// An answer alone.
-fn told(code: u32, second: u32) -> Held
-    ensures { result ≡ placed 0 0 0 0 code second 0 0 }
+// A state that has no other words.
+pub(crate) fn alone(spot: u32, from: u32) -> Held
+    ensures { result ≡ placed 0 0 0 0 spot from 0 0 }
 {
     Held {
         place: 0,
         values: 0,
         depth: 0,
         opened: 0,
-        spot: code,
-        from: second,
+        spot,
+        from,
         bits: 0,
         high: 0,
     }
@@ -38,14 +38,13 @@ pub(crate) fn tidy_answer(h: Held) -> Held
     requires { 54 ≤ h.spot }
     ensures { result ≡ held_of (state_of h) }
 {
-    let spot = h.spot;
-    match spot {
-        TOO_LONG => told(TOO_LONG, 0),
-        ACCEPTED => told(ACCEPTED, h.from),
-        CHARACTER => told(CHARACTER, h.from),
-        DEEP => told(DEEP, h.from),
-        MANY => told(MANY, h.from),
-        _ => told(GRAMMAR, h.from),
+    match h.spot {
+        TOO_LONG => alone(TOO_LONG, 0),
+        ACCEPTED => alone(ACCEPTED, h.from),
+        CHARACTER => alone(CHARACTER, h.from),
+        DEEP => alone(DEEP, h.from),
+        MANY => alone(MANY, h.from),
+        _ => alone(GRAMMAR, h.from),
     }
 }
 
@@ -57,14 +56,8 @@ pub(crate) fn tidy(h: Held) -> Held
         return tidy_answer(h);
     }
     let kept = Held {
-        place: h.place,
-        values: h.values,
-        depth: h.depth,
         opened: low_bits(h.opened, h.depth),
-        spot: h.spot,
-        from: h.from,
-        bits: h.bits,
-        high: h.high,
+        ..h
     };
     if h.spot < TEXTS {
         return open(kept, h.spot, 0, 0, 0);

@@ -1,23 +1,23 @@
 -- The order of pointers by which entries are sorted, and a pointer without its first parts. Assumes nothing: these are definitions.
+use Rattle.std.specs.declared.cmp.Ordering.{Ordering}
+use Rattle.std.specs.declared.cmp.Ordering.TheVariants.{Less, Equal, Greater}
 use Rattle.std.specs.Prelude.{ℕ, zero, suc, ◌+◌, ◌≤◌, ◌<◌, ◌≡◌, ◌≢◌, Bool, false, not, cond, ◌||◌, List, eqb, ltb, length}
 use Rattle.laws.specs.Order.{order_of}
-use Rattle.laws.specs.declared.Order.{Order}
-use Rattle.laws.specs.declared.Order.TheVariants.{Less, Same, More}
 use Rattle.text.specs.Text.{byte_at}
 use Rattle.json_reader.specs.Cursors.{rest, cursor}
 use Rattle.contact.specs.Pointer.{Pointer, last, down, pointer_of, clash}
 
 -- the first decides unless it says the same
-abbrev pub or_then : Order → Order → Order
+abbrev pub or_then : Ordering → Ordering → Ordering
 or_then Less o = Less
-or_then Same o = o
-or_then More o = More
+or_then Equal o = o
+or_then Greater o = Greater
 
 -- part by part, by bytes; of two that agree as far as the one goes, the one that ends stands before
-unfoldable pub pointer_order : Pointer → Pointer → Order
+unfoldable pub pointer_order : Pointer → Pointer → Ordering
 pointer_order (last n) (last m) = order_of n m
 pointer_order (last n) (down m q) = or_then (order_of n m) Less
-pointer_order (down n p) (last m) = or_then (order_of n m) More
+pointer_order (down n p) (last m) = or_then (order_of n m) Greater
 pointer_order (down n p) (down m q) = let more = pointer_order p q in or_then (order_of n m) more
 
 -- without its first parts; the last part stays

@@ -4,28 +4,29 @@ ghost use Rattle.laws.specs.Order.{same};
 ghost use Rattle.text.specs.Strings.{decode};
 ghost use Rattle.text.specs.Text.{bytes};
 ghost use Rattle.json_reader.specs.Cursors.{rest, cursor};
+ghost use Rattle.json_reader.specs.Names.{Raw};
+ghost use Rattle.json_reader.specs.Plain.{AlikeTo};
 ghost use Rattle.contact.specs.Pointer.{pointer_of, bad_tilde, zero_or_one, first_part, clash};
 ghost use Rattle.pointers.specs.Parts.{GoesAt, CrossesTo};
-ghost use Rattle.pointers.specs.Pointers.{pointer_order, is_coded, tells, pointer_from, SameWritten, AlikeKeys, ends_before, rank_of};
+ghost use Rattle.pointers.specs.Pointers.{pointer_order, is_coded, tells, pointer_from, AlikeKeys, ends_before, rank_of};
 
-use crate::parts::{Onward, is_short, next_part, part_order, part_same, past_written, written_end};
+use crate::parts::{
+    Name, Part, is_short, left, next_part, part_order, part_same, past_written, written_end,
+};
 use json_reader::bytes::{BACKSLASH, OVER, SLASH, TILDE, peek};
-use json_reader::decode::{Cursor, Next, cursor_at, next_byte, start};
-use json_reader::names::order_at;
-use json_reader::plain::alike_plain_from;
-use laws::Order;
+use json_reader::decode::{Cursor, cursor_at, next_byte, start};
+use json_reader::names::{RawByte, order_at};
+use json_reader::plain::{alike_from, alike_plain_from};
+use std::cmp::Ordering;
 
 // Is the next byte `0` or `1`?
 fn zero_or_one(key: &[u8], c: Cursor) -> bool
     ensures { result ≡ zero_or_one (rest key.now c) }
 {
-    let Next::Byte(b, _) = next_byte(key, c) else {
+    let Some((b, _)) = next_byte(key, c) else {
         return false;
     };
-    if b == b'0' {
-        return true;
-    }
-    b == b'1'
+    b == b'0' || b == b'1'
 }
 
 // 22: does the key have a `~` that neither `0` nor `1` follows?
@@ -34,13 +35,11 @@ pub fn has_bad_tilde(key: &[u8]) -> bool
 {
     let mut c = start();
     loop {
-        let Next::Byte(b, on) = next_byte(key, past_written(key, c, TILDE)) else {
+        let Some((b, on)) = next_byte(key, past_written(key, c, TILDE)) else {
             return false;
         };
-        if b == b'~' {
-            if !zero_or_one(key, on) {
-                return true;
-            }
+        if b == b'~' && !zero_or_one(key, on) {
+            return true;
         }
         c = on;
     }
@@ -50,45 +49,17 @@ pub fn has_bad_tilde(key: &[u8]) -> bool
 pub fn is_own(key: &[u8]) -> bool
     ensures { result ≡ same (first_part (pointer_of (decode key.now))) (bytes "localizations") }
 {
-    part_same(key, start(), false, b"localizations", start())
+    part_same(left(key, start()), left::<Name>(b"localizations", start()))
 }
 
 // Plain bytes that two keys begin with alike, told eight at a time. Short keys aren't asked: to ask would take longer.
 fn alike_start(a: &[u8], b: &[u8]) -> usize
-    ensures { SameWritten a.now b.now result }
+    ensures { AlikeTo Raw a.now 0 b.now 0 result }
 {
-    if is_short(a, 0) {
-        return 0;
-    }
-    if is_short(b, 0) {
+    if is_short(a, 0) || is_short(b, 0) {
         return 0;
     }
     alike_plain_from(a, 0, b, 0)
-}
-
-// Bytes that two keys begin with alike as they are written: up to a difference, a backslash or an end. That they are the most, nothing asks. Most bytes take
-// few tests.
-fn alike_written(a: &[u8], b: &[u8]) -> usize
-    ensures { SameWritten a.now b.now result }
-{
-    let mut k = alike_start(a, b);
-    loop {
-        let x = peek(a, k);
-        if x != peek(b, k) {
-            return k;
-        }
-        if x < BACKSLASH {
-            k += 1;
-            continue;
-        }
-        if x == BACKSLASH {
-            return k;
-        }
-        if x == OVER {
-            return k;
-        }
-        k += 1;
-    }
 }
 
 // Bytes that two keys begin with alike so that what is left decides. A tilde at the end of these is left, to be read with what follows: it is the second byte of
@@ -96,7 +67,7 @@ fn alike_written(a: &[u8], b: &[u8]) -> usize
 fn alike_keys(a: &[u8], b: &[u8]) -> usize
     ensures { AlikeKeys a.now b.now result }
 {
-    let k = alike_written(a, b);
+    let k = alike_from::<RawByte>(a, 0, b, 0, alike_start(a, b));
     if k == 0 {
         return 0;
     }
@@ -111,36 +82,21 @@ fn alike_keys(a: &[u8], b: &[u8]) -> usize
 fn is_coded(b: u16) -> bool
     ensures { result ≡ is_coded b }
 {
-    if b == TILDE {
-        return true;
-    }
-    b == BACKSLASH
+    b == TILDE || b == BACKSLASH
 }
 
 // Do two bytes differ, and is neither of them one of these?
 fn tells(x: u16, y: u16) -> bool
     ensures { result ≡ tells x y }
 {
-    if x == y {
-        return false;
-    }
-    if is_coded(x) {
-        return false;
-    }
-    !is_coded(y)
+    x != y && !is_coded(x) && !is_coded(y)
 }
 
 // Where two such bytes stand, is one pointer over and does the other go on with a part?
 fn ends_before(x: u16, y: u16) -> bool
     ensures { result ≡ ends_before x y }
 {
-    if x == OVER {
-        return y == SLASH;
-    }
-    if y == OVER {
-        return x == SLASH;
-    }
-    false
+    matches!((x, y), (OVER, SLASH) | (SLASH, OVER))
 }
 
 // 24: is one a prefix of the other, over whole parts? Told by the first difference if it can be.
@@ -163,13 +119,10 @@ fn parts_clash(a: &[u8], b: &[u8], from: usize) -> bool
     let mut x = cursor_at(from);
     let mut y = cursor_at(from);
     loop {
-        if !part_same(a, x, true, b, y) {
+        if !part_same(left(a, x), left::<Part>(b, y)) {
             return false;
         }
-        let Onward::Part(x2) = next_part(a, x) else {
-            return true;
-        };
-        let Onward::Part(y2) = next_part(b, y) else {
+        let (Some(x2), Some(y2)) = (next_part(a, x), next_part(b, y)) else {
             return true;
         };
         x = x2;
@@ -181,17 +134,15 @@ fn parts_clash(a: &[u8], b: &[u8], from: usize) -> bool
 fn rank(b: u16) -> u16
     ensures { result ≡ rank_of b }
 {
-    if b < SLASH {
-        return b + 1;
+    match b {
+        0..SLASH => b + 1,
+        SLASH => 0,
+        _ => b,
     }
-    if b == SLASH {
-        return 0;
-    }
-    b
 }
 
 // The order of two pointers: part by part; one that ends stands before those that go on. Told by the first difference if it can be.
-pub fn key_order(a: &[u8], b: &[u8]) -> Order
+pub fn key_order(a: &[u8], b: &[u8]) -> Ordering
     ensures { result ≡ pointer_order (pointer_of (decode a.now)) (pointer_of (decode b.now)) }
 {
     let k = alike_keys(a, b);
@@ -204,64 +155,37 @@ pub fn key_order(a: &[u8], b: &[u8]) -> Order
 }
 
 // The same part by part, of what is left of the keys at a place.
-fn parts_order(a: &[u8], b: &[u8], from: usize) -> Order
+fn parts_order(a: &[u8], b: &[u8], from: usize) -> Ordering
     ensures { result ≡ pointer_order (pointer_from a.now from) (pointer_from b.now from) }
 {
     let mut x = cursor_at(from);
     let mut y = cursor_at(from);
     loop {
-        match part_order(a, x, true, b, y) {
-            Order::Less => {
-                return Order::Less;
-            }
-            Order::More => {
-                return Order::More;
-            }
-            Order::Same => {}
+        let order = part_order(left(a, x), left::<Part>(b, y));
+        if order.is_ne() {
+            return order;
         }
-        match next_part(a, x) {
-            Onward::Last => {
-                return match next_part(b, y) {
-                    Onward::Last => Order::Same,
-                    Onward::Part(_) => Order::Less,
-                };
+        match (next_part(a, x), next_part(b, y)) {
+            (None, None) => return Ordering::Equal,
+            (None, Some(_)) => return Ordering::Less,
+            (Some(_), None) => return Ordering::Greater,
+            (Some(x2), Some(y2)) => {
+                x = x2;
+                y = y2;
             }
-            Onward::Part(x2) => match next_part(b, y) {
-                Onward::Last => {
-                    return Order::More;
-                }
-                Onward::Part(y2) => {
-                    x = x2;
-                    y = y2;
-                }
-            },
         }
     }
 }
 
-// What follows a part: another, which begins at a place, or none.
-#[derive(Clone, Copy)]
-pub enum After {
-    Nothing,
-    At(usize),
-}
-
 // What follows the part that begins at a place of a key. As written it is found at once, and decoded from a backslash on.
-pub fn after_part(key: &[u8], at: usize) -> After
+pub fn after_part(key: &[u8], at: usize) -> Option<usize>
     ensures goes_at { GoesAt key.now (pointer_of (rest key.now (cursor at 0 0))) result }
     ensures is { CrossesTo key.now at result }
 {
     let to = written_end(key, at, SLASH);
-    let b = peek(key, to);
-    if b == SLASH {
-        let next = to + 1;
-        return After::At(next);
-    }
-    if b == OVER {
-        return After::Nothing;
-    }
-    match next_part(key, cursor_at(to)) {
-        Onward::Last => After::Nothing,
-        Onward::Part(c) => After::At(c.at),
+    match peek(key, to) {
+        SLASH => Some(to + 1),
+        OVER => None,
+        _ => Some(next_part(key, cursor_at(to))?.at),
     }
 }

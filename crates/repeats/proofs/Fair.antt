@@ -1,6 +1,9 @@
 -- The readers of values are fair, as the check at an object's end asks:
 --     value-fair      for all limits and all texts
 -- Assumes nothing.
+use Rattle.std.specs.Prelude.{Result, Ok, Err}
+use Rattle.text.specs.declared.Fault.{Fault}
+use Rattle.text.specs.declared.Fault.TheVariants.{Malformed, Forbidden}
 use mathlib.Core.Path.{◌≡◌, refl}
 use mathlib.Core.List.{List}
 use mathlib.Core.Bool.{Bool, true, false, cond}
@@ -13,8 +16,6 @@ use Rattle.text.specs.Strings.{name_of}
 use Rattle.text.specs.Tokens.{kind_by, token_at}
 use Rattle.text.specs.Tree.{Bracket, square, curly}
 use Rattle.text.specs.Reader.{Read, good, bad, Reader, scalar_with, scalar_at, close_of, container, deep, value_with, inside_array, inside_object, named, value_at}
-use Rattle.text.specs.declared.Token.{Token}
-use Rattle.text.specs.declared.Token.TheVariants.{End, No2, No3}
 use Rattle.text.specs.declared.Refusal.TheVariants.{Grammar, Many}
 use Rattle.text.proofs.Grammar.Within.{value_later, value_within}
 use Rattle.repeats.proofs.Members.{Fair}
@@ -34,11 +35,11 @@ module _ (L : Limits) (t : List ℕ) where
   called_cond ns ne true x y p q = p
   called_cond ns ne false x y p q = q
 
-  called_token : (kind ns ne at : ℕ) (k : Token) → Called ns ne (scalar_with kind ns ne at k)
+  called_token : (kind ns ne at : ℕ) (k : Result ℕ (Fault ℕ)) → Called ns ne (scalar_with kind ns ne at k)
   unfolding scalar_with named
-  called_token kind ns ne at (End to) = λ name. alone (same (name_of t ns ne) name)
-  called_token kind ns ne at (No2 p) = tt
-  called_token kind ns ne at (No3 p) = tt
+  called_token kind ns ne at (Ok to) = λ name. alone (same (name_of t ns ne) name)
+  called_token kind ns ne at (Err (Malformed p)) = tt
+  called_token kind ns ne at (Err (Forbidden p)) = tt
 
   called_close : (b : Bracket) (ns ne at : ℕ) (R : Read) → Called ns ne (close_of b ns ne at R)
   unfolding close_of named

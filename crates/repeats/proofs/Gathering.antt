@@ -2,6 +2,9 @@
 --     aside-climb          those put aside stand one behind the other
 --     aside-law            a container's items are what reading them without a comparison gives, settled by the earliest repeated name of these
 -- Assumes nothing.
+use Rattle.std.specs.Prelude.{Result, Ok, Err}
+use Rattle.text.specs.declared.Fault.{Fault}
+use Rattle.text.specs.declared.Fault.TheVariants.{Malformed, Forbidden}
 use mathlib.Core.Path.{◌≡◌, refl}
 use mathlib.Core.List.{List, [], ◌∷◌, ◌++◌}
 use mathlib.Core.Bool.{Bool, true, false, cond}
@@ -22,8 +25,6 @@ use Rattle.text.specs.Tokens.{skip}
 use Rattle.text.specs.Tree.{Bracket, square, curly, Forest, none, size, join}
 use Rattle.text.specs.Grammar.{closing}
 use Rattle.text.specs.Reader.{Read, good, bad, Reader, ItemReader, inside_of, colon_at, member_with, member_of}
-use Rattle.text.specs.declared.Token.{Token}
-use Rattle.text.specs.declared.Token.TheVariants.{End, No2, No3}
 use Rattle.text.specs.declared.Refusal.TheVariants.{Grammar}
 use Rattle.text.proofs.Grammar.Words.{skip_later, skip_inside}
 use Rattle.repeats.specs.Quoted.{tail_at}
@@ -95,13 +96,13 @@ module _ (L : Limits) (unique : L.unique ≡ true) (t : List ℕ) (value : Reade
             let l = inside t x (omega (arith, eqb-true (byte_at t x) 44 e)) in
             run_from (omega (arith, c.later, skip_later t to, skip_later t (x + 1))) (next f (skip t (x + 1)) (skip_inside t (x + 1) (omega arith)))
 
-    item_run : (b : Bool) (k : Token) → string_end t (at + 1) ≡ k
+    item_run : (b : Bool) (k : Result ℕ (Fault ℕ)) → string_end t (at + 1) ≡ k
         → Run at (cond b (closed_by at k) [] ++ behind more (cond b (member_with (loose L) t value done at n k) (bad (Grammar at))))
     unfolding member_with
     item_run false k e = run_none
-    item_run true (No2 p) e = run_none
-    item_run true (No3 p) e = run_none
-    item_run true (End end) e = run_more {from = at} {p = at} (omega arith) (after_run (colon_at t value at end n) (colon_told L unique t value fair at end n e))
+    item_run true (Err (Malformed p)) e = run_none
+    item_run true (Err (Forbidden p)) e = run_none
+    item_run true (Ok end) e = run_more {from = at} {p = at} (omega arith) (after_run (colon_at t value at end n) (colon_told L unique t value fair at end n e))
 
   abbrev closed : (turns at n : ℕ) → Forest → List ℕ
   closed = closed_from t (own_name t curly) (loose_item L t value curly) (closing curly)

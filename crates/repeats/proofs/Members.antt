@@ -3,6 +3,9 @@
 --     colon-told         what a value behind a name and a colon is
 --     members-law        from after the brace on
 -- Assumes nothing.
+use Rattle.std.specs.Prelude.{Result, Ok, Err}
+use Rattle.text.specs.declared.Fault.{Fault}
+use Rattle.text.specs.declared.Fault.TheVariants.{Malformed, Forbidden}
 use mathlib.Core.Path.{◌≡◌, refl, sym, ap, ◌∙◌}
 use mathlib.Core.List.{List, [], ◌∷◌, ◌++◌}
 use mathlib.Core.Bool.{Bool, true, false, cond}
@@ -20,8 +23,6 @@ use Rattle.text.specs.Tokens.{skip}
 use Rattle.text.specs.Grammar.{closing}
 use Rattle.text.specs.Tree.{curly, Forest, none, leaf, node, size, join}
 use Rattle.text.specs.Reader.{Read, good, bad, Reader, after_item, items_from, inside_of, named, colon_at, member_with, member_of}
-use Rattle.text.specs.declared.Token.{Token}
-use Rattle.text.specs.declared.Token.TheVariants.{End, No2, No3}
 use Rattle.text.specs.declared.Refusal.TheVariants.{Grammar, Repeated}
 use Rattle.text.proofs.Laws.{end_inside}
 use Rattle.text.proofs.Grammar.Sound.{place_of}
@@ -92,10 +93,10 @@ module _ (L : Limits) (unique : L.unique ≡ true) (t : List ℕ) (value : Reade
   Colon at (good f to) = Valued at f to
   Colon at (bad r) = Prim.Unit {0}
 
-  label_is : (at end : ℕ) → string_end t (at + 1) ≡ End end → label at ≡ name_of t (at + 1) (end - 1)
+  label_is : (at end : ℕ) → string_end t (at + 1) ≡ Ok end → label at ≡ name_of t (at + 1) (end - 1)
   label_is at end e = quoted_name t (at + 1) end e
 
-  pub colon_told : (at end n : ℕ) → string_end t (at + 1) ≡ End end → Colon at (colon_at t value at end n)
+  pub colon_told : (at end n : ℕ) → string_end t (at + 1) ≡ Ok end → Colon at (colon_at t value at end n)
   unfolding colon_at
   colon_told at end n e = go (eqb (byte_at t x) 58) refl
     where
@@ -154,7 +155,7 @@ module _ (L : Limits) (unique : L.unique ≡ true) (t : List ℕ) (value : Reade
         go false true = next f (skip t (x + 1)) joined
 
     -- the name is closed
-    ended : (end : ℕ) → string_end t (at + 1) ≡ End end → (d : Bool) → known label (label at) seen ≡ d
+    ended : (end : ℕ) → string_end t (at + 1) ≡ Ok end → (d : Bool) → known label (label at) seen ≡ d
         → after_item t (closing curly) done strict (cond (named t (name_of t (at + 1) (end - 1)) done) (bad (Repeated at)) (colon_at t value at end n))
         ≡ settle (repeat_from label seen (at ∷ behind names (colon_at t value at end n))) (after_item t (closing curly) done easy (colon_at t value at end n))
     unfolding after_item repeat_from
@@ -165,15 +166,15 @@ module _ (L : Limits) (unique : L.unique ≡ true) (t : List ℕ) (value : Reade
         let k : named t (name_of t (at + 1) (end - 1)) done ≡ false = knows (name_of t (at + 1) (end - 1)) ∙ ap (λ (l : List ℕ). known label l seen) (sym (label_is at end e)) ∙ q in
         rw (k, q) (fresh (colon_at t value at end n) (colon_told at end n e))
 
-    step : (b : Bool) (k : Token) → string_end t (at + 1) ≡ k
+    step : (b : Bool) (k : Result ℕ (Fault ℕ)) → string_end t (at + 1) ≡ k
         → after_item t (closing curly) done strict (cond b (member_with L t value done at n k) (bad (Grammar at)))
         ≡ settle (repeat_from label seen (cond b (closed_by at k) [] ++ behind names (cond b (member_with (loose L) t value done at n k) (bad (Grammar at)))))
         (after_item t (closing curly) done easy (cond b (member_with (loose L) t value done at n k) (bad (Grammar at))))
     unfolding after_item member_with repeat_from
     step false k e = refl
-    step true (No2 p) e = refl
-    step true (No3 p) e = refl
-    step true (End end) e =
+    step true (Err (Malformed p)) e = refl
+    step true (Err (Forbidden p)) e = refl
+    step true (Ok end) e =
         ap (after_item t (closing curly) done strict) (passed L.unique _ (colon_at t value at end n) unique)
         ∙ ended end e (known label (label at) seen) refl
 

@@ -2,6 +2,8 @@
 --     quoted-at       one step of the walk
 --     quoted-name     where a string ends, what is decoded up to its quote is what its inner bytes decode to
 -- Assumes nothing.
+use Rattle.std.specs.Prelude.{Option, Result, Ok}
+use Rattle.text.specs.declared.Fault.{Fault}
 use mathlib.Core.Path.{◌≡◌, sym, ap, ◌∙◌}
 use mathlib.Core.List.{List, [], ◌∷◌, ◌++◌, append-nil}
 use Prim.Native.Nat.{ℕ, ◌+◌, ◌-◌, ◌≤◌}
@@ -16,8 +18,6 @@ use Rattle.text.specs.Text.{byte_at}
 use Rattle.text.specs.Chars.{escape_at}
 use Rattle.text.specs.Strings.{string_end, Piece, stop, piece, piece_of, piece_by, on_piece, name_of}
 use Rattle.text.specs.Spelling.{Spells, utf8s}
-use Rattle.text.specs.declared.Step.{Step}
-use Rattle.text.specs.declared.Token.TheVariants.{End}
 use Rattle.text.proofs.Walks.{LongPiece, piece_cond, piece_long, on_piece_later}
 use Rattle.text.proofs.Laws.{end_inside}
 use Rattle.text.proofs.Spelling.Ends.{ended_spells}
@@ -66,9 +66,9 @@ quoted_escape t i e = quoted_at_lem t i (piece_of (escape_at t i)) (rw e)
 -- ---- all of a name
 
 quoted_through : (t : List ℕ) (i : ℕ) {w cs : List ℕ} → Spells w cs → (r : List ℕ) → drop i t ≡ w ++ r → quoted_from t i ≡ utf8s cs ++ quoted_from t (i + length w)
-quoted_through t = spelled_through t (quoted_from t) (quoted_raw t) (λ i c n e q. quoted_escape t i e ∙ ap (λ (x : Step). on_piece (quoted_from t) i (piece_of x)) q)
+quoted_through t = spelled_through t (quoted_from t) (quoted_raw t) (λ i c n e q. quoted_escape t i e ∙ ap (λ (x : Result (Option (ℕ × ℕ)) (Fault ℕ)). on_piece (quoted_from t) i (piece_of x)) q)
 
-pub quoted_name : (t : List ℕ) (i e : ℕ) → string_end t i ≡ End e → quoted_from t i ≡ name_of t i (e - 1)
+pub quoted_name : (t : List ℕ) (i e : ℕ) → string_end t i ≡ Ok e → quoted_from t i ≡ name_of t i (e - 1)
 quoted_name t i e q =
     let s = ended_spells t i e q in
     let h = end_inside t i e q in

@@ -1,5 +1,8 @@
 -- The names that a container's reading closes where it doesn't compare them, each by the place of its opening quote, and what they make of that reading.
 -- The definitions go as those of specs/Reader.antt of `text` do. Assumes nothing: these are definitions.
+use Rattle.std.specs.Prelude.{Result, Ok, Err}
+use Rattle.text.specs.declared.Fault.{Fault}
+use Rattle.text.specs.declared.Fault.TheVariants.{Malformed, Forbidden}
 use Rattle.std.specs.Prelude.{ℕ, zero, suc, ◌+◌, List, [], ◌∷◌, ◌++◌, cond, length, eqb}
 use Rattle.laws.specs.Earliest.{Earliest, nowhere, found}
 use Rattle.text.specs.Limits.{Limits, loose}
@@ -10,8 +13,6 @@ use Rattle.text.specs.Tree.{Bracket, square, curly, Forest, none, size, join}
 use Rattle.text.specs.Grammar.{closing}
 use Rattle.text.specs.Reader.{Read, good, bad, Reader, ItemReader, member_of}
 use Rattle.text.specs.declared.Refusal.TheVariants.{Repeated}
-use Rattle.text.specs.declared.Token.{Token}
-use Rattle.text.specs.declared.Token.TheVariants.{End, No2, No3}
 
 -- ---- one item
 
@@ -25,10 +26,9 @@ loose_item L t value square = λ prior. value 0 0
 loose_item L t value curly = member_of (loose L) t value
 
 -- a name that ends is closed, whatever follows it
-abbrev pub closed_by : (at : ℕ) → Token → List ℕ
-closed_by at (End end) = at ∷ []
-closed_by at (No2 p) = []
-closed_by at (No3 p) = []
+abbrev pub closed_by : (at : ℕ) → Result ℕ (Fault ℕ) → List ℕ
+closed_by at (Ok end) = at ∷ []
+closed_by at (Err r) = []
 
 -- the name that the item at a place closes, if it does: not one inside its value
 abbrev pub own_name : List ℕ → Bracket → (at : ℕ) → List ℕ

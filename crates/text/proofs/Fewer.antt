@@ -6,6 +6,9 @@
 --     whole-bad                        what is refused is refused whatever the table
 --     good-whole, small-whole          what is accepted has room, or is refused by 7
 -- Assumes nothing.
+use Rattle.std.specs.Prelude.{Result, Ok, Err}
+use Rattle.text.specs.declared.Fault.{Fault}
+use Rattle.text.specs.declared.Fault.TheVariants.{Malformed, Forbidden}
 use Prim.Native.Nat.{ℕ, zero, suc, ◌+◌, ◌-◌, ◌*◌, ◌≤◌, ◌<◌}
 use mathlib.Core.Path.{◌≡◌, sym}
 use mathlib.Core.List.{List}
@@ -24,8 +27,6 @@ use Rattle.text.specs.Tree.{Bracket, square, curly, Forest, none, leaf, node, si
 use Rattle.text.specs.Grammar.{closing}
 use Rattle.text.specs.Reader.{Read, good, bad, Reader, ItemReader, scalar_with, scalar_at, close_of, container, deep, value_with, after_item, items_from, inside_of, named, colon_at, member_with, member_of, value_at}
 use Rattle.text.specs.Whole.{read_of, fit_of, whole_of}
-use Rattle.text.specs.declared.Token.{Token}
-use Rattle.text.specs.declared.Token.TheVariants.{End, No2, No3}
 use Rattle.text.specs.declared.Refusal.{Refusal}
 use Rattle.text.specs.declared.Refusal.TheVariants.{TooLong, Grammar, Character, Repeated, Deep, Many, Small}
 
@@ -88,17 +89,17 @@ counted v w n p a b le over fewer = elim (dec_le v n) [
   | no h ↦ rw (lt-leb v n (omega arith), lt-leb w n (omega arith)) (fewer (omega arith))
 ]
 
-scalar_over : (v n kind ns ne at : ℕ) → v ≤ n → (k : Token) → Over v n (scalar_with kind ns ne at k)
+scalar_over : (v n kind ns ne at : ℕ) → v ≤ n → (k : Result ℕ (Fault ℕ)) → Over v n (scalar_with kind ns ne at k)
 unfolding scalar_with size
-scalar_over v n kind ns ne at h (End to) = more (leaf kind ns ne at to none) (omega arith)
-scalar_over v n kind ns ne at h (No2 p) = refuses tt
-scalar_over v n kind ns ne at h (No3 p) = refuses tt
+scalar_over v n kind ns ne at h (Ok to) = more (leaf kind ns ne at to none) (omega arith)
+scalar_over v n kind ns ne at h (Err (Malformed p)) = refuses tt
+scalar_over v n kind ns ne at h (Err (Forbidden p)) = refuses tt
 
-scalar_same : (v n kind ns ne at : ℕ) → n < v → (k : Token) → Fewer v n (scalar_with kind ns ne at k) (scalar_with kind ns ne at k)
+scalar_same : (v n kind ns ne at : ℕ) → n < v → (k : Result ℕ (Fault ℕ)) → Fewer v n (scalar_with kind ns ne at k) (scalar_with kind ns ne at k)
 unfolding scalar_with size
-scalar_same v n kind ns ne at h (End to) = both (leaf kind ns ne at to none) (omega arith)
-scalar_same v n kind ns ne at h (No2 p) = neither tt
-scalar_same v n kind ns ne at h (No3 p) = neither tt
+scalar_same v n kind ns ne at h (Ok to) = both (leaf kind ns ne at to none) (omega arith)
+scalar_same v n kind ns ne at h (Err (Malformed p)) = neither tt
+scalar_same v n kind ns ne at h (Err (Forbidden p)) = neither tt
 
 close_more : {v n : ℕ} (b : Bracket) (ns ne at : ℕ) {r : Read} → Over v (n + 1) r → Over v n (close_of b ns ne at r)
 unfolding close_of size
@@ -187,12 +188,12 @@ module _ (L : Limits) (t : List ℕ) (v w : ℕ) (le : v ≤ w) where
     unfolding colon_at
     colon_fewer at end n = fewer_cond (eqb (byte_at t (skip t end)) 58) (compare _ _ _ n) (neither tt)
 
-    name_fewer : (done : Forest) (at n : ℕ) (k : Token)
+    name_fewer : (done : Forest) (at n : ℕ) (k : Result ℕ (Fault ℕ))
         → Fewer v n (member_with (with_values L v) t value done at n k) (member_with (with_values L w) t full done at n k)
     unfolding member_with
-    name_fewer done at n (No2 p) = neither tt
-    name_fewer done at n (No3 p) = neither tt
-    name_fewer done at n (End end) =
+    name_fewer done at n (Err (Malformed p)) = neither tt
+    name_fewer done at n (Err (Forbidden p)) = neither tt
+    name_fewer done at n (Ok end) =
         fewer_cond L.unique (fewer_cond (named t (name_of t (at + 1) (end - 1)) done) (neither tt) (colon_fewer at end n)) (colon_fewer at end n)
 
     member_fewer : (done : Forest) (at n : ℕ) → Fewer v n (member_of (with_values L v) t value done at n) (member_of (with_values L w) t full done at n)

@@ -3,6 +3,9 @@
 --     value-induction      from the rules of a property to the values that are accepted
 --     read-accepted        an accepted text has one value, with nothing but white space around it
 -- Assumes nothing.
+use Rattle.std.specs.Prelude.{Result, Ok, Err}
+use Rattle.text.specs.declared.Fault.{Fault}
+use Rattle.text.specs.declared.Fault.TheVariants.{Malformed, Forbidden}
 use Prim.Native.Nat.{ℕ, zero, suc, ◌+◌, ◌-◌, ◌≤◌, ◌<◌}
 use mathlib.Core.Path.{◌≡◌, refl, ◌∙◌}
 use mathlib.Core.List.{List}
@@ -20,8 +23,6 @@ use Rattle.text.specs.Grammar.{closing}
 use Rattle.text.specs.Firsts.{ScalarKind}
 use Rattle.text.specs.Reader.{Read, good, bad, Reader, ItemReader, scalar_with, scalar_at, close_of, container, deep, value_with, after_item, items_from, inside_of, named, colon_at, member_with, member_of, value_at}
 use Rattle.text.specs.Whole.{end_of, read_of}
-use Rattle.text.specs.declared.Token.{Token}
-use Rattle.text.specs.declared.Token.TheVariants.{End, No2, No3}
 use Rattle.text.specs.declared.Refusal.{Refusal}
 use Rattle.text.specs.declared.Refusal.TheVariants.{TooLong, Grammar}
 
@@ -54,7 +55,7 @@ kind_most b =
 -- and of items inside a container (I: of which bracket, where so many containers may be opened, the bracket's place, up to a place, the items).
 pub record Rules (L : Limits) (t : List ℕ) (Value : (depth ns ne at : ℕ) → Forest → ℕ → Type 0) (Items : Bracket → (depth edge at : ℕ) → Forest → Type 0) : Type 0 where
   -- a value that holds no others
-  pub token : (depth ns ne at kind to : ℕ) → ScalarKind kind → kind_by (byte_at t at) ≡ kind → token_at t kind at ≡ End to
+  pub token : (depth ns ne at kind to : ℕ) → ScalarKind kind → kind_by (byte_at t at) ≡ kind → token_at t kind at ≡ Ok to
       → Value depth ns ne at (leaf kind ns ne at to none) to
   -- a container around its items
   pub box : (b : Bracket) (depth ns ne edge at : ℕ) (f : Forest) → kind_by (byte_at t edge) ≡ bracket_kind b → Items b depth edge at f → byte_at t at ≡ closing b
@@ -67,7 +68,7 @@ pub record Rules (L : Limits) (t : List ℕ) (Value : (depth ns ne at : ℕ) →
       → Items square depth edge (skip t to) (join done f)
   -- one member more: its name's quotes are at `at` and before `end`
   pub member : (depth edge at end to : ℕ) (done f : Forest) → Items curly depth edge at done
-      → byte_at t at ≡ 34 → string_end t (at + 1) ≡ End end → (L.unique ≡ true → named t (name_of t (at + 1) (end - 1)) done ≡ false)
+      → byte_at t at ≡ 34 → string_end t (at + 1) ≡ Ok end → (L.unique ≡ true → named t (name_of t (at + 1) (end - 1)) done ≡ false)
       → byte_at t (skip t end) ≡ 58 → Value depth (at + 1) (end - 1) (skip t (skip t end + 1)) f to
       → Items curly depth edge (skip t to) (join done f)
 
@@ -124,14 +125,14 @@ module _ (L : Limits) (t : List ℕ) (Value : (depth ns ne at : ℕ) → Forest 
   -- ---- members ----
 
   module _ (depth edge : ℕ) (value : Reader) (values : (ns ne at n : ℕ) → WhenGood (Value depth ns ne at) (value ns ne at n)) where
-    then_value : (done : Forest) (at end : ℕ) → Items curly depth edge at done → byte_at t at ≡ 34 → string_end t (at + 1) ≡ End end
+    then_value : (done : Forest) (at end : ℕ) → Items curly depth edge at done → byte_at t at ≡ 34 → string_end t (at + 1) ≡ Ok end
         → (L.unique ≡ true → named t (name_of t (at + 1) (end - 1)) done ≡ false) → byte_at t (skip t end) ≡ 58
         → {r : Read} → WhenGood (Value depth (at + 1) (end - 1) (skip t (skip t end + 1))) r
         → WhenGood (λ f to. Items curly depth edge (skip t to) (join done f)) r
     then_value done at end p q e u c refused = refused
     then_value done at end p q e u c (accepted {f} {to} y) = accepted (R.member depth edge at end to done f p q e u c y)
 
-    colon : (done : Forest) (at end n : ℕ) → Items curly depth edge at done → byte_at t at ≡ 34 → string_end t (at + 1) ≡ End end
+    colon : (done : Forest) (at end n : ℕ) → Items curly depth edge at done → byte_at t at ≡ 34 → string_end t (at + 1) ≡ Ok end
         → (L.unique ≡ true → named t (name_of t (at + 1) (end - 1)) done ≡ false)
         → WhenGood (λ f to. Items curly depth edge (skip t to) (join done f)) (colon_at t value at end n)
     unfolding colon_at
@@ -141,12 +142,12 @@ module _ (L : Limits) (t : List ℕ) (Value : (depth ns ne at : ℕ) → Forest 
         (λ c. then_value done at end p q e u (eqb-true (byte_at t x) 58 c) (values (at + 1) (end - 1) (skip t (x + 1)) n))
         (λ c. refused)
 
-    name : (done : Forest) (at n : ℕ) → Items curly depth edge at done → byte_at t at ≡ 34 → (k : Token) → string_end t (at + 1) ≡ k
+    name : (done : Forest) (at n : ℕ) → Items curly depth edge at done → byte_at t at ≡ 34 → (k : Result ℕ (Fault ℕ)) → string_end t (at + 1) ≡ k
         → WhenGood (λ f to. Items curly depth edge (skip t to) (join done f)) (member_with L t value done at n k)
     unfolding member_with
-    name done at n p q (No2 x) e = refused
-    name done at n p q (No3 x) e = refused
-    name done at n p q (End end) e =
+    name done at n p q (Err (Malformed x)) e = refused
+    name done at n p q (Err (Forbidden x)) e = refused
+    name done at n p q (Ok end) e =
         accepts_cond L.unique
         (λ u. accepts_cond (named t (name_of t (at + 1) (end - 1)) done) (λ d. refused) (λ d. colon done at end n p q e (λ v. d)))
         (λ u. colon done at end n p q e (λ v. let z : ◌≡◌ {A = ℕ} 0 1 = cc in absurd (omega arith)))
@@ -163,10 +164,10 @@ module _ (L : Limits) (t : List ℕ) (Value : (depth ns ne at : ℕ) → Forest 
   unfolding scalar_at scalar_with
   scalar depth kind ns ne at n s k = accepts_cond (leb L.values n) (λ e. refused) (λ e. go (token_at t kind at) refl)
     where
-      go : (w : Token) → token_at t kind at ≡ w → WhenGood (Value depth ns ne at) (scalar_with kind ns ne at w)
-      go (End to) e = accepted (R.token depth ns ne at kind to s k e)
-      go (No2 p) e = refused
-      go (No3 p) e = refused
+      go : (w : Result ℕ (Fault ℕ)) → token_at t kind at ≡ w → WhenGood (Value depth ns ne at) (scalar_with kind ns ne at w)
+      go (Ok to) e = accepted (R.token depth ns ne at kind to s k e)
+      go (Err (Malformed p)) e = refused
+      go (Err (Forbidden p)) e = refused
 
   value : (depth : ℕ) (array object : Reader) (ns ne at n : ℕ)
       → (kind_by (byte_at t at) ≡ 6 → WhenGood (Value depth ns ne at) (array ns ne at n))

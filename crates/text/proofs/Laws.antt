@@ -4,6 +4,9 @@
 --     value-parts      a value is, by its kind, the array, the object or the scalar that stands at its place
 --     two, three, four          the UTF-8 of a raw character's code point is its own bytes
 -- Assumes nothing.
+use Rattle.std.specs.Prelude.{Option, Some, None, Result, Ok, Err}
+use Rattle.text.specs.declared.Fault.{Fault}
+use Rattle.text.specs.declared.Fault.TheVariants.{Malformed, Forbidden}
 use mathlib.Core.Path.{◌≡◌, refl, sym, ap, ap₂, ◌∙◌}
 use mathlib.Core.List.{List, [], ◌∷◌}
 use Prim.Native.String.{String}
@@ -19,9 +22,6 @@ use Rattle.text.specs.Chars.{seq2, seq3, seq4, step_at}
 use Rattle.text.specs.Strings.{string_end}
 use Rattle.text.specs.Utf8.{conts, utf8}
 use Rattle.text.specs.Reader.{value_with, value_at, elements_at, members_at, array_at, object_at}
-use Rattle.text.specs.declared.Step.{Step}
-use Rattle.text.specs.declared.Step.TheVariants.{Close, Char, Bad2, Bad3}
-use Rattle.text.specs.declared.Token.TheVariants.{End, No2, No3}
 use Rattle.text.proofs.Sequences.{by_seq2, by_seq3, by_seq4}
 use Rattle.text.proofs.Walks.{end_at_lem, close_inside, char_inside}
 
@@ -38,30 +38,30 @@ pub record EndInside (t : List ℕ) (i e : ℕ) : Type 0 where
   pub within : e ≤ length t
 
 -- by the number of bytes left, f
-ends : (f : ℕ) (t : List ℕ) (i e : ℕ) → length t - i < f → string_end t i ≡ End e → EndInside t i e
+ends : (f : ℕ) (t : List ℕ) (i e : ℕ) → length t - i < f → string_end t i ≡ Ok e → EndInside t i e
 ends zero t i e h q = absurd (omega arith)
 ends (suc f) t i e h q = go (step_at t i) refl (λ j l g. ends f t j e l g)
   where
-    go : (s : Step) → step_at t i ≡ s → ((j : ℕ) → length t - j < f → string_end t j ≡ End e → EndInside t j e) → EndInside t i e
-    go Close p more =
-        let r : End (i + 1) ≡ End e = sym (end_at_lem t i Close p) ∙ q in
+    go : (s : Result (Option (ℕ × ℕ)) (Fault ℕ)) → step_at t i ≡ s → ((j : ℕ) → length t - j < f → string_end t j ≡ Ok e → EndInside t j e) → EndInside t i e
+    go (Ok None) p more =
+        let r : Ok (i + 1) ≡ Ok e = sym (end_at_lem t i (Ok None) p) ∙ q in
         let k : i + 1 ≡ e = cc in
         let l = close_inside t i p in
         omega arith
-    go (Char code n) p more =
+    go (Ok (Some (code, n))) p more =
         let l = char_inside t i p in
-        let r = more (i + n) (omega arith) (sym (end_at_lem t i (Char code n) p) ∙ q) in
+        let r = more (i + n) (omega arith) (sym (end_at_lem t i (Ok (Some (code, n))) p) ∙ q) in
         omega arith
-    go (Bad2 x) p more =
-        let r : No2 x ≡ End e = sym (end_at_lem t i (Bad2 x) p) ∙ q in
+    go (Err (Malformed x)) p more =
+        let r : Err (Malformed x) ≡ Ok e = sym (end_at_lem t i (Err (Malformed x)) p) ∙ q in
         let z : ◌≡◌ {A = ℕ} 0 1 = cc in
         absurd (omega arith)
-    go (Bad3 x) p more =
-        let r : No3 x ≡ End e = sym (end_at_lem t i (Bad3 x) p) ∙ q in
+    go (Err (Forbidden x)) p more =
+        let r : Err (Forbidden x) ≡ Ok e = sym (end_at_lem t i (Err (Forbidden x)) p) ∙ q in
         let z : ◌≡◌ {A = ℕ} 0 1 = cc in
         absurd (omega arith)
 
-pub end_inside : (t : List ℕ) (i e : ℕ) → string_end t i ≡ End e → EndInside t i e
+pub end_inside : (t : List ℕ) (i e : ℕ) → string_end t i ≡ Ok e → EndInside t i e
 end_inside t i e q = ends (suc (length t - i)) t i e (omega arith) q
 
 -- ---- the UTF-8 of a raw character ----

@@ -4,6 +4,7 @@
 --     single-value                                      an accepted value is one value
 --     placed-kinds                                      the kinds of values that hold no others are 1 to 5
 -- Assumes nothing.
+use Rattle.std.specs.Prelude.{Ok}
 use Prim.Native.Nat.{ℕ, ◌+◌, ◌-◌, ◌≤◌, ◌<◌}
 use mathlib.Core.Path.{◌≡◌, refl}
 use mathlib.Core.List.{List}
@@ -20,7 +21,6 @@ use Rattle.text.specs.Firsts.{HasFirst, kind_at, name_start, name_end, start_at,
 use Rattle.text.specs.Placed.{Unnamed, NameIn, TokenIn, null, falsity, truth, number, string, Spot, Placed, nothing, token, box}
 use Rattle.text.specs.Reader.{good, value_at}
 use Rattle.text.specs.Whole.{read_of}
-use Rattle.text.specs.declared.Token.TheVariants.{End}
 use Rattle.text.proofs.Laws.{end_inside}
 use Rattle.text.proofs.Induction.{Rules, value_induction, read_accepted}
 use Rattle.text.proofs.TokenEnds.{skip_span}
@@ -96,7 +96,7 @@ bracket_kind_lem square = omega arith
 bracket_kind_lem curly = omega arith
 
 module _ (L : Limits) (t : List ℕ) where
-  token_seated : (ns ne at kind to : ℕ) → ScalarKind kind → kind_by (byte_at t at) ≡ kind → token_at t kind at ≡ End to
+  token_seated : (ns ne at kind to : ℕ) → ScalarKind kind → kind_by (byte_at t at) ≡ kind → token_at t kind at ≡ Ok to
       → Seated t ns ne at (leaf kind ns ne at to none) to
   token_seated ns ne at kind to s k e =
       let span = token_ends t kind at to s.least k e in
@@ -148,7 +148,7 @@ module _ (L : Limits) (t : List ℕ) where
         placed = widen span.later (placed_join r.placed (v.placed b at name le));
       }
 
-  row_member : (edge at end to : ℕ) (done f : Forest) → ItemsUpTo t curly edge at done → byte_at t at ≡ 34 → string_end t (at + 1) ≡ End end
+  row_member : (edge at end to : ℕ) (done f : Forest) → ItemsUpTo t curly edge at done → byte_at t at ≡ 34 → string_end t (at + 1) ≡ Ok end
       → byte_at t (skip t end) ≡ 58 → Seated t (at + 1) (end - 1) (skip t (skip t end + 1)) f to → ItemsUpTo t curly edge (skip t to) (join done f)
   row_member edge at end to done f r q e c v =
       let ends = end_inside t (at + 1) end e in

@@ -34,6 +34,7 @@
 --     tail-is               what is decoded from a place on is what is decoded of the bytes from there on alone
 --     same-yes, same-no, escape-char      names that are compared; an escape is one or more bytes long
 -- Assumes nothing.
+use Rattle.std.specs.Prelude.{Ok, Err}
 use Prim.Native.Nat.{ℕ, ◌*◌, ◌≤◌}
 use mathlib.Core.Path.{◌≡◌, refl, ap, ◌∙◌}
 use mathlib.Core.List.{List, []}
@@ -51,7 +52,6 @@ use Rattle.text.specs.Tokens.{skip}
 use Rattle.text.specs.Whole.{read_of, fit_of, whole_of, table_of, Reads}
 use Rattle.text.specs.declared.Refusal.{Refusal}
 use Rattle.text.specs.declared.Refusal.TheVariants.{Small}
-use Rattle.text.specs.declared.Reading.TheVariants.{Rows, Refused}
 use Rattle.text.proofs.Induction.{read_accepted}
 use Rattle.text.proofs.Fewer.{value_fits}
 use Rattle.text.proofs.Placing.{placed_text, single_value}
@@ -172,16 +172,16 @@ module _ (L : Limits) (words : ℕ) (t table : List ℕ) where
         filled_by = fills (promised L t f to fits.read) (table_stands words f to own) (table_linked words f to own);
       }
 
-  pub rows_tree : (n : ℕ) → Reads L words t (Rows n) table → AcceptedWhole n
-  rows_tree n h = go (whole_of L words t) refl (answer_is (Rows n) (whole_of L words t) h.answered)
+  pub rows_tree : (n : ℕ) → Reads L words t (Ok n) table → AcceptedWhole n
+  rows_tree n h = go (whole_of L words t) refl (answer_is (Ok n) (whole_of L words t) h.answered)
     where
-      go : (r : Read) → whole_of L words t ≡ r → Rows n ≡ answer_of (whole_of L words t) → AcceptedWhole n
+      go : (r : Read) → whole_of L words t ≡ r → Ok n ≡ answer_of (whole_of L words t) → AcceptedWhole n
       go (good f to) w q =
-          let answer : Rows n ≡ Rows (size f) = q ∙ ap answer_of w in
+          let answer : Ok n ≡ Ok (size f) = q ∙ ap answer_of w in
           let same : n ≡ size f = cc in
           rw same (tabled f to h.left w)
       go (bad r) w q =
-          let answer : Rows n ≡ Refused r = q ∙ ap answer_of w in
+          let answer : Ok n ≡ Err r = q ∙ ap answer_of w in
           let z : ◌≡◌ {A = ℕ} 0 1 = cc in
           absurd (omega arith)
 
@@ -190,16 +190,16 @@ module _ (L : Limits) (words : ℕ) (t table : List ℕ) where
     pub whole : whole_of L words t ≡ bad r
     pub cleared : table ≡ filled words []
 
-  pub refusal_is : (r : Refusal) → Reads L words t (Refused r) table → RefusedWhole r
+  pub refusal_is : (r : Refusal) → Reads L words t (Err r) table → RefusedWhole r
   unfolding table_of
-  refusal_is r h = go (whole_of L words t) refl (answer_is (Refused r) (whole_of L words t) h.answered)
+  refusal_is r h = go (whole_of L words t) refl (answer_is (Err r) (whole_of L words t) h.answered)
     where
-      go : (R : Read) → whole_of L words t ≡ R → Refused r ≡ answer_of (whole_of L words t) → RefusedWhole r
+      go : (R : Read) → whole_of L words t ≡ R → Err r ≡ answer_of (whole_of L words t) → RefusedWhole r
       go (good f to) w q =
-          let answer : Refused r ≡ Rows (size f) = q ∙ ap answer_of w in
+          let answer : Err r ≡ Ok (size f) = q ∙ ap answer_of w in
           let z : ◌≡◌ {A = ℕ} 0 1 = cc in
           absurd (omega arith)
       go (bad s) w q =
-          let answer : Refused r ≡ Refused s = q ∙ ap answer_of w in
+          let answer : Err r ≡ Err s = q ∙ ap answer_of w in
           let same : s ≡ r = cc in
           record { whole = w ∙ ap bad same; cleared = h.left ∙ ap (table_of words) w }

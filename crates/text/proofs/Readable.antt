@@ -1,5 +1,6 @@
 -- What reading a text for a lent table answers, in words: it reads just the texts that are readable (`read_so`, `readable_good`), and refuses just those
 -- that are unreadable, as they are (`unread_so`, `unreadable_bad`). Assumes nothing.
+use Rattle.std.specs.Prelude.{Err}
 use Prim.Native.Nat.{ℕ, ◌*◌}
 use mathlib.Core.Path.{◌≡◌, refl, sym, subst, ◌∙◌}
 use mathlib.Core.List.{List}
@@ -16,7 +17,6 @@ use Rattle.text.specs.Meaning.{Readable}
 use Rattle.text.specs.Fault.{Unreadable, long, faulty, short}
 use Rattle.text.specs.declared.Refusal.{Refusal}
 use Rattle.text.specs.declared.Refusal.TheVariants.{TooLong, Grammar, Character, Repeated, Deep, Many, Small}
-use Rattle.text.specs.declared.Reading.TheVariants.{Refused}
 use Rattle.text.proofs.Outcomes.{paper_unique}
 use Rattle.text.proofs.Promise.{whole_good, whole_bad}
 use Rattle.text.proofs.Grammar.Stands.{by_order}
@@ -37,7 +37,7 @@ on_sheet (Small n) = refl
 -- a refusal is told by its numbers
 pub one_refusal : (r s : Refusal) → refused r ≡ refused s → r ≡ s
 unfolding paper
-one_refusal r s e = let z : Refused r ≡ Refused s = paper_unique (Refused r) (Refused s) e in cc
+one_refusal r s e = let z : Err r ≡ Err s = paper_unique (Err r) (Err s) e in cc
 
 module _ (L : Limits) (words : ℕ) (t : List ℕ) where
   pub readable_good : (f : Forest) → Readable L words t f → whole_of L words t ≡ good f (length t)

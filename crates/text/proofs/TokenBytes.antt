@@ -5,6 +5,8 @@
 --     number-bytes      the bytes of a number are a number of the grammar
 --     token-in          a token of a kind has the bytes that the kind asks
 -- Assumes nothing.
+use Rattle.std.specs.Prelude.{Ok, Err}
+use Rattle.text.specs.declared.Fault.TheVariants.{Malformed}
 use Prim.Native.Nat.{ℕ, ◌+◌, ◌-◌, ◌≤◌, ◌<◌}
 use mathlib.Core.Path.{◌≡◌, refl, subst, ◌∙◌}
 use mathlib.Core.List.{List, [], ◌∷◌}
@@ -23,7 +25,6 @@ use Rattle.text.specs.Tree.{square, curly}
 use Rattle.text.specs.Firsts.{ScalarKind}
 use Rattle.text.specs.Grammar.{Number}
 use Rattle.text.specs.Placed.{Quoted, FirstByte, TokenIn, null, falsity, truth, number, string}
-use Rattle.text.specs.declared.Token.TheVariants.{End, No2}
 use Rattle.text.proofs.TokenEnds.{Span, token_span}
 use Rattle.text.proofs.Spelling.Ends.{ended_spells}
 use Rattle.text.proofs.Grammar.Stands.{BytesStand, stands_to, stands_inside}
@@ -75,14 +76,14 @@ pub record LiteralAt (t bs : List ℕ) (i to : ℕ) : Type 0 where
   pub end : to ≡ i + length bs
   pub is : part_of t i to ≡ bs
 
-pub word_bytes : (t bs : List ℕ) (i to : ℕ) → to ≤ length t → word_at t bs i ≡ End to → LiteralAt t bs i to
+pub word_bytes : (t bs : List ℕ) (i to : ℕ) → to ≤ length t → word_at t bs i ≡ Ok to → LiteralAt t bs i to
 unfolding word_at
 word_bytes t [] i to k e =
     let same : i ≡ to = cc in
     record { end = omega arith; is = rw (← same) (part_none t i (omega arith)) }
 word_bytes t (b ∷ bs) i to k e = go (eqb (byte_at t i) b) refl e (word_bytes t bs (i + 1) to k)
   where
-    go : (x : Bool) → eqb (byte_at t i) b ≡ x → cond x (word_at t bs (i + 1)) (No2 i) ≡ End to → (word_at t bs (i + 1) ≡ End to → LiteralAt t bs (i + 1) to)
+    go : (x : Bool) → eqb (byte_at t i) b ≡ x → cond x (word_at t bs (i + 1)) (Err (Malformed i)) ≡ Ok to → (word_at t bs (i + 1) ≡ Ok to → LiteralAt t bs (i + 1) to)
         → LiteralAt t (b ∷ bs) i to
     go true q r more =
         let w = more r in
@@ -98,14 +99,14 @@ stands_part {t} {at} BytesStand.done l = part_none t at l
 stands_part {t} {at} {to} (BytesStand.next e i s) l =
     part_more t at to (omega (arith, stands_to s)) (stands_inside s (omega arith)) ∙ rw (e, stands_part s (omega arith))
 
-pub number_bytes : (t : List ℕ) (i to : ℕ) → i ≤ length t → number_at t i ≡ End to → Number (part_of t i to)
+pub number_bytes : (t : List ℕ) (i to : ℕ) → i ≤ length t → number_at t i ≡ Ok to → Number (part_of t i to)
 number_bytes t i to l e =
     let s : HasWord t Number i to = rw e at ((number_exact t).told i l) in
     rw (stands_part s.stands l) s.is
 
 -- ---- strings ----
 
-pub string_quoted : (t : List ℕ) (i e : ℕ) → byte_at t i ≡ 34 → string_end t (i + 1) ≡ End e → Quoted t (i + 1) (e - 1)
+pub string_quoted : (t : List ℕ) (i e : ℕ) → byte_at t i ≡ 34 → string_end t (i + 1) ≡ Ok e → Quoted t (i + 1) (e - 1)
 string_quoted t i e q h =
     let c = ended_spells t (i + 1) e h in
     let l = c.after in
@@ -123,10 +124,10 @@ string_quoted t i e q h =
 -- ---- tokens ----
 
 -- a token of a kind, whose first byte begins that kind, ends after it and inside the text
-pub token_ends : (t : List ℕ) (kind i to : ℕ) → 0 < kind → kind_by (byte_at t i) ≡ kind → token_at t kind i ≡ End to → Span t (i + 1) to
+pub token_ends : (t : List ℕ) (kind i to : ℕ) → 0 < kind → kind_by (byte_at t i) ≡ kind → token_at t kind i ≡ Ok to → Span t (i + 1) to
 token_ends t kind i to s k e = let l = kind_inside t i kind s k in token_span t kind i to (omega arith) e
 
-module _ (t : List ℕ) (kind i to : ℕ) (s : ScalarKind kind) (k : kind_by (byte_at t i) ≡ kind) (e : token_at t kind i ≡ End to) where
+module _ (t : List ℕ) (kind i to : ℕ) (s : ScalarKind kind) (k : kind_by (byte_at t i) ≡ kind) (e : token_at t kind i ≡ Ok to) where
   start_inside : i ≤ length t
   start_inside = let l = kind_inside t i kind s.least k in omega arith
 
@@ -134,7 +135,7 @@ module _ (t : List ℕ) (kind i to : ℕ) (s : ScalarKind kind) (k : kind_by (by
   inside_text = (token_ends t kind i to s.least k e).inside
 
   -- the kind with its number
-  of_kind : (c : ℕ) → c ≡ kind → (token_at t c i ≡ End to → TokenIn t c i to) → TokenIn t kind i to
+  of_kind : (c : ℕ) → c ≡ kind → (token_at t c i ≡ Ok to → TokenIn t c i to) → TokenIn t kind i to
   of_kind c y f = subst (λ (n : ℕ). TokenIn t n i to) y (f (rw (← y) at e))
 
   number_in : 4 ≡ kind → TokenIn t kind i to

@@ -4,6 +4,9 @@
 --     skip-span              the same for white space
 --     token-span             a token ends after its first byte, inside the text
 -- Assumes nothing.
+use Rattle.std.specs.Prelude.{Result, Ok, Err}
+use Rattle.text.specs.declared.Fault.{Fault}
+use Rattle.text.specs.declared.Fault.TheVariants.{Malformed, Forbidden}
 use mathlib.Core.Path.{◌≡◌, refl, subst, ◌∙◌}
 use mathlib.Core.List.{List, [], ◌∷◌}
 use mathlib.Core.Bool.{Bool, true, false, cond}
@@ -18,8 +21,6 @@ use Rattle.laws.proofs.Places.{inside}
 use Rattle.text.specs.Text.{byte_at, bytes}
 use Rattle.text.specs.Strings.{string_end}
 use Rattle.text.specs.Tokens.{run_body, run_end, is_space, skip, is_digit, digits_end, word_at, then_at, digits_at, minus_end, int_at, frac_at, sign_end, exp_at, number_at, token_at}
-use Rattle.text.specs.declared.Token.{Token}
-use Rattle.text.specs.declared.Token.TheVariants.{End, No2, No3}
 use Rattle.text.proofs.Laws.{end_inside}
 
 -- the place `to` is at or after the place i, and inside the text
@@ -72,25 +73,25 @@ module _ (t : List ℕ) where
 -- ---- tokens ----
 
 -- a token that ends does so at or after the place i, inside the text
-abbrev In : List ℕ → ℕ → Token → Type 0
-In t i (End to) = Span t i to
-In t i (No2 p) = Prim.Unit {0}
-In t i (No3 p) = Prim.Unit {0}
+abbrev In : List ℕ → ℕ → Result ℕ (Fault ℕ) → Type 0
+In t i (Ok to) = Span t i to
+In t i (Err (Malformed p)) = Prim.Unit {0}
+In t i (Err (Forbidden p)) = Prim.Unit {0}
 
-either : (P : Token → Type 0) (b : Bool) (x y : Token) → (b ≡ true → P x) → (b ≡ false → P y) → P (cond b x y)
+either : (P : Result ℕ (Fault ℕ) → Type 0) (b : Bool) (x y : Result ℕ (Fault ℕ)) → (b ≡ true → P x) → (b ≡ false → P y) → P (cond b x y)
 either P true x y p q = p refl
 either P false x y p q = q refl
 
 module _ (t : List ℕ) where
-  then_in : (i : ℕ) (f : ℕ → Token) (token : Token) → In t i token → ((to : ℕ) → Span t i to → In t i (f to)) → In t i (then_at f token)
-  then_in i f (End to) h k = k to h
-  then_in i f (No2 p) h k = tt
-  then_in i f (No3 p) h k = tt
+  then_in : (i : ℕ) (f : ℕ → Result ℕ (Fault ℕ)) (token : Result ℕ (Fault ℕ)) → In t i token → ((to : ℕ) → Span t i to → In t i (f to)) → In t i (then_at f token)
+  then_in i f (Ok to) h k = k to h
+  then_in i f (Err (Malformed p)) h k = tt
+  then_in i f (Err (Forbidden p)) h k = tt
 
-  from_in : (i j : ℕ) (token : Token) → i ≤ j → In t j token → In t i token
-  from_in i j (End to) h s = omega arith
-  from_in i j (No2 p) h s = tt
-  from_in i j (No3 p) h s = tt
+  from_in : (i j : ℕ) (token : Result ℕ (Fault ℕ)) → i ≤ j → In t j token → In t i token
+  from_in i j (Ok to) h s = omega arith
+  from_in i j (Err (Malformed p)) h s = tt
+  from_in i j (Err (Forbidden p)) h s = tt
 
   byte_in : (i b : ℕ) → b < 256 → eqb (byte_at t i) b ≡ true → Span t (i + 1) (i + 1)
   byte_in i b h e = let k = inside t i (omega (arith, eqb-true (byte_at t i) b e)) in omega arith
@@ -98,7 +99,7 @@ module _ (t : List ℕ) where
   digits_in : (i : ℕ) → In t (i + 1) (digits_at t i)
   unfolding digits_at
   digits_in i =
-      either (In t (i + 1)) (is_digit (byte_at t i)) (End (digits_end t (i + 1))) (No2 i)
+      either (In t (i + 1)) (is_digit (byte_at t i)) (Ok (digits_end t (i + 1))) (Err (Malformed i))
       (λ e. let l = run_byte is_digit t refl i e in run_span is_digit t refl (i + 1) (omega arith))
       (λ e. tt)
 
@@ -113,14 +114,14 @@ module _ (t : List ℕ) where
   int_in : (i : ℕ) → In t (i + 1) (int_at t i)
   unfolding int_at
   int_in i =
-      either (In t (i + 1)) (eqb (byte_at t i) 48) (End (i + 1)) (digits_at t i)
+      either (In t (i + 1)) (eqb (byte_at t i) 48) (Ok (i + 1)) (digits_at t i)
       (λ e. byte_in i 48 (omega arith) e)
       (λ e. digits_in i)
 
   frac_in : (i : ℕ) → i ≤ length t → In t i (frac_at t i)
   unfolding frac_at
   frac_in i k =
-      either (In t i) (eqb (byte_at t i) 46) (digits_at t (i + 1)) (End i)
+      either (In t i) (eqb (byte_at t i) 46) (digits_at t (i + 1)) (Ok i)
       (λ e. from_in i (i + 1 + 1) (digits_at t (i + 1)) (omega arith) (digits_in (i + 1)))
       (λ e. omega arith)
 
@@ -142,10 +143,10 @@ module _ (t : List ℕ) where
   exp_in : (i : ℕ) → i ≤ length t → In t i (exp_at t i)
   unfolding exp_at
   exp_in i k =
-      let all : Token = digits_at t (sign_end t (i + 1)) in
-      either (In t i) (eqb (byte_at t i) 101) all (cond (eqb (byte_at t i) 69) all (End i))
+      let all : Result ℕ (Fault ℕ) = digits_at t (sign_end t (i + 1)) in
+      either (In t i) (eqb (byte_at t i) 101) all (cond (eqb (byte_at t i) 69) all (Ok i))
       (λ e. exp_digits i 101 (omega arith) e)
-      (λ e. either (In t i) (eqb (byte_at t i) 69) all (End i) (λ f. exp_digits i 69 (omega arith) f) (λ f. omega arith))
+      (λ e. either (In t i) (eqb (byte_at t i) 69) all (Ok i) (λ f. exp_digits i 69 (omega arith) f) (λ f. omega arith))
 
   number_in : (i : ℕ) → i ≤ length t → In t (i + 1) (number_at t i)
   unfolding number_at minus_end
@@ -167,7 +168,7 @@ module _ (t : List ℕ) where
   unfolding word_at
   word_in [] i h k = omega arith
   word_in (b ∷ bs) i h k =
-      either (In t (i + suc (length bs))) (eqb (byte_at t i) b) (word_at t bs (i + 1)) (No2 i)
+      either (In t (i + suc (length bs))) (eqb (byte_at t i) b) (word_at t bs (i + 1)) (Err (Malformed i))
       (λ e. let l = byte_in i b h.0 e in
       from_in (i + suc (length bs)) (i + 1 + length bs) (word_at t bs (i + 1)) (omega arith) (word_in bs (i + 1) h.1 (omega arith)))
       (λ e. tt)
@@ -179,20 +180,20 @@ module _ (t : List ℕ) where
   string_in : (i : ℕ) → In t (i + 1) (string_end t (i + 1))
   string_in i = go (string_end t (i + 1)) refl
     where
-      go : (s : Token) → string_end t (i + 1) ≡ s → In t (i + 1) s
-      go (End to) e = let l = end_inside t (i + 1) to e in omega arith
-      go (No2 p) e = tt
-      go (No3 p) e = tt
+      go : (s : Result ℕ (Fault ℕ)) → string_end t (i + 1) ≡ s → In t (i + 1) s
+      go (Ok to) e = let l = end_inside t (i + 1) to e in omega arith
+      go (Err (Malformed p)) e = tt
+      go (Err (Forbidden p)) e = tt
 
   token_in : (kind i : ℕ) → i ≤ length t → In t (i + 1) (token_at t kind i)
   unfolding token_at
   token_in kind i k =
-      let P : Token → Type 0 = In t (i + 1) in
-      let w1 : Token = word_at t (bytes "null") i in
-      let w2 : Token = word_at t (bytes "false") i in
-      let w3 : Token = word_at t (bytes "true") i in
-      let number : Token = number_at t i in
-      let string : Token = string_end t (i + 1) in
+      let P : Result ℕ (Fault ℕ) → Type 0 = In t (i + 1) in
+      let w1 : Result ℕ (Fault ℕ) = word_at t (bytes "null") i in
+      let w2 : Result ℕ (Fault ℕ) = word_at t (bytes "false") i in
+      let w3 : Result ℕ (Fault ℕ) = word_at t (bytes "true") i in
+      let number : Result ℕ (Fault ℕ) = number_at t i in
+      let string : Result ℕ (Fault ℕ) = string_end t (i + 1) in
       either P (eqb kind 1) w1 (cond (eqb kind 2) w2 (cond (eqb kind 3) w3 (cond (eqb kind 4) number string)))
       (λ e. literal_in 110 (bytes "ull") i (omega arith) k)
       (λ e. either P (eqb kind 2) w2 (cond (eqb kind 3) w3 (cond (eqb kind 4) number string))
@@ -201,5 +202,5 @@ module _ (t : List ℕ) where
       (λ g. literal_in 116 (bytes "rue") i (omega arith) k)
       (λ g. either P (eqb kind 4) number string (λ h. number_in i k) (λ h. string_in i))))
 
-pub token_span : (t : List ℕ) (kind i to : ℕ) → i ≤ length t → token_at t kind i ≡ End to → Span t (i + 1) to
+pub token_span : (t : List ℕ) (kind i to : ℕ) → i ≤ length t → token_at t kind i ≡ Ok to → Span t (i + 1) to
 token_span t kind i to k e = subst (In t (i + 1)) e (token_in t kind i k)

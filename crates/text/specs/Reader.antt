@@ -2,17 +2,18 @@
 -- A text is read from left to right and the first refusal ends it, so the smallest place wins; at one bracket 5 is asked before 6.
 -- A value's definition goes by the containers that may still be opened, and a run of items by a number of turns, of which there are always enough.
 -- Assumes nothing: these are definitions.
+use Rattle.std.specs.Prelude.{Result, Ok, Err}
+use Rattle.text.specs.declared.Fault.{Fault}
 use Rattle.std.specs.Prelude.{ℕ, zero, suc, ◌+◌, ◌-◌, List, Bool, true, false, cond, length, leb, eqb}
 use Rattle.text.specs.Limits.{Limits}
 use Rattle.laws.specs.Order.{same}
 use Rattle.text.specs.Text.{byte_at}
+use Rattle.text.specs.Sheet.{refusal_of}
 use Rattle.text.specs.Strings.{string_end, name_of}
 use Rattle.text.specs.Tokens.{skip, kind_by, token_at}
 use Rattle.text.specs.Tree.{Bracket, square, curly, Forest, none, leaf, node, size, join}
-use Rattle.text.specs.declared.Token.{Token}
-use Rattle.text.specs.declared.Token.TheVariants.{End, No2, No3}
 use Rattle.text.specs.declared.Refusal.{Refusal}
-use Rattle.text.specs.declared.Refusal.TheVariants.{Grammar, Character, Repeated, Deep, Many}
+use Rattle.text.specs.declared.Refusal.TheVariants.{Grammar, Repeated, Deep, Many}
 
 -- values and the place after them, or the refusal
 pub data Read : Type 0 where
@@ -30,10 +31,9 @@ ItemReader = Forest → (at n : ℕ) → Read
 -- ---- one value
 
 -- a value of a kind that holds no others
-unfoldable pub scalar_with : (kind ns ne at : ℕ) → Token → Read
-scalar_with kind ns ne at (End to) = good (leaf kind ns ne at to none) to
-scalar_with kind ns ne at (No2 p) = bad (Grammar p)
-scalar_with kind ns ne at (No3 p) = bad (Character p)
+unfoldable pub scalar_with : (kind ns ne at : ℕ) → Result ℕ (Fault ℕ) → Read
+scalar_with kind ns ne at (Ok to) = good (leaf kind ns ne at to none) to
+scalar_with kind ns ne at (Err fault) = bad (refusal_of fault)
 
 -- a value of such a kind at a place; 6: it is one value too many
 unfoldable pub scalar_at : Limits → List ℕ → (kind : ℕ) → Reader
@@ -105,10 +105,9 @@ colon_at t value at end n =
 
 -- a member whose name's quote is at a place, given where the name ends.
 -- 4: the name is in the object already, compared decoded; it counts as soon as it is closed, whatever follows it
-unfoldable pub member_with : Limits → List ℕ → (value : Reader) → (prior : Forest) → (at n : ℕ) → Token → Read
-member_with L t value prior at n (No2 p) = bad (Grammar p)
-member_with L t value prior at n (No3 p) = bad (Character p)
-member_with L t value prior at n (End end) =
+unfoldable pub member_with : Limits → List ℕ → (value : Reader) → (prior : Forest) → (at n : ℕ) → Result ℕ (Fault ℕ) → Read
+member_with L t value prior at n (Err fault) = bad (refusal_of fault)
+member_with L t value prior at n (Ok end) =
     let v = colon_at t value at end n in
     let checked = cond (named t (name_of t (at + 1) (end - 1)) prior) (bad (Repeated at)) v in
     cond L.unique checked v

@@ -1,16 +1,22 @@
 -- The refusal sheet (docs/RULES.md, 2.1): the paper's numbers for each case of reading's answer; and what a call leaves, and how it may end.
 -- Assumes nothing: these are definitions.
+use Rattle.std.specs.Prelude.{Result, Ok, Err}
 use Rattle.std.specs.Prelude.{ℕ, ◌+◌, ◌*◌, ◌≤◌, ◌≡◌, List, ◌++◌, length, replicate}
 use Rattle.text.specs.Limits.{row_words}
+use Rattle.text.specs.declared.Fault.{Fault}
+use Rattle.text.specs.declared.Fault.TheVariants.{Malformed, Forbidden}
 use Rattle.text.specs.declared.Paper.{Paper}
 use Rattle.text.specs.declared.Refusal.{Refusal}
 use Rattle.text.specs.declared.Refusal.TheVariants.{TooLong, Grammar, Character, Repeated, Deep, Many, Small}
-use Rattle.text.specs.declared.Reading.{Reading}
-use Rattle.text.specs.declared.Reading.TheVariants.{Rows, Refused}
 
 -- an answer on paper, by its three numbers (src/lib.rt says which)
 abbrev pub numbers : ℕ → ℕ → ℕ → Paper
 numbers number second written = record { number = number; second = second; written = written }
+
+-- the refusal that a fault of a token or a character is: 2 or 3, at the same place
+abbrev pub refusal_of : Fault ℕ → Refusal
+refusal_of (Malformed p) = Grammar p
+refusal_of (Forbidden p) = Character p
 
 -- the sheet's first seven lines
 unfoldable pub refused : Refusal → Paper
@@ -23,9 +29,9 @@ refused (Many p) = numbers 6 p 0
 refused (Small rows) = numbers 7 rows 0
 
 -- an answer of reading: 0 and the row count, or the refusal's two numbers
-unfoldable pub paper : Reading → Paper
-paper (Rows n) = numbers 0 n 0
-paper (Refused r) = refused r
+unfoldable pub paper : Result ℕ Refusal → Paper
+paper (Ok n) = numbers 0 n 0
+paper (Err r) = refused r
 
 -- ---- what a call leaves
 

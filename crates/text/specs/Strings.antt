@@ -1,32 +1,30 @@
 -- Where a string ends, and what its bytes decode to.
 -- Assumes nothing: these are definitions.
+use Rattle.std.specs.Prelude.{Option, Some, None, Result, Ok, Err}
+use Rattle.text.specs.declared.Fault.{Fault}
+use Rattle.text.specs.declared.Fault.TheVariants.{Malformed, Forbidden}
 use Rattle.std.specs.Prelude.{ℕ, ◌+◌, ◌-◌, List, [], ◌∷◌, ◌++◌, cond, length, eqb}
 use Rattle.laws.specs.Lists.{part_of}
 use Rattle.text.specs.Text.{byte_at}
 use Rattle.laws.specs.Scan.{scan}
 use Rattle.text.specs.Utf8.{utf8}
 use Rattle.text.specs.Chars.{escape_at, step_at}
-use Rattle.text.specs.declared.Step.{Step}
-use Rattle.text.specs.declared.Step.TheVariants.{Close, Char, Bad2, Bad3}
-use Rattle.text.specs.declared.Token.{Token}
-use Rattle.text.specs.declared.Token.TheVariants.{End, No2, No3}
 
 -- ---- where a string ends (8259: string = quotation-mark *char quotation-mark)
 
 -- what a step at i says of the string, given what stands from later places on
-abbrev pub on_step : (ℕ → Token) → ℕ → Step → Token
-on_step k i Close = End (i + 1)
-on_step k i (Char code n) = k (i + n)
-on_step k i (Bad2 p) = No2 p
-on_step k i (Bad3 p) = No3 p
+abbrev pub on_step : (ℕ → Result ℕ (Fault ℕ)) → ℕ → Result (Option (ℕ × ℕ)) (Fault ℕ) → Result ℕ (Fault ℕ)
+on_step k i (Ok None) = Ok (i + 1)
+on_step k i (Ok (Some (code, n))) = k (i + n)
+on_step k i (Err r) = Err r
 
 -- one turn of the walk to the end of a string
-abbrev pub end_body : List ℕ → (ℕ → Token) → ℕ → Token
+abbrev pub end_body : List ℕ → (ℕ → Result ℕ (Fault ℕ)) → ℕ → Result ℕ (Fault ℕ)
 end_body t k i = on_step k i (step_at t i)
 
 -- from a place inside a string: the place after its closing quote, or the first refusal
-unfoldable pub string_end : List ℕ → ℕ → Token
-string_end t i = scan (end_body t) (No2 0) (length t) i
+unfoldable pub string_end : List ℕ → ℕ → Result ℕ (Fault ℕ)
+string_end t i = scan (end_body t) (Err (Malformed 0)) (length t) i
 
 -- ---- decoding (docs/RULES.md, 3.4 and 3.5: names and strings are decoded before use)
 
@@ -36,11 +34,10 @@ pub data Piece : Type 0 where
   piece : List ℕ → ℕ → Piece
 
 -- a character gives its UTF-8
-abbrev pub piece_of : Step → Piece
-piece_of Close = stop
-piece_of (Char code n) = piece (utf8 code) n
-piece_of (Bad2 p) = stop
-piece_of (Bad3 p) = stop
+abbrev pub piece_of : Result (Option (ℕ × ℕ)) (Fault ℕ) → Piece
+piece_of (Ok None) = stop
+piece_of (Ok (Some (code, n))) = piece (utf8 code) n
+piece_of (Err r) = stop
 
 -- a raw byte stands for itself, an escape for the bytes of its code point; nothing follows the end or a broken escape
 unfoldable pub piece_by : List ℕ → ℕ → ℕ → Piece

@@ -1,12 +1,13 @@
 -- White space, literals and numbers: RFC 8259, sections 2, 3 and 6; at the end the token of any kind, strings (specs/Strings.antt) too. A token gives
 -- the place after it, or 2 at the first byte that can't continue it (a string also 3).
 -- docs/RULES.md, 3.2. Assumes nothing: these are definitions.
+use Rattle.std.specs.Prelude.{Result, Ok, Err}
+use Rattle.text.specs.declared.Fault.{Fault}
+use Rattle.text.specs.declared.Fault.TheVariants.{Malformed, Forbidden}
 use Rattle.std.specs.Prelude.{ℕ, ◌+◌, List, [], ◌∷◌, Bool, true, false, cond, length, ltb, eqb}
 use Rattle.text.specs.Text.{byte_at, bytes}
 use Rattle.laws.specs.Scan.{scan}
 use Rattle.text.specs.Strings.{string_end}
-use Rattle.text.specs.declared.Token.{Token}
-use Rattle.text.specs.declared.Token.TheVariants.{End, No2, No3}
 
 -- ---- runs of bytes
 
@@ -37,46 +38,45 @@ digits_end t i = run_end is_digit t i
 -- ---- literals
 
 -- the bytes of a word, from i on
-unfoldable pub word_at : List ℕ → List ℕ → ℕ → Token
-word_at t [] i = End i
-word_at t (b ∷ bs) i = let more = word_at t bs (i + 1) in cond (eqb (byte_at t i) b) more (No2 i)
+unfoldable pub word_at : List ℕ → List ℕ → ℕ → Result ℕ (Fault ℕ)
+word_at t [] i = Ok i
+word_at t (b ∷ bs) i = let more = word_at t bs (i + 1) in cond (eqb (byte_at t i) b) more (Err (Malformed i))
 
 -- ---- numbers
 
 -- one part and then another
-abbrev pub then_at : (ℕ → Token) → Token → Token
-then_at f (End to) = f to
-then_at f (No2 p) = No2 p
-then_at f (No3 p) = No3 p
+abbrev pub then_at : (ℕ → Result ℕ (Fault ℕ)) → Result ℕ (Fault ℕ) → Result ℕ (Fault ℕ)
+then_at f (Ok to) = f to
+then_at f (Err r) = Err r
 
 -- 1*DIGIT
-unfoldable pub digits_at : List ℕ → ℕ → Token
-digits_at t i = let all = End (digits_end t (i + 1)) in cond (is_digit (byte_at t i)) all (No2 i)
+unfoldable pub digits_at : List ℕ → ℕ → Result ℕ (Fault ℕ)
+digits_at t i = let all = Ok (digits_end t (i + 1)) in cond (is_digit (byte_at t i)) all (Err (Malformed i))
 
 -- the place after a minus, if there is one
 unfoldable pub minus_end : List ℕ → ℕ → ℕ
 minus_end t i = cond (eqb (byte_at t i) 45) (i + 1) i
 
 -- int = zero / ( digit1-9 *DIGIT )
-unfoldable pub int_at : List ℕ → ℕ → Token
-int_at t i = let all = digits_at t i in cond (eqb (byte_at t i) 48) (End (i + 1)) all
+unfoldable pub int_at : List ℕ → ℕ → Result ℕ (Fault ℕ)
+int_at t i = let all = digits_at t i in cond (eqb (byte_at t i) 48) (Ok (i + 1)) all
 
 -- [ frac ], where frac = decimal-point 1*DIGIT: the place itself, if there is no decimal point
-unfoldable pub frac_at : List ℕ → ℕ → Token
-frac_at t i = let all = digits_at t (i + 1) in cond (eqb (byte_at t i) 46) all (End i)
+unfoldable pub frac_at : List ℕ → ℕ → Result ℕ (Fault ℕ)
+frac_at t i = let all = digits_at t (i + 1) in cond (eqb (byte_at t i) 46) all (Ok i)
 
 -- the place after a sign of the exponent, if there is one
 unfoldable pub sign_end : List ℕ → ℕ → ℕ
 sign_end t i = cond (eqb (byte_at t i) 45) (i + 1) (cond (eqb (byte_at t i) 43) (i + 1) i)
 
 -- [ exp ], where exp = e [ minus / plus ] 1*DIGIT: the place itself, if there is no e
-unfoldable pub exp_at : List ℕ → ℕ → Token
+unfoldable pub exp_at : List ℕ → ℕ → Result ℕ (Fault ℕ)
 exp_at t i =
     let all = digits_at t (sign_end t (i + 1)) in
-    cond (eqb (byte_at t i) 101) all (cond (eqb (byte_at t i) 69) all (End i))
+    cond (eqb (byte_at t i) 101) all (cond (eqb (byte_at t i) 69) all (Ok i))
 
 -- number = [ minus ] int [ frac ] [ exp ]
-unfoldable pub number_at : List ℕ → ℕ → Token
+unfoldable pub number_at : List ℕ → ℕ → Result ℕ (Fault ℕ)
 number_at t i = then_at (exp_at t) (then_at (frac_at t) (int_at t (minus_end t i)))
 
 -- ---- values that hold no others, by their kinds: 1 null, 2 false, 3 true, 4 number, 5 string (then 6 array, 7 object)
@@ -94,7 +94,7 @@ kind_by b =
     (cond (is_digit b) 4 0)))))))
 
 -- the token of a kind whose first byte stands at i
-unfoldable pub token_at : List ℕ → ℕ → ℕ → Token
+unfoldable pub token_at : List ℕ → ℕ → ℕ → Result ℕ (Fault ℕ)
 token_at t kind i =
     let word1 = word_at t (bytes "null") i in
     let word2 = word_at t (bytes "false") i in

@@ -1,5 +1,6 @@
 -- What reading a whole text answers, and what it leaves in a lent table of so many words; at the end reading's contract, `Reads`.
 -- docs/RULES.md, 2.2, 3.6 and 7. Assumes nothing: these are definitions.
+use Rattle.std.specs.Prelude.{Result}
 use Rattle.std.specs.Prelude.{ℕ, ◌*◌, ◌≡◌, List, [], cond, length, ltb}
 use Rattle.text.specs.Limits.{Limits, row_words}
 use Rattle.laws.specs.Lists.{filled}
@@ -10,7 +11,6 @@ use Rattle.text.specs.declared.Paper.{Paper}
 use Rattle.text.specs.Sheet.{numbers, refused, paper}
 use Rattle.text.specs.declared.Refusal.{Refusal}
 use Rattle.text.specs.declared.Refusal.TheVariants.{TooLong, Grammar, Small}
-use Rattle.text.specs.declared.Reading.{Reading}
 
 -- a value with nothing but white space after it (8259: JSON-text = ws value ws)
 unfoldable pub end_of : List ℕ → Read → Read
@@ -49,6 +49,6 @@ table_of words (good f to) = filled words (tree_rows f)
 table_of words (bad r) = filled words []
 
 -- what reading's contract says of an answer and of what is left in a table of so many words
-pub record Reads (L : Limits) (words : ℕ) (t : List ℕ) (answer : Reading) (table : List ℕ) : Type 0 where
+pub record Reads (L : Limits) (words : ℕ) (t : List ℕ) (answer : Result ℕ Refusal) (table : List ℕ) : Type 0 where
   pub answered : paper answer ≡ sheet_of (whole_of L words t)
   pub left : table ≡ table_of words (whole_of L words t)

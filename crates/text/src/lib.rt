@@ -1,33 +1,19 @@
-// What the functions of reading answer. There is no code here: the definitions of specs/ name these types, and the contracts of the
-// reading layer cite the definitions.
+// What the functions of reading answer. The definitions of specs/ name these types, and the contracts of the reading layer cite the definitions.
+// There is no code here but what makes one answer of another.
 #![tactic(auto)]
 
-// Four hexadecimal digits: their value, or the first place that has none.
-#[derive(Clone, Copy)]
-pub enum Hex {
-    Unit(u32),
-    Bad(usize),
-}
+ghost use Rattle.std.specs.Prelude.{◌≡◌};
+ghost use Rattle.text.specs.Sheet.{refusal_of};
 
-// What stands at a place inside a string: its closing quote, a character with its code point and its length, or the refusal 2 or 3 at a place.
-#[derive(Clone, Copy)]
-pub enum Step {
-    Close,
-    Char(u32, usize),
-    Bad2(usize),
-    Bad3(usize),
-}
-
-// A literal, number or string: the place after it, or the refusal 2 or 3 at a place.
-#[derive(Clone, Copy)]
-pub enum Token {
-    End(usize),
-    No2(usize),
-    No3(usize),
+// What is wrong with a token or a character, at a place: it doesn't fit the grammar (2), or stands for no character that a text may hold (3).
+#[derive(Clone, Copy, Debug, PartialEq, Eq)]
+pub enum Fault<P> {
+    Malformed(P),
+    Forbidden(P),
 }
 
 // Why a text is not read: numbers 1 to 7 of the refusal sheet, in its order. Each carries its second number: a place, or the rows needed.
-#[derive(Clone, Copy)]
+#[derive(Clone, Copy, Debug, PartialEq, Eq)]
 pub enum Refusal {
     TooLong,
     Grammar(usize),
@@ -38,15 +24,20 @@ pub enum Refusal {
     Small(usize),
 }
 
-// What reading a text answers: the number of its rows, or the refusal.
-#[derive(Clone, Copy)]
-pub enum Reading {
-    Rows(usize),
-    Refused(Refusal),
+// A text is refused by the fault of its token or character, at the same place.
+impl From<Fault<usize>> for Refusal {
+    ghost from_gives = { λ fault r. r ≡ refusal_of fault };
+
+    fn from(fault: Fault<usize>) -> Refusal {
+        match fault {
+            Fault::Malformed(place) => Refusal::Grammar(place),
+            Fault::Forbidden(place) => Refusal::Character(place),
+        }
+    }
 }
 
 // An answer on paper: 0 or the refusal's number; the row count or the refusal's second number; and the bytes written, which only localizing has.
-#[derive(Clone, Copy)]
+#[derive(Clone, Copy, Debug, PartialEq, Eq)]
 pub struct Paper {
     pub number: u64,
     pub second: u64,

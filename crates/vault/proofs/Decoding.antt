@@ -1,12 +1,10 @@
 -- Laws of a string's inner bytes that are decoded:
---     raw-more        one byte more that stands for itself
 --     no-content      a token without bytes has none
 --     raw-decoded     the bytes before a place stand for themselves, and then what is decoded from there on
 -- Assumes nothing.
 use Prim.Native.Nat.{ℕ, zero, suc, ◌+◌, ◌-◌}
 use mathlib.Core.Path.{◌≡◌, refl, ap, ◌∙◌}
 use mathlib.Core.List.{List, [], ◌∷◌, ◌++◌}
-use native.Mathlib.Decide.{dec_le}
 use native.Mathlib.Omega.{arith}
 use lib.ListN.{length}
 use Rattle.laws.specs.Lists.{part_of}
@@ -15,14 +13,7 @@ use Rattle.laws.proofs.Parts.{part_here, part_more, part_back}
 use Rattle.text.specs.Text.{byte_at}
 use Rattle.text.specs.Strings.{decode_from, decode, content_of}
 use Rattle.json_reader.proofs.Alike.{decode_byte, decode_over}
-use Rattle.vault.specs.Laid.{Raw, RawTo}
-
-pub raw_more : (t : List ℕ) (i : ℕ) → RawTo t i → Raw (byte_at t i) → RawTo t (i + 1)
-raw_more t i raw here j h =
-    elim (dec_le i j) [
-      | yes le ↦ let e : j ≡ i = omega arith in rw e here
-      | no lt ↦ raw j (omega arith)
-    ]
+use Rattle.vault.specs.Laid.{RawTo}
 
 -- k of them
 run_of : (t : List ℕ) (k i e : ℕ) → i + k ≡ e → RawTo t e → decode_from t i ≡ part_of t i e ++ decode_from t e

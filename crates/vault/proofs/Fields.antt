@@ -1,5 +1,5 @@
 -- The field at a place, by the bytes of its head: too few bytes, too long a content, or a field (`cut_few`, `cut_over`, `cut_field`). Assumes nothing.
-use mathlib.Core.Path.{◌≡◌, ap₂, ◌∙◌}
+use mathlib.Core.Path.{◌≡◌, refl, ap₂, ◌∙◌}
 use mathlib.Core.List.{List}
 use Prim.Native.Nat.{ℕ, ◌+◌, ◌*◌, ◌≤◌, ◌<◌}
 use native.Mathlib.Omega.{arith}
@@ -27,13 +27,14 @@ module _ (p : List ℕ) (at end : ℕ) (h : at ≤ end) (l : end ≤ length p) w
     cut_over g = cut_at_lem p at end h l ∙ rw (le-ltb end (at + 3) k, long, lt-ltb end (at + 3 + (get_or p (at + 1) 0 * 256 + get_or p (at + 2) 0)) g)
 
     pub cut_field : at + 3 + (get_or p (at + 1) 0 * 256 + get_or p (at + 2) 0) ≤ end
-        → FieldTo p at end (get_or p at 0) (at + 3 + (get_or p (at + 1) 0 * 256 + get_or p (at + 2) 0))
+        → FieldTo p at end record { tag = get_or p at 0; from = at + 3; end = at + 3 + (get_or p (at + 1) 0 * 256 + get_or p (at + 2) 0) }
     unfolding cut_at
     cut_field g =
         record {
           is =
               cut_at_lem p at end h l
               ∙ rw (le-ltb end (at + 3) k, long, le-ltb end (at + 3 + (get_or p (at + 1) 0 * 256 + get_or p (at + 2) 0)) g, any_default 256 0 p at (omega arith));
+          start = refl;
           from = omega arith;
           within = g;
         }

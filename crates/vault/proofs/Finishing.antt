@@ -3,6 +3,8 @@
 --     packs-refused                                     the text is refused
 --     packs-finished                                    it is read, its packing is laid, and `finish` ends
 -- Assumes nothing.
+use Rattle.std.specs.Prelude.{Result, Ok, Err}
+use Rattle.packing.specs.declared.PackRefusal.{PackRefusal}
 use Prim.Native.Nat.{ℕ, ◌-◌, ◌≤◌, ◌<◌}
 use mathlib.Core.Path.{◌≡◌, ◌∙◌}
 use mathlib.Core.List.{List, [], ◌++◌, append_assoc}
@@ -20,7 +22,6 @@ use Rattle.text.specs.Reader.{good}
 use Rattle.text.specs.Whole.{whole_of, table_of, Reads}
 use Rattle.text.specs.Doc.{doc_of}
 use Rattle.text.specs.declared.Refusal.{Refusal}
-use Rattle.text.specs.declared.Reading.TheVariants.{Rows, Refused}
 use Rattle.text.proofs.Promise.{AcceptedWhole, rows_tree, refusal_is, placed_kinds}
 use Rattle.json_reader.specs.Lookup.{KnownAt}
 use Rattle.json_reader.proofs.Kept.{rest_cleared}
@@ -28,8 +29,6 @@ use Rattle.output.specs.Written.{full, CountedPlace}
 use Rattle.packing.specs.Packed.{packed, widest, widest_allowed}
 use Rattle.packing.specs.Services.{stored, unstored, pack_read, pack_of, answer_of_stored, table_of_stored, output_of_stored, Packs}
 use Rattle.packing.specs.declared.PackRefusal.TheVariants.{Given, Wide, Short}
-use Rattle.packing.specs.declared.Packing.{Packing}
-use Rattle.packing.specs.declared.Packing.TheVariants.{Packed, Denied}
 use Rattle.packing.proofs.Widest.{fits_whole}
 use Rattle.vault.specs.Laid.{longest, LaidValue, Finished}
 
@@ -41,12 +40,12 @@ cleared n e = e ∙ rw sub-zero
 
 module _ {rows len : ℕ} {out table : List ℕ} where
   module _ {table' out' : List ℕ} (e : table' ≡ replicate (length table) 0) (f : out' ≡ replicate (length out) 0) where
-    pub finished_wide : longest < len → Finished rows len out table (Denied Wide) table' out'
+    pub finished_wide : longest < len → Finished rows len out table (Err Wide) table' out'
     finished_wide h =
         let wide = lt-ltb longest len h in
         record { answered = rw wide; left = rw wide (cleared (length table) e); bytes = rw wide (cleared (length out) f) }
 
-    pub finished_short : len ≤ longest → length out < len → Finished rows len out table (Denied (Short len)) table' out'
+    pub finished_short : len ≤ longest → length out < len → Finished rows len out table (Err (Short len)) table' out'
     finished_short h k =
         let whole = le-ltb longest len h in
         let short = lt-ltb (length out) len k in
@@ -57,7 +56,7 @@ module _ {rows len : ℕ} {out table : List ℕ} where
         }
 
   pub finished_whole : len ≤ longest → len ≤ length out → {rest : List ℕ} → rest ≡ replicate (length (mid_of len (length out - len) out)) 0
-      → Finished rows len out table (Packed rows len) table (put_mid len (length out - len) out rest)
+      → Finished rows len out table (Ok (rows, len)) table (put_mid len (length out - len) out rest)
   finished_whole h k e =
       let whole = le-ltb longest len h in
       let room = le-ltb (length out) len k in
@@ -96,8 +95,8 @@ module _ (L : Limits) (words room : ℕ) (t : List ℕ) {f : Forest} {to : ℕ} 
 -- ---- contracts ----
 
 module _ (L : Limits) (words : ℕ) (t : List ℕ) where
-  pub packs_refused : (room : ℕ) {r : Refusal} {table out : List ℕ} → Reads L words t (Refused r) table → out ≡ replicate room 0
-      → Packs L words room t (Denied (Given r)) table out
+  pub packs_refused : (room : ℕ) {r : Refusal} {table out : List ℕ} → Reads L words t (Err r) table → out ≡ replicate room 0
+      → Packs L words room t (Err (Given r)) table out
   unfolding pack_of pack_read answer_of_stored table_of_stored output_of_stored
   packs_refused room {r} {table} h e =
       let w = refusal_is L words t table r h in
@@ -114,9 +113,9 @@ module _ (L : Limits) (words : ℕ) (t : List ℕ) where
       → take len out ++ replicate (length old - len) 0 ≡ filled (length old) p
   whole_filled p old e is h = rw (e, is, sets-eq p old 0 (omega arith), append_assoc, take-append_seam)
 
-  pub packs_finished : {n : ℕ} {table old out : List ℕ} {len : ℕ} → Reads L words t (Rows n) table → LaidValue t table 0 old 0 out len
+  pub packs_finished : {n : ℕ} {table old out : List ℕ} {len : ℕ} → Reads L words t (Ok n) table → LaidValue t table 0 old 0 out len
       → length table ≡ words
-      → {answer : Packing} {table' out' : List ℕ} → Finished n len out table answer table' out' → Packs L words (length old) t answer table' out'
+      → {answer : (Result (ℕ × ℕ) PackRefusal)} {table' out' : List ℕ} → Finished n len out table answer table' out' → Packs L words (length old) t answer table' out'
   unfolding table_of answer_of_stored table_of_stored output_of_stored
   packs_finished {n} {table} {old} {out} {len} reads laid-value long fin =
       let a = rows_tree L words t table n reads in

@@ -5,11 +5,12 @@
 --     Onward, onward-start ..   the items of a container, one after the other
 --     root-torn, root-rest ..   the whole packing
 -- Assumes nothing.
+use Rattle.std.specs.Prelude.{Some, None, Option}
 use mathlib.Core.Path.{◌≡◌, refl, sym, ap, ◌∙◌}
 use mathlib.Core.List.{List, [], ◌∷◌, ◌++◌, append_assoc, append-nil}
 use mathlib.Core.Bool.{Bool, true, false, cond}
-use mathlib.Core.Option.{Option, none, some}
-use Prim.Native.Nat.{ℕ, zero, suc, ◌+◌, ◌-◌, ◌≤◌, ◌<◌}
+use mathlib.Core.Option.{Option as Maybe, none, some}
+use Prim.Native.Nat.{ℕ, zero, suc, ◌-◌, ◌≤◌, ◌<◌}
 use native.Mathlib.Nat.{sub-zero}
 use native.Mathlib.Numerals.{sub-one}
 use native.Mathlib.Decide.{ℕ_discrete}
@@ -29,11 +30,10 @@ use Rattle.output.proofs.Bytes.{BytesLeft, left_all, left_on, left_as, left_last
 use Rattle.packing.specs.Fields.{Cut, torn, field, cut, is_text, is_number}
 use Rattle.packing.specs.Unpacked.{bare, simple_of, joined, ValueReader, on_value, on_name, on_item, items_of, boxes, value_by, shut, value_of, on_root, doc_in}
 use Rattle.packing.proofs.Turns.{items_in, items_step}
+use Rattle.vault.specs.declared.cuts.Field.{Field}
 use Rattle.vault.specs.Cuts.{FieldTo}
 use Rattle.vault.specs.Laid.{bracket_of}
-use Rattle.vault.specs.Values.{WroteDoc, Follows, Lead, colon, before_value, LeadsName, LeadsItem}
-use Rattle.vault.specs.declared.values.Ahead.{Ahead}
-use Rattle.vault.specs.declared.values.Ahead.TheVariants.{Value, Nothing}
+use Rattle.vault.specs.Values.{WroteDoc, Lead, colon, before_value, LeadsName, LeadsItem}
 
 -- ---- values that hold no others
 
@@ -71,11 +71,11 @@ part_whole w = rw (le-leb (length w) (length w) (omega arith), le-leb 0 (length 
 
 module _ (tag : ℕ) (content : List ℕ) where
   -- by a value's tag and whatever reads what is inside
-  simple_by : (inside : Bracket → List ℕ → Option Members) → (tag ≡ 6 → ⊥) → (tag ≡ 7 → ⊥) → value_by inside tag content ≡ simple_of tag content
+  simple_by : (inside : Bracket → List ℕ → Maybe Members) → (tag ≡ 6 → ⊥) → (tag ≡ 7 → ⊥) → value_by inside tag content ≡ simple_of tag content
   unfolding value_by
   simple_by inside h k = rw (ne_eqb tag 6 h, ne_eqb tag 7 k)
 
-  box_by : (inside : Bracket → List ℕ → Option Members) → 6 ≤ tag → tag ≤ 7 → value_by inside tag content ≡ boxes (bracket_of tag) (inside (bracket_of tag) content)
+  box_by : (inside : Bracket → List ℕ → Maybe Members) → 6 ≤ tag → tag ≤ 7 → value_by inside tag content ≡ boxes (bracket_of tag) (inside (bracket_of tag) content)
   unfolding value_by
   box_by inside h k =
       elim (ℕ_discrete tag 7) [
@@ -112,54 +112,54 @@ module _ (tag : ℕ) (content : List ℕ) where
 
 module _ (p : List ℕ) (at end : ℕ) where
   -- no field
-  pub name_torn : cut (part_of p at end) ≡ torn → (value : ValueReader) (more : List ℕ → Option Members) → on_name value more (cut (part_of p at end)) ≡ none
+  pub name_torn : cut (part_of p at end) ≡ torn → (value : ValueReader) (more : List ℕ → Maybe Members) → on_name value more (cut (part_of p at end)) ≡ none
   unfolding on_name
   name_torn e value more = rw e
 
-  module _ {tag next : ℕ} (f : FieldTo p at end tag next) where
-    pub name_other : (tag ≡ 8 → ⊥) → (value : ValueReader) (more : List ℕ → Option Members) → on_name value more (cut (part_of p at end)) ≡ none
+  module _ {n : Field} (f : FieldTo p at end n) where
+    pub name_other : (n.tag ≡ 8 → ⊥) → (value : ValueReader) (more : List ℕ → Maybe Members) → on_name value more (cut (part_of p at end)) ≡ none
     unfolding on_name
-    name_other n value more = rw (f.is, ne_eqb tag 8 n)
+    name_other other value more = rw (f.is, ne_eqb n.tag 8 other)
 
-    abbrev pub name : Name
-    name = part_of p (at + 3) next
+    abbrev name : Name
+    name = part_of p n.from n.end
 
-    pub name_ill : is_text name ≡ false → (value : ValueReader) (more : List ℕ → Option Members) → on_name value more (cut (part_of p at end)) ≡ none
+    pub name_ill : is_text name ≡ false → (value : ValueReader) (more : List ℕ → Maybe Members) → on_name value more (cut (part_of p at end)) ≡ none
     unfolding on_name
-    name_ill h value more = rw (f.is, h) (go (eqb tag 8))
+    name_ill h value more = rw (f.is, h) (go (eqb n.tag 8))
       where
-        go : (b : Bool) → ◌≡◌ {A = Option Members} (cond b none none) none
+        go : (b : Bool) → ◌≡◌ {A = Maybe Members} (cond b none none) none
         go true = refl
         go false = refl
 
-    module _ (eight : tag ≡ 8) (good : is_text name ≡ true) where
-      name_then : (value : ValueReader) (more : List ℕ → Option Members)
-          → on_name value more (cut (part_of p at end)) ≡ on_value value more name (spelled name) (cut (part_of p next end))
+    module _ (eight : n.tag ≡ 8) (good : is_text name ≡ true) where
+      name_then : (value : ValueReader) (more : List ℕ → Maybe Members)
+          → on_name value more (cut (part_of p at end)) ≡ on_value value more name (spelled name) (cut (part_of p n.end end))
       unfolding on_name
-      name_then value more = rw (f.is, eq-eqb tag 8 eight, good)
+      name_then value more = rw (f.is, eq-eqb n.tag 8 eight, good)
+
+      -- a good name, and no field behind it
+      pub named_torn : cut (part_of p n.end end) ≡ torn → (value : ValueReader) (more : List ℕ → Maybe Members) → on_name value more (cut (part_of p at end)) ≡ none
+      named_torn e value more = name_then value more ∙ ap (on_value value more name (spelled name)) e
 
       -- a good name, and then the field of the value
-      pub named : {old : List ℕ} {to : ℕ} {new : List ℕ} {q : ℕ} → Wrote old to (colon (spelled name)) new q → (r : Ahead) → Follows p next end q r
-          → LeadsName p at end old to new r
-      named w (Value kind from behind q') g =
-          let h = f.from in
-          let k = g.field in
+      pub named : {v : Field} → FieldTo p n.end end v → {old : List ℕ} {to : ℕ} {new : List ℕ} {q : ℕ} → Wrote old to (colon (spelled name)) new q
+          → Lead on_name colon p at end old to new v q
+      named k w =
           record {
             name = name;
             label = spelled name;
-            is = λ value more. name_then value more ∙ ap (on_value value more name (spelled name)) k.is
-                ∙ ap (λ (i : ℕ). joined name (spelled name) (value kind (part_of p i behind)) (more (part_of p behind end))) (sym g.start);
-            later = omega (arith, k.from);
-            inside = omega (arith, k.from, g.start);
+            is = λ value more. name_then value more ∙ ap (on_value value more name (spelled name)) k.is;
+            later = omega (arith, f.start, f.from, k.start, k.from);
+            inside = k.from;
             within = k.within;
-            wrote = rw (← g.same) at w;
+            wrote = w;
           }
-      named w Nothing g = λ value more. name_then value more ∙ ap (on_value value more name (spelled name)) g
 
 -- an object's items
 pub heads_object : (p : List ℕ) (tag : ℕ) (first : Bool) (at end : ℕ) → tag ≡ 7 → {old : List ℕ} {to : ℕ} {mid : List ℕ} {q : ℕ} (new : List ℕ)
-    → Wrote old to (comma first) mid q → (r : Ahead) → LeadsName p at end mid q new r → LeadsItem p tag first at end old to new r
-heads_object p tag first at end e new w (Value kind from behind q') g =
+    → Wrote old to (comma first) mid q → (r : Option (Field × ℕ)) → LeadsName p at end mid q new r → LeadsItem p tag first at end old to new r
+heads_object p tag first at end e new w (Some (f, q')) g =
     rw e (record {
       name = g.name;
       label = g.label;
@@ -169,23 +169,24 @@ heads_object p tag first at end e new w (Value kind from behind q') g =
       within = g.within;
       wrote = wrote_then (comma first) (colon g.label) w g.wrote;
     })
-heads_object p tag first at end e new w Nothing g = rw e g
+heads_object p tag first at end e new w None g = rw e g
 
 -- an array's
-pub heads_array : (p : List ℕ) (tag : ℕ) (first : Bool) (at end : ℕ) → (tag ≡ 7 → ⊥) → {old : List ℕ} {to : ℕ} {new : List ℕ} {q : ℕ}
-    → Wrote old to (comma first) new q → (r : Ahead) → Follows p at end q r → LeadsItem p tag first at end old to new r
-heads_array p tag first at end n w (Value kind from behind q') g =
-    let k = g.field in
-    rw (ne_eqb tag 7 n) (record {
-      name = [];
-      label = [];
-      is = λ value more. ap (on_value value more [] []) k.is ∙ ap (λ (i : ℕ). joined [] [] (value kind (part_of p i behind)) (more (part_of p behind end))) (sym g.start);
-      later = omega (arith, k.from);
-      inside = omega (arith, k.from, g.start);
-      within = k.within;
-      wrote = rw (append-nil, g.same) w;
-    })
-heads_array p tag first at end n w Nothing g = rw (ne_eqb tag 7 n) (λ value more. ap (on_value value more [] []) g)
+module _ (p : List ℕ) (tag at end : ℕ) (n : tag ≡ 7 → ⊥) where
+  pub heads_torn : cut (part_of p at end) ≡ torn → (value : ValueReader) (more : List ℕ → Maybe Members) → on_item (bracket_of tag) value more (cut (part_of p at end)) ≡ none
+  heads_torn e value more = rw (ne_eqb tag 7 n) (ap (on_value value more [] []) e)
+
+  pub heads_array : (first : Bool) {old : List ℕ} {to : ℕ} {new : List ℕ} {q : ℕ} → Wrote old to (comma first) new q → {f : Field} → FieldTo p at end f → LeadsItem p tag first at end old to new (Some (f, q))
+  heads_array first w k =
+      rw (ne_eqb tag 7 n) (record {
+        name = [];
+        label = [];
+        is = λ value more. ap (on_value value more [] []) k.is;
+        later = omega (arith, k.start, k.from);
+        inside = k.from;
+        within = k.within;
+        wrote = rw append-nil w;
+      })
 
 -- ---- the items of a container
 
@@ -209,7 +210,7 @@ items_more curly n label d ms first = simp append_assoc
 
 module _ (p : List ℕ) (b : Bracket) (value : ValueReader) (from end : ℕ) where
   -- the items from a place on
-  abbrev pub items_at : ℕ → Option Members
+  abbrev pub items_at : ℕ → Maybe Members
   items_at i = items_in b value (part_of p i end)
 
   -- all of them, if those from here on are `ms`, and their text, of which that of `ms` is left to write
@@ -240,21 +241,21 @@ module _ (p : List ℕ) (b : Bracket) (value : ValueReader) (from end : ℕ) whe
 
   module _ (room : end ≤ length p) {old : List ℕ} {at : ℕ} {new : List ℕ} {q i : ℕ} (o : Onward old at new q i) (more : i < end) where
     -- no item stands here
-    pub onward_none : ((v : ValueReader) (m : List ℕ → Option Members) → on_item b v m (cut (part_of p i end)) ≡ none) → items_at from ≡ none
+    pub onward_none : ((v : ValueReader) (m : List ℕ → Maybe Members) → on_item b v m (cut (part_of p i end)) ≡ none) → items_at from ≡ none
     onward_none h = o.nothing (items_here i more room ∙ h value (items_in b value))
 
-    module _ {kind start next to : ℕ} {mid : List ℕ} (l : Lead (on_item b) (λ label. comma (eqb i from) ++ before_value b label) p i end new q mid kind start next to) where
-      item : items_at i ≡ joined l.name l.label (value kind (part_of p start next)) (items_at next)
+    module _ {f : Field} {to : ℕ} {mid : List ℕ} (l : Lead (on_item b) (λ label. comma (eqb i from) ++ before_value b label) p i end new q mid f to) where
+      item : items_at i ≡ joined l.name l.label (value f.tag (part_of p f.from f.end)) (items_at f.end)
       item = items_here i more room ∙ l.is value (items_in b value)
 
       -- its value is none
-      pub onward_bad : value kind (part_of p start next) ≡ none → items_at from ≡ none
+      pub onward_bad : value f.tag (part_of p f.from f.end) ≡ none → items_at from ≡ none
       onward_bad e = o.nothing (item ∙ rw e)
 
-      pub onward_on : {last : List ℕ} {r : ℕ} → WroteDoc (value kind (part_of p start next)) mid to last r → Onward old at last r next
+      pub onward_on : {last : List ℕ} {r : ℕ} → WroteDoc (value f.tag (part_of p f.from f.end)) mid to last r → Onward old at last r f.end
       onward_on {last} {r} w =
           let d = w.doc in
-          let n : eqb next from ≡ false = ne_eqb next from (λ e. omega (arith, l.later, o.low)) in
+          let n : eqb f.end from ≡ false = ne_eqb f.end from (λ e. omega (arith, l.later, o.low)) in
           record {
             low = omega (arith, l.later, o.low);
             high = l.within;
@@ -296,14 +297,15 @@ module _ (p : List ℕ) (depth : ℕ) where
   unfolding on_root
   root_torn e = root torn e
 
-  -- bytes are left over
-  pub root_rest : {tag next : ℕ} → FieldTo p 0 (length p) tag next → next < length p → doc_in depth p ≡ none
-  unfolding on_root
-  root_rest {tag} {next} f h = root (field tag (part_of p 3 next) (part_of p next (length p))) f.is ∙ rw (part_more p next (length p) h (omega arith))
+  module _ {f : Field} (k : FieldTo p 0 (length p) f) where
+    -- bytes are left over
+    pub root_rest : f.end < length p → doc_in depth p ≡ none
+    unfolding on_root
+    root_rest h = root _ k.is ∙ rw (part_more p f.end (length p) h (omega arith))
 
-  pub root_value : {tag next : ℕ} → FieldTo p 0 (length p) tag next → length p ≤ next → doc_in depth p ≡ value_of depth tag (part_of p 3 next)
-  unfolding on_root
-  root_value {tag} {next} f h =
-      let e : next ≡ length p = omega (arith, f.within) in
-      root (field tag (part_of p 3 next) (part_of p next (length p))) f.is
-      ∙ ap (λ (w : List ℕ). on_root (value_of depth) (field tag (part_of p 3 next) w)) (ap (λ (i : ℕ). part_of p i (length p)) e ∙ part_here p (length p))
+    pub root_value : length p ≤ f.end → doc_in depth p ≡ value_of depth f.tag (part_of p f.from f.end)
+    unfolding on_root
+    root_value h =
+        let e : f.end ≡ length p = omega (arith, k.within) in
+        root _ k.is
+        ∙ ap (λ (w : List ℕ). on_root (value_of depth) (field f.tag (part_of p f.from f.end) w)) (ap (λ (i : ℕ). part_of p i (length p)) e ∙ part_here p (length p))

@@ -1,5 +1,7 @@
 -- What the functions of packing promise: fields whose content is written first, from behind the place of their head, and then the head. Assumes nothing:
 -- these are definitions.
+use Rattle.std.specs.Prelude.{Result, Ok, Err}
+use Rattle.packing.specs.declared.PackRefusal.{PackRefusal}
 use Rattle.std.specs.Prelude.{ℕ, ◌+◌, ◌-◌, ◌/◌, ◌%◌, ◌≤◌, ◌<◌, ◌≡◌, cond, List, [], ◌∷◌, ◌++◌, length, take, replicate, ltb, eqb}
 use Rattle.std.proofs.lemmas.List.Edits.{sets}
 use Rattle.laws.specs.Lists.{filled}
@@ -13,8 +15,6 @@ use Rattle.output.specs.Written.{CountedPlace}
 use Rattle.packing.specs.Packed.{name_field, packed}
 pub use Rattle.packing.specs.Packed.{head_size, longest}
 use Rattle.packing.specs.declared.PackRefusal.TheVariants.{Wide, Short}
-use Rattle.packing.specs.declared.Packing.{Packing}
-use Rattle.packing.specs.declared.Packing.TheVariants.{Packed, Denied}
 
 -- ---- fields
 
@@ -55,8 +55,8 @@ abbrev pub LaidValue : (t table : List ℕ) → (row : ℕ) → (old : List ℕ)
 LaidValue t table row old at new r = (g : Forest) → KnownAt table row g → Laid old at (packed (doc_of t g)) new r
 
 -- the answer on so many rows and bytes, and what is left of the table and of the output: 51, else 52, else what was written
-pub record Finished (rows len : ℕ) (out table : List ℕ) (answer : Packing) (table' out' : List ℕ) : Type 0 where
-  pub answered : answer ≡ cond (ltb longest len) (Denied Wide) (cond (ltb (length out) len) (Denied (Short len)) (Packed rows len))
+pub record Finished (rows len : ℕ) (out table : List ℕ) (answer : Result (ℕ × ℕ) PackRefusal) (table' out' : List ℕ) : Type 0 where
+  pub answered : answer ≡ cond (ltb longest len) (Err Wide) (cond (ltb (length out) len) (Err (Short len)) (Ok (rows, len)))
   pub left : table' ≡ cond (ltb longest len) (filled (length table) []) (cond (ltb (length out) len) (filled (length table) []) table)
   pub bytes : out' ≡ cond (ltb longest len) (filled (length out) [])
       (cond (ltb (length out) len) (filled (length out) []) (take len out ++ replicate (length out - len) 0))

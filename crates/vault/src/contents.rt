@@ -6,8 +6,7 @@ ghost use Rattle.packing.specs.Packed.{content_in};
 ghost use Rattle.output.specs.Written.{Wrote};
 ghost use Rattle.vault.specs.Laid.{RawTo};
 
-use json_reader::bytes::{BACKSLASH, OVER, peek};
-use json_reader::decode::{Next, cursor_at, next_byte};
+use json_reader::decode::{cursor_at, next_byte};
 use json_reader::names::slice;
 use json_reader::rows::{NUMBER, STRING};
 use output::put::{put_byte, put_run};
@@ -16,17 +15,10 @@ use output::put::{put_byte, put_run};
 fn raw_end(inner: &[u8]) -> usize
     ensures { RawTo inner.now result }
 {
-    let mut i: usize = 0;
-    loop {
-        let b = peek(inner, i);
-        if b == BACKSLASH {
-            return i;
-        }
-        if b == OVER {
-            return i;
-        }
-        i += 1;
-    }
+    inner
+        .iter()
+        .position(|b| *b == b'\\')
+        .unwrap_or(inner.len())
 }
 
 // What is decoded of a string's inner bytes from a place on.
@@ -35,13 +27,11 @@ fn put_rest(inner: &[u8], from: usize, out: &mut [u8], at: usize) -> usize
 {
     let mut p = at;
     let mut c = cursor_at(from);
-    loop {
-        let Next::Byte(b, on) = next_byte(inner, c) else {
-            return p;
-        };
+    while let Some((b, on)) = next_byte(inner, c) {
         p = put_byte(out, p, b);
         c = on;
     }
+    p
 }
 
 // A string's inner bytes, decoded. What stands before its first backslash, mostly all of it, is one run.
@@ -71,15 +61,12 @@ pub(crate) fn put_content(
 ) -> usize
     ensures { Wrote out.old at (content_in kind (part_of text.now from to)) out.new result }
 {
-    if kind == STRING {
-        let token = slice(text, from, to);
-        if token.len() == 0 {
-            return at;
+    match kind {
+        STRING => {
+            let token = slice(text, from, to);
+            put_name(token, 1, token.len().saturating_sub(1), out, at)
         }
-        return put_name(token, 1, token.len() - 1, out, at);
+        NUMBER => put_run(text, from, to, out, at),
+        _ => at,
     }
-    if kind == NUMBER {
-        return put_run(text, from, to, out, at);
-    }
-    at
 }

@@ -5,17 +5,12 @@ ghost use Rattle.packing.specs.Services.{Packs};
 ghost use Rattle.vault.specs.Laid.{LaidName, LaidValue, Finished};
 
 use crate::contents::{put_content, put_name};
-use crate::heads::{behind_head, put_head};
+use crate::heads::{NAME, behind_head, put_head};
 use fields::LONGEST;
 use json_reader::lookup::next_row;
 use json_reader::read::read;
 use json_reader::rows::{ARRAY, OBJECT, kind, name_end, name_start, value_end, value_start};
-use laws::clear::{clear_bytes, clear_words};
-use packing::{PackRefusal, Packing};
-use text::Reading;
-
-// The tag of a name's field.
-const NAME: usize = 8;
+use packing::PackRefusal;
 
 // The field of the name of the value at a row, if it stands in an object.
 fn put_named(
@@ -64,33 +59,38 @@ fn put_value(text: &[u8], table: &[u32], row: usize, out: &mut [u8], at: usize) 
 }
 
 // The answer on a text of so many rows whose packing has so many bytes, as far as the output had room for them; what is unused is cleared.
-fn finish(rows: usize, len: usize, out: &mut [u8], table: &mut [u32]) -> Packing
+fn finish(
+    rows: usize,
+    len: usize,
+    out: &mut [u8],
+    table: &mut [u32],
+) -> Result<(usize, usize), PackRefusal>
     ensures { Finished rows len out.old table.old result table.new out.new }
 {
     if LONGEST < len {
-        clear_words(table);
-        clear_bytes(out);
-        return Packing::Denied(PackRefusal::Wide);
+        table.fill(0);
+        out.fill(0);
+        return Err(PackRefusal::Wide);
     }
     if out.len() < len {
-        clear_words(table);
-        clear_bytes(out);
-        return Packing::Denied(PackRefusal::Short(len));
+        table.fill(0);
+        out.fill(0);
+        return Err(PackRefusal::Short(len));
     }
-    clear_bytes(&mut out[len..]);
-    Packing::Packed(rows, len)
+    out[len..].fill(0);
+    Ok((rows, len))
 }
 
 // Packs a text: its rows in the table and its packing in the output, and zeros behind both; or the first refusal, and zeros alone.
-pub fn pack(text: &[u8], out: &mut [u8], table: &mut [u32]) -> Packing
+pub fn pack(text: &[u8], out: &mut [u8], table: &mut [u32]) -> Result<(usize, usize), PackRefusal>
     ensures { Packs base (length table.old) (length out.old) text.now result table.new out.new }
 {
     match read(text, table) {
-        Reading::Refused(r) => {
-            clear_bytes(out);
-            Packing::Denied(PackRefusal::Given(r))
+        Err(r) => {
+            out.fill(0);
+            Err(PackRefusal::Given(r))
         }
-        Reading::Rows(n) => {
+        Ok(n) => {
             let len = put_value(text, table, 0, out, 0);
             finish(n, len, out, table)
         }

@@ -4,27 +4,26 @@ ghost use Rattle.text.specs.Writing.{spelled};
 ghost use Rattle.output.specs.Written.{Wrote};
 ghost use Rattle.text.specs.Tokens.{digits_at, sign_end, then_at, frac_at, exp_at};
 ghost use Rattle.packing.specs.Fields.{is_text, ends_at, is_number};
-ghost use Rattle.vault.specs.Strings.{char_end, OwnEnd, spelled_at};
+ghost use Rattle.vault.specs.Strings.{char_end, OwnRun, spelled_at};
 
 use json_reader::bytes::{LARGE_E, SMALL_E, peek};
 use json_reader::chars::raw_at;
 use json_reader::tokens::{digits, frac, int, minus_end, sign_end};
 use output::put::{put_byte, put_run, put_spelled_byte};
-use text::{Step, Token};
+use text::Fault;
 
-// The place behind the character at a place, or the same place where none stands.
-fn char_end(content: &[u8], at: usize) -> usize
+// The place behind the character at a place, where one stands.
+fn char_end(content: &[u8], at: usize) -> Option<usize>
     ensures { result ≡ char_end content.now at }
 {
     let b = peek(content, at);
     if b < 0x80 {
-        return at + 1;
+        return Some(at + 1);
     }
     match raw_at(content, at) {
-        Step::Char(_, len) => at + len,
-        Step::Close => at,
-        Step::Bad2(_) => at,
-        Step::Bad3(_) => at,
+        Ok(Some((_, len))) => Some(at + len),
+        Ok(None) => None,
+        Err(_) => None,
     }
 }
 
@@ -34,10 +33,9 @@ pub(crate) fn is_text(content: &[u8]) -> bool
 {
     let mut at = 0;
     while at < content.len() {
-        let next = char_end(content, at);
-        if next == at {
+        let Some(next) = char_end(content, at) else {
             return false;
-        }
+        };
         at = next;
     }
     true
@@ -48,9 +46,8 @@ fn ends_digits(content: &[u8], at: usize) -> bool
     ensures { result ≡ ends_at (length content.now) (digits_at content.now (sign_end content.now at)) }
 {
     match digits(content, sign_end(content, at)) {
-        Token::End(to) => to == content.len(),
-        Token::No2(_) => false,
-        Token::No3(_) => false,
+        Ok(to) => to == content.len(),
+        Err(_) => false,
     }
 }
 
@@ -59,10 +56,7 @@ fn ends_exponent(content: &[u8], at: usize) -> bool
     ensures { result ≡ ends_at (length content.now) (exp_at content.now at) }
 {
     let b = peek(content, at);
-    if b == SMALL_E {
-        return ends_digits(content, at + 1);
-    }
-    if b == LARGE_E {
+    if b == SMALL_E || b == LARGE_E {
         return ends_digits(content, at + 1);
     }
     at == content.len()
@@ -73,9 +67,8 @@ fn ends_fraction(content: &[u8], at: usize) -> bool
     ensures { result ≡ ends_at (length content.now) (then_at (exp_at content.now) (frac_at content.now at)) }
 {
     match frac(content, at) {
-        Token::End(to) => ends_exponent(content, to),
-        Token::No2(_) => false,
-        Token::No3(_) => false,
+        Ok(to) => ends_exponent(content, to),
+        Err(_) => false,
     }
 }
 
@@ -85,32 +78,18 @@ pub(crate) fn is_number(content: &[u8]) -> bool
     ensures { result ≡ is_number content.now }
 {
     match int(content, minus_end(content, 0)) {
-        Token::End(to) => ends_fraction(content, to),
-        Token::No2(_) => false,
-        Token::No3(_) => false,
+        Ok(to) => ends_fraction(content, to),
+        Err(_) => false,
     }
 }
 
-// How far the bytes from a place on stand for themselves in a string.
-fn own_end(content: &[u8], from: usize) -> usize
-    requires { from ≤ length content.now }
-    ensures { OwnEnd content.now from result }
+// How many bytes at the start stand for themselves in a string.
+fn own_len(rest: &[u8]) -> usize
+    ensures { OwnRun rest.now result }
 {
-    let mut at = from;
-    while at < content.len() {
-        let b = content[at];
-        if b < b' ' {
-            return at;
-        }
-        if b == b'"' {
-            return at;
-        }
-        if b == b'\\' {
-            return at;
-        }
-        at += 1;
-    }
-    at
+    rest.iter()
+        .position(|b| *b < b' ' || *b == b'"' || *b == b'\\')
+        .unwrap_or(rest.len())
 }
 
 // The byte at a place, escaped or not, where there is one.
@@ -130,7 +109,7 @@ pub(crate) fn put_string(content: &[u8], out: &mut [u8], at: usize) -> usize
     let mut p = put_byte(out, at, b'"');
     let mut i = 0;
     while i < content.len() {
-        let e = own_end(content, i);
+        let e = i + own_len(&content[i..]);
         p = put_run(content, i, e, out, p);
         p = put_spelled_at(content, e, out, p);
         i = e + 1;

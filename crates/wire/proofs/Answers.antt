@@ -1,5 +1,6 @@
 -- What the automaton answers after some bytes is what is to be said (`answers`), and nothing else is (`only`); at the end it is the measure's (`end_is`).
 -- Assumes nothing.
+use Rattle.std.specs.Prelude.{Result, Ok, Err}
 use mathlib.Core.Path.{◌≡◌, refl, sym, ap, subst, ◌∙◌}
 use mathlib.Core.List.{List, [], ◌∷◌, ◌++◌}
 use Prim.Native.Nat.{ℕ, zero, suc, ◌+◌, ◌-◌, ◌≤◌, ◌<◌}
@@ -15,8 +16,6 @@ use Rattle.text.specs.Sheet.{refused, paper}
 use Rattle.text.specs.declared.Paper.{Paper}
 use Rattle.text.specs.declared.Refusal.{Refusal}
 use Rattle.text.specs.declared.Refusal.TheVariants.{TooLong}
-use Rattle.text.specs.declared.Reading.{Reading}
-use Rattle.text.specs.declared.Reading.TheVariants.{Rows, Refused}
 use Rattle.wire.specs.Measure.{measure, Certain, Shortest}
 use Rattle.wire.specs.Machine.{State, going, over, start, feed, finish, feeds, taken, cut_off, piece}
 use Rattle.wire.specs.Promise.{Open, Says, go_on, certain, too_long}
@@ -75,13 +74,13 @@ all_open L p h g j r c = going_open L (take j p) (take_below j p h) (feeds L sta
 
 -- ---- the fewest bytes after which there is an answer
 
-record First (L : Limits) (s : State) (p : List ℕ) (a : Reading) : Type 0 where
+record First (L : Limits) (s : State) (p : List ℕ) (a : Result ℕ Refusal) : Type 0 where
   k : ℕ
   inside : k ≤ length p
   there : feeds L s (take k p) ≡ over a
   before : (j : ℕ) → j < k → Going (feeds L s (take j p))
 
-first_told : (L : Limits) (s : State) (p : List ℕ) (a : Reading) → feeds L s p ≡ over a → First L s p a
+first_told : (L : Limits) (s : State) (p : List ℕ) (a : Result ℕ Refusal) → feeds L s p ≡ over a → First L s p a
 unfolding feeds
 first_told L s [] a e = record { k = 0; inside = omega arith; there = e; before = λ j h. absurd (omega arith) }
 first_told L s (b ∷ p) a e = go s refl (first_told L (feed L s b) p a e)
@@ -101,13 +100,13 @@ first_told L s (b ∷ p) a e = go s refl (first_told L (feed L s b) p a e)
 
 -- ---- the byte limit
 
-pub piece_stays : (L : Limits) (a : Reading) (p : List ℕ) → piece L (over a) p ≡ over a
+pub piece_stays : (L : Limits) (a : Result ℕ Refusal) (p : List ℕ) → piece L (over a) p ≡ over a
 unfolding piece taken
 piece_stays L a [] = refl
 piece_stays L a (b ∷ p) = piece_stays L a p
 
 cut_stays : (L : Limits) (s : State) (p : List ℕ) → piece L (cut_off s) p ≡ cut_off s
-cut_stays L (going i n os spot) p = piece_stays L (Refused TooLong) p
+cut_stays L (going i n os spot) p = piece_stays L (Err TooLong) p
 cut_stays L (over a) p = piece_stays L a p
 
 pub piece_short : (L : Limits) (i : ℕ) (s : State) (p : List ℕ) → Fits i s → i + length p ≤ L.bytes → piece L s p ≡ feeds L s p
@@ -128,7 +127,7 @@ piece_long L i (suc m) s (b ∷ p) k e l =
 module _ (L : Limits) (p : List ℕ) (h : Bytes p) where
   -- a refusal after some bytes q, of which each prefix is one of p
   shortest : (q : List ℕ) → Bytes q → ((j : ℕ) → j ≤ length q → take j q ≡ take j p) → length q ≤ length p → (r : Refusal)
-      → (f : First L start q (Refused r)) → Shortest L p f.k r
+      → (f : First L start q (Err r)) → Shortest L p f.k r
   shortest q b same le r f =
       record {
         within = omega (arith, f.inside);
@@ -147,17 +146,17 @@ module _ (L : Limits) (p : List ℕ) (h : Bytes p) where
     where
       short : length p ≤ L.bytes → (s : State) → feeds L start p ≡ s → Sane (length p) (feeds L start p) → Says L p (answer_of s)
       short l (going i n os spot) e k = go_on l (all_open L p h (subst Going (sym e) tt))
-      short l (over (Rows n)) e k = absurd (subst (Sane (length p)) e k)
-      short l (over (Refused r)) e k =
-          let f = first_told L start p (Refused r) e in
+      short l (over (Ok n)) e k = absurd (subst (Sane (length p)) e k)
+      short l (over (Err r)) e k =
+          let f = first_told L start p (Err r) e in
           certain {k = f.k} (omega (arith, f.inside)) (shortest p h (λ j m. refl) (le_refl (length p)) r f)
 
       long : L.bytes < length p → (s : State) → feeds L start (take L.bytes p) ≡ s → Sane (length (take L.bytes p)) (feeds L start (take L.bytes p))
           → Says L p (answer_of (cut_off s))
       long l (going i n os spot) e k = too_long l (λ j m. rw (take-take j L.bytes p m) at (all_open L (take L.bytes p) (take_below L.bytes p h) (subst Going (sym e) tt) j))
-      long l (over (Rows n)) e k = absurd (subst (Sane (length (take L.bytes p))) e k)
-      long l (over (Refused r)) e k =
-          let f = first_told L start (take L.bytes p) (Refused r) e in
+      long l (over (Ok n)) e k = absurd (subst (Sane (length (take L.bytes p))) e k)
+      long l (over (Err r)) e k =
+          let f = first_told L start (take L.bytes p) (Err r) e in
           let w : length (take L.bytes p) ≡ L.bytes = length-take-le L.bytes p (omega arith) in
           certain {k = f.k} (omega (arith, f.inside)) (shortest (take L.bytes p) (take_below L.bytes p h) (λ j m. take-take j L.bytes p (omega arith)) (omega arith) r f)
 
@@ -172,7 +171,7 @@ module _ (L : Limits) (p : List ℕ) (h : Bytes p) where
       never (over a) e = absurd e
 
   -- before the end no text is accepted
-  pub not_rows : (n : ℕ) → piece L start p ≡ over (Rows n) → ⊥
+  pub not_rows : (n : ℕ) → piece L start p ≡ over (Ok n) → ⊥
   not_rows n e = elim (dec_le (length p) L.bytes) [
     | yes l ↦ subst (Sane (length p)) (sym (piece_short L 0 start p (refl, tt) (omega arith)) ∙ e) (start_sane L p h)
     | no l ↦
@@ -180,14 +179,14 @@ module _ (L : Limits) (p : List ℕ) (h : Bytes p) where
         (sym (piece_long L 0 L.bytes start p (refl, tt) (omega arith) (omega arith)) ∙ e)
   ]
     where
-      late : (s : State) → Sane (length (take L.bytes p)) s → cut_off s ≡ over (Rows n) → ⊥
+      late : (s : State) → Sane (length (take L.bytes p)) s → cut_off s ≡ over (Ok n) → ⊥
       late (going i m os spot) k e = let z : ◌≡◌ {A = ℕ} 0 1 = cc in omega arith
-      late (over (Rows m)) k e = k
-      late (over (Refused r)) k e = let z : ◌≡◌ {A = ℕ} 0 1 = cc in omega arith
+      late (over (Ok m)) k e = k
+      late (over (Err r)) k e = let z : ◌≡◌ {A = ℕ} 0 1 = cc in omega arith
 
 -- ---- only one
 
-same_refusal : {r q : Refusal} → Refused r ≡ Refused q → r ≡ q
+same_refusal : {r q : Refusal} → ◌≡◌ {A = Result ℕ Refusal} (Err r) (Err q) → r ≡ q
 same_refusal e = cc
 
 pub only : (L : Limits) (p : List ℕ) {a b : Paper} → Says L p a → Says L p b → a ≡ b

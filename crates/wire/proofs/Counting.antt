@@ -4,6 +4,9 @@
 --     item-law       an item, whatever items are before it
 --     items-law      the items from a place on: one, and then what follows it; the turns are gone
 -- Assumes nothing.
+use Rattle.std.specs.Prelude.{Result, Ok, Err}
+use Rattle.text.specs.declared.Fault.{Fault}
+use Rattle.text.specs.declared.Fault.TheVariants.{Malformed, Forbidden}
 use mathlib.Core.Path.{◌≡◌, refl, ap, ◌∙◌}
 use mathlib.Core.List.{List}
 use mathlib.Core.Bool.{Bool, true, false, cond}
@@ -21,8 +24,6 @@ use Rattle.text.specs.Tokens.{skip, kind_by, token_at}
 use Rattle.text.specs.Grammar.{closing, item}
 use Rattle.text.specs.Tree.{Bracket, square, curly, Forest, none, size, join}
 use Rattle.text.specs.Reader.{Read, good, bad, Reader, scalar_with, scalar_at, close_of, container, deep, value_with, after_item, items_from, inside_of, colon_at, member_with, member_of, value_at}
-use Rattle.text.specs.declared.Token.{Token}
-use Rattle.text.specs.declared.Token.TheVariants.{End, No2, No3}
 use Rattle.text.specs.declared.Refusal.{Refusal}
 use Rattle.text.specs.declared.Refusal.TheVariants.{Grammar, Character, Deep, Many}
 use Rattle.text.proofs.Grammar.Stands.{stands_to}
@@ -48,10 +49,10 @@ bind k (on to n) = k to n
 bind k (halt r) = halt r
 
 -- a token, after which n values have begun
-abbrev pub token_c : (n : ℕ) → Token → Went
-token_c n (End to) = on to n
-token_c n (No2 p) = halt (Grammar p)
-token_c n (No3 p) = halt (Character p)
+abbrev pub token_c : (n : ℕ) → Result ℕ (Fault ℕ) → Went
+token_c n (Ok to) = on to n
+token_c n (Err (Malformed p)) = halt (Grammar p)
+token_c n (Err (Forbidden p)) = halt (Character p)
 
 tally_cond : (n : ℕ) (x : Bool) (a b : Read) {c d : Went} → tally n a ≡ c → tally n b ≡ d → tally n (cond x a b) ≡ cond x c d
 tally_cond n true a b p q = p
@@ -76,10 +77,10 @@ module _ (L : Limits) (t : List ℕ) where
   colon_c depth end n = cond (eqb (byte_at t (skip t end)) 58) (value_c depth (skip t (skip t end + 1)) n) (halt (Grammar (skip t end)))
 
   -- a name, and what follows it
-  abbrev pub name_c : (depth n : ℕ) → Token → Went
-  name_c depth n (End end) = colon_c depth end n
-  name_c depth n (No2 p) = halt (Grammar p)
-  name_c depth n (No3 p) = halt (Character p)
+  abbrev pub name_c : (depth n : ℕ) → Result ℕ (Fault ℕ) → Went
+  name_c depth n (Ok end) = colon_c depth end n
+  name_c depth n (Err (Malformed p)) = halt (Grammar p)
+  name_c depth n (Err (Forbidden p)) = halt (Character p)
 
   -- an item
   unfoldable pub item_c : (depth : ℕ) → Bracket → (at n : ℕ) → Went
@@ -126,11 +127,11 @@ module _ (L : Limits) (t : List ℕ) where
   unfolding Anonymous scalar_at scalar_with size
   scalar_anonymous kind ns ne at n = go (leb L.values n) (token_at t kind at)
     where
-      go : (c : Bool) (k : Token) → tally n (cond c (bad (Many at)) (scalar_with kind ns ne at k)) ≡ tally n (cond c (bad (Many at)) (scalar_with kind 0 0 at k))
+      go : (c : Bool) (k : Result ℕ (Fault ℕ)) → tally n (cond c (bad (Many at)) (scalar_with kind ns ne at k)) ≡ tally n (cond c (bad (Many at)) (scalar_with kind 0 0 at k))
       go true k = refl
-      go false (End to) = refl
-      go false (No2 p) = refl
-      go false (No3 p) = refl
+      go false (Ok to) = refl
+      go false (Err (Malformed p)) = refl
+      go false (Err (Forbidden p)) = refl
 
   container_anonymous : (b : Bracket) (inner : ℕ → ℕ → Read) → Anonymous (container L b inner)
   unfolding Anonymous container close_of size
@@ -169,11 +170,11 @@ module _ (L : Limits) (t : List ℕ) where
         let x = skip t end in
         tally_cond n (eqb (byte_at t x) 58) (value_at L t depth (at + 1) (end - 1) (skip t (x + 1)) n) (bad (Grammar x)) (value_anonymous depth (at + 1) (end - 1) (skip t (x + 1)) n) refl
 
-    member_law : (depth : ℕ) (done : Forest) (at n : ℕ) (k : Token) → tally n (member_with L t (value_at L t depth) done at n k) ≡ name_c depth n k
+    member_law : (depth : ℕ) (done : Forest) (at n : ℕ) (k : Result ℕ (Fault ℕ)) → tally n (member_with L t (value_at L t depth) done at n k) ≡ name_c depth n k
     unfolding member_with
-    member_law depth done at n (End end) = ap (tally n) (failed L.unique _ (colon_at t (value_at L t depth) at end n) free) ∙ colon_law depth at end n
-    member_law depth done at n (No2 p) = refl
-    member_law depth done at n (No3 p) = refl
+    member_law depth done at n (Ok end) = ap (tally n) (failed L.unique _ (colon_at t (value_at L t depth) at end n) free) ∙ colon_law depth at end n
+    member_law depth done at n (Err (Malformed p)) = refl
+    member_law depth done at n (Err (Forbidden p)) = refl
 
     pub item_law : (depth : ℕ) (b : Bracket) (done : Forest) (at n : ℕ) → tally n (item_at L t depth b done at n) ≡ item_c depth b at n
     unfolding member_of item_c value_c
@@ -277,10 +278,10 @@ module _ (L : Limits) (t : List ℕ) where
     unfolding scalar_at scalar_with scalar_c size
     scalar_law kind at n = tally_cond n (leb L.values n) (bad (Many at)) _ refl (go (token_at t kind at))
       where
-        go : (k : Token) → tally n (scalar_with kind 0 0 at k) ≡ token_c (n + 1) k
-        go (End to) = refl
-        go (No2 p) = refl
-        go (No3 p) = refl
+        go : (k : Result ℕ (Fault ℕ)) → tally n (scalar_with kind 0 0 at k) ≡ token_c (n + 1) k
+        go (Ok to) = refl
+        go (Err (Malformed p)) = refl
+        go (Err (Forbidden p)) = refl
 
     -- a value by its first byte
     pub value_law : (depth at n : ℕ) → value_c depth at n

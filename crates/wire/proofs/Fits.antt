@@ -4,6 +4,10 @@
 --     opened-..       the open brackets as bits
 --     finish-over     at the end there is an answer
 -- Assumes nothing.
+use Rattle.std.specs.Prelude.{Option, Some, None, Result, Ok, Err}
+use Rattle.text.specs.declared.Fault.{Fault}
+use Rattle.text.specs.declared.Fault.TheVariants.{Malformed, Forbidden}
+use Rattle.text.specs.declared.Refusal.{Refusal}
 use mathlib.Core.Path.{◌≡◌, refl, ap}
 use mathlib.Core.List.{List, [], ◌∷◌}
 use mathlib.Core.Bool.{Bool, true, false, cond}
@@ -23,14 +27,14 @@ use Rattle.text.specs.Grammar.{closing}
 use Rattle.text.specs.Tree.{Bracket, square, curly}
 use Rattle.text.specs.Sheet.{refused, paper}
 use Rattle.text.specs.declared.Refusal.TheVariants.{TooLong, Grammar, Character, Repeated, Deep, Many, Small}
-use Rattle.text.specs.declared.Reading.{Reading}
-use Rattle.text.specs.declared.Reading.TheVariants.{Rows, Refused}
-use Rattle.wire.specs.Figures.{Figure, Minus, Nought, Whole, Point, Fraction, Exponent, Sign, Digits, Turn, Goes, Ends, Stuck, turn_of}
+use Rattle.wire.specs.declared.Figure.{Figure}
+use Rattle.wire.specs.declared.Figure.TheVariants.{Minus, Nought, Whole, Point, Fraction, Exponent, Sign, Digits}
+use Rattle.wire.specs.declared.Turn.{Turn}
+use Rattle.wire.specs.declared.Turn.TheVariants.{Goes, Ends, Stuck}
+use Rattle.wire.specs.Figures.{turn_of}
 use Rattle.wire.specs.Inners.{checked, unit_move, hex_move, tail_move, move3, move4, lead_move, paired, move_of, sound}
 use Rattle.wire.specs.declared.Inner.{Inner}
 use Rattle.wire.specs.declared.Inner.TheVariants.{Plain, Escape, Four, Pair, PairU, Low1, Low2, Low3, Low4, Second3, Second4, Tails}
-use Rattle.wire.specs.declared.Move.{Move}
-use Rattle.wire.specs.declared.Move.TheVariants.{Still, Closed, Wrong2, Wrong3}
 use Rattle.wire.specs.declared.Held.{Held}
 use Rattle.wire.specs.Machine.{Spot, value, first, name, colon, after, word, number, string, key, State, going, over, counted, opens, spot_of, begins, quotes, items, firsts, behind_comma, closes, after_of, word_on, on_turn, on_move, feed, finish, taken, piece}
 use Rattle.wire.specs.Held.{opened_of, bits_of, figure_at, figure_code, literal_at, literal_code, inner_at, four_code, tails_code, inner_code, inner_from, inner_bits, inner_high, spot_at, told_at, state_at, state_of, held_of, words_of, held_in}
@@ -96,15 +100,15 @@ SpotFits (string s) = InnerFits s
 SpotFits (key s) = InnerFits s
 
 -- 4 and 7 are never answered
-abbrev pub Tells : Reading → Type 0
-Tells (Rows n) = Prim.Unit {0}
-Tells (Refused TooLong) = Prim.Unit {0}
-Tells (Refused (Grammar p)) = Prim.Unit {0}
-Tells (Refused (Character p)) = Prim.Unit {0}
-Tells (Refused (Repeated p)) = ⊥
-Tells (Refused (Deep p)) = Prim.Unit {0}
-Tells (Refused (Many p)) = Prim.Unit {0}
-Tells (Refused (Small n)) = ⊥
+abbrev pub Tells : Result ℕ Refusal → Type 0
+Tells (Ok n) = Prim.Unit {0}
+Tells (Err TooLong) = Prim.Unit {0}
+Tells (Err (Grammar p)) = Prim.Unit {0}
+Tells (Err (Character p)) = Prim.Unit {0}
+Tells (Err (Repeated p)) = ⊥
+Tells (Err (Deep p)) = Prim.Unit {0}
+Tells (Err (Many p)) = Prim.Unit {0}
+Tells (Err (Small n)) = ⊥
 
 -- after so many bytes
 abbrev pub Fits : (place : ℕ) → State → Type 0
@@ -113,26 +117,26 @@ Fits i (over a) = Tells a
 
 -- ---- a byte keeps that
 
-abbrev pub MoveFits : Move → Type 0
-MoveFits (Still s) = InnerFits s
-MoveFits Closed = Prim.Unit {0}
-MoveFits (Wrong2 p) = Prim.Unit {0}
-MoveFits (Wrong3 p) = Prim.Unit {0}
+abbrev pub MoveFits : Result (Option Inner) (Fault ℕ) → Type 0
+MoveFits (Ok (Some s)) = InnerFits s
+MoveFits (Ok None) = Prim.Unit {0}
+MoveFits (Err (Malformed p)) = Prim.Unit {0}
+MoveFits (Err (Forbidden p)) = Prim.Unit {0}
 
-move_cond : (x : Bool) (a b : Move) → MoveFits a → MoveFits b → MoveFits (cond x a b)
+move_cond : (x : Bool) (a b : Result (Option Inner) (Fault ℕ)) → MoveFits a → MoveFits b → MoveFits (cond x a b)
 move_cond true a b p q = p
 move_cond false a b p q = q
 
 checked_fits : (from c : ℕ) → MoveFits (checked from c)
 unfolding checked
-checked_fits from c = move_cond (sound c) (Still Plain) (Wrong3 from) tt tt
+checked_fits from c = move_cond (sound c) (Ok (Some Plain)) (Err (Forbidden from)) tt tt
 
 hex_fits : (from left v : ℕ) → left ≤ 3 → MoveFits (hex_move from left v)
 unfolding hex_move unit_move
 hex_fits from (suc left) v h = omega arith
 hex_fits from zero v h =
-    move_cond (ltb v 0xD800) (checked from v) (cond (ltb v 0xDC00) (Still (Pair from v)) (checked from v)) (checked_fits from v)
-    (move_cond (ltb v 0xDC00) (Still (Pair from v)) (checked from v) tt (checked_fits from v))
+    move_cond (ltb v 0xD800) (checked from v) (cond (ltb v 0xDC00) (Ok (Some (Pair from v))) (checked from v)) (checked_fits from v)
+    (move_cond (ltb v 0xDC00) (Ok (Some (Pair from v))) (checked from v) tt (checked_fits from v))
 
 tail_fits : (from left c : ℕ) → left ≤ 1 → MoveFits (tail_move from left c)
 unfolding tail_move
@@ -245,12 +249,12 @@ module _ (L : Limits) (i n b : ℕ) where
   turn_fits os Stuck = tt
 
   on_fits : (os : List Bracket) (inside : Inner → Spot) (behind : Spot) → ((s : Inner) → InnerFits s → SpotFits (inside s)) → SpotFits behind
-      → (m : Move) → MoveFits m → Next (on_move i n os inside behind m)
+      → (m : Result (Option Inner) (Fault ℕ)) → MoveFits m → Next (on_move i n os inside behind m)
   unfolding on_move
-  on_fits os inside behind ok o (Still s) h = (refl, ok s h)
-  on_fits os inside behind ok o Closed h = (refl, o)
-  on_fits os inside behind ok o (Wrong2 p) h = tt
-  on_fits os inside behind ok o (Wrong3 p) h = tt
+  on_fits os inside behind ok o (Ok (Some s)) h = (refl, ok s h)
+  on_fits os inside behind ok o (Ok None) h = (refl, o)
+  on_fits os inside behind ok o (Err (Malformed p)) h = tt
+  on_fits os inside behind ok o (Err (Forbidden p)) h = tt
 
   going_fits : (os : List Bracket) (spot : Spot) → SpotFits spot → Next (feed L (going i n os spot) b)
   unfolding feed
@@ -419,14 +423,14 @@ round p (going i n os (word c bs)) h = word_round i n os h.1
 round p (going i n os (number f)) h = figure_round i n os f
 round p (going i n os (string s)) h = string_round i n os s h.1
 round p (going i n os (key s)) h = key_round i n os s h.1
-round p (over (Rows n)) h = refl
-round p (over (Refused TooLong)) h = refl
-round p (over (Refused (Grammar q))) h = refl
-round p (over (Refused (Character q))) h = refl
-round p (over (Refused (Repeated q))) h = absurd h
-round p (over (Refused (Deep q))) h = refl
-round p (over (Refused (Many q))) h = refl
-round p (over (Refused (Small n))) h = absurd h
+round p (over (Ok n)) h = refl
+round p (over (Err TooLong)) h = refl
+round p (over (Err (Grammar q))) h = refl
+round p (over (Err (Character q))) h = refl
+round p (over (Err (Repeated q))) h = absurd h
+round p (over (Err (Deep q))) h = refl
+round p (over (Err (Many q))) h = refl
+round p (over (Err (Small n))) h = absurd h
 
 -- ---- nine words
 

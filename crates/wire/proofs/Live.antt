@@ -1,5 +1,8 @@
 -- A state without an answer leaves it open (`undecided`): two ways to go on with bytes, after which the end answers differently. So no refusal is certain there.
 -- Assumes nothing.
+use Rattle.std.specs.Prelude.{Option, Some, None, Result, Ok, Err}
+use Rattle.text.specs.declared.Fault.{Fault}
+use Rattle.text.specs.declared.Fault.TheVariants.{Malformed, Forbidden}
 use mathlib.Core.Path.{◌≡◌, refl, sym, ap, subst, ◌∙◌}
 use mathlib.Core.List.{List, [], ◌∷◌}
 use mathlib.Core.Bool.{Bool, true, false, cond}
@@ -18,13 +21,12 @@ use Rattle.text.specs.Tokens.{kind_by}
 use Rattle.text.specs.Tree.{Bracket, square, curly}
 use Rattle.text.specs.declared.Refusal.{Refusal}
 use Rattle.text.specs.declared.Refusal.TheVariants.{Grammar, Character}
-use Rattle.text.specs.declared.Reading.TheVariants.{Rows, Refused}
-use Rattle.wire.specs.Figures.{Figure, Minus, Nought, Whole, Point, Fraction, Exponent, Sign, Digits, exp_turn, frac_turn, turn_of}
+use Rattle.wire.specs.declared.Figure.{Figure}
+use Rattle.wire.specs.declared.Figure.TheVariants.{Minus, Nought, Whole, Point, Fraction, Exponent, Sign, Digits}
+use Rattle.wire.specs.Figures.{exp_turn, frac_turn, turn_of}
 use Rattle.wire.specs.Inners.{sound, checked, unit_move, hex_move, tail_move, move3, move4, paired, move_of}
 use Rattle.wire.specs.declared.Inner.{Inner}
 use Rattle.wire.specs.declared.Inner.TheVariants.{Plain, Escape, Four, Pair, PairU, Low1, Low2, Low3, Low4, Second3, Second4, Tails}
-use Rattle.wire.specs.declared.Move.{Move}
-use Rattle.wire.specs.declared.Move.TheVariants.{Still, Closed, Wrong2, Wrong3}
 use Rattle.wire.specs.Machine.{Spot, value, first, name, colon, after, word, number, string, key, State, going, over, refuse, begins, quotes, items, firsts, closes, after_of, word_on, on_turn, on_move, feed, finish, feeds}
 use Rattle.wire.proofs.Sound.{InnerOk, MoveOk, sound_beyond}
 use Rattle.wire.proofs.Sane.{SpotOk, move_ok}
@@ -40,13 +42,13 @@ pub record Undecided (L : Limits) (s : State) : Type 0 where
 
 -- ---- answers that differ
 
-no_rows : (n : ℕ) (r : Refusal) → over (Rows n) ≡ over (Refused r) → ⊥
+no_rows : (n : ℕ) (r : Refusal) → over (Ok n) ≡ over (Err r) → ⊥
 no_rows n r e = let z : ◌≡◌ {A = ℕ} 0 1 = cc in omega arith
 
-no_char : (p q : ℕ) → over (Refused (Character p)) ≡ over (Refused (Grammar q)) → ⊥
+no_char : (p q : ℕ) → over (Err (Character p)) ≡ over (Err (Grammar q)) → ⊥
 no_char p q e = let z : ◌≡◌ {A = ℕ} 0 1 = cc in omega arith
 
-same_place : (p q : ℕ) → over (Refused (Grammar p)) ≡ over (Refused (Grammar q)) → p ≡ q
+same_place : (p q : ℕ) → over (Err (Grammar p)) ≡ over (Err (Grammar q)) → p ≡ q
 same_place p q e = cc
 
 -- the end one byte later is not 2 here
@@ -73,7 +75,7 @@ module _ (L : Limits) (i n : ℕ) (os : List Bracket) where
       }
 
   -- the end would accept, and a byte is refused
-  off_by : (s : State) (b : ℕ) → b < 256 → finish L s ≡ over (Rows n) → feed L s b ≡ refuse (Grammar i) → Undecided L s
+  off_by : (s : State) (b : ℕ) → b < 256 → finish L s ≡ over (Ok n) → feed L s b ≡ refuse (Grammar i) → Undecided L s
   unfolding feeds feed
   off_by s b h e f =
       record {
@@ -119,7 +121,7 @@ word_open L i n os c (d ∷ bs) (h, more l k) =
 -- bytes that complete a character
 pub data Completes : Inner → List ℕ → Type 0 where
   done : Completes Plain []
-  next : {s r : Inner} {q : List ℕ} (b : ℕ) → b < 256 → ((i : ℕ) → move_of i s b ≡ Still r) → Completes r q → Completes s (b ∷ q)
+  next : {s r : Inner} {q : List ℕ} (b : ℕ) → b < 256 → ((i : ℕ) → move_of i s b ≡ Ok (Some r)) → Completes r q → Completes s (b ∷ q)
 
 complete_bytes : {s : Inner} {q : List ℕ} → Completes s q → Bytes q
 complete_bytes done = none
@@ -129,7 +131,7 @@ complete_bytes (next b h m c) = more h (complete_bytes c)
 abbrev Can : Inner → Type 0
 Can s = (q : List ℕ) × Completes s q
 
-by : {s r : Inner} (b : ℕ) → b < 256 → ((i : ℕ) → move_of i s b ≡ Still r) → Can r → Can s
+by : {s r : Inner} (b : ℕ) → b < 256 → ((i : ℕ) → move_of i s b ≡ Ok (Some r)) → Can r → Can s
 by b h m c = (b ∷ c.0, next b h m c.1)
 
 can_low4 : (from high v : ℕ) → v < 64 → Can (Low4 from high v)
@@ -174,7 +176,7 @@ can_3 from (suc d) h = by 128 (omega arith) leads (can_tail from c (subst MoveOk
     c : ℕ
     c = suc d % 65536 * 64 + 0
 
-    leads : (i : ℕ) → move_of i (Second3 from (suc d)) 128 ≡ Still (Tails from 0 c)
+    leads : (i : ℕ) → move_of i (Second3 from (suc d)) 128 ≡ Ok (Some (Tails from 0 c))
     leads i = elim (dec_le 896 c) [
       | yes l ↦ rw (le-ltb c 32 (omega arith), le-ltb c 864 (omega arith), le-ltb c 896 l)
       | no l ↦ rw (le-ltb c 32 (omega arith), lt-ltb c 864 (omega arith))
@@ -189,18 +191,18 @@ can_4 from (suc d) h =
     by 128 (omega arith) (λ i. rw (le-ltb c 16 (omega arith), lt-ltb c 272 (omega arith))) (can_tails from c (omega arith) (omega arith))
 
 -- a byte that leads on, or makes 3 certain
-abbrev Leads : Move → Type 0
-Leads (Still r) = InnerOk r
-Leads Closed = Prim.Unit {0}
-Leads (Wrong2 p) = ⊥
-Leads (Wrong3 p) = Prim.Unit {0}
+abbrev Leads : Result (Option Inner) (Fault ℕ) → Type 0
+Leads (Ok (Some r)) = InnerOk r
+Leads (Ok None) = Prim.Unit {0}
+Leads (Err (Malformed p)) = ⊥
+Leads (Err (Forbidden p)) = Prim.Unit {0}
 
 -- the end is 2 and a byte leads on; or the end is 3 and some bytes complete the character
 data Ways (s : Inner) : Type 0 where
-  leads_on : (b : ℕ) → b < 256 → ((i : ℕ) → move_of i s 256 ≡ Wrong2 i) → ((i : ℕ) → Leads (move_of i s b)) → Ways s
-  waits : (from : ℕ) → ((i : ℕ) → move_of i s 256 ≡ Wrong3 from) → Can s → Ways s
+  leads_on : (b : ℕ) → b < 256 → ((i : ℕ) → move_of i s 256 ≡ Err (Malformed i)) → ((i : ℕ) → Leads (move_of i s b)) → Ways s
+  waits : (from : ℕ) → ((i : ℕ) → move_of i s 256 ≡ Err (Forbidden from)) → Can s → Ways s
 
-leads_cond : (x : Bool) (a b : Move) → Leads a → Leads b → Leads (cond x a b)
+leads_cond : (x : Bool) (a b : Result (Option Inner) (Fault ℕ)) → Leads a → Leads b → Leads (cond x a b)
 leads_cond true a b p q = p
 leads_cond false a b p q = q
 
@@ -208,9 +210,9 @@ hex_leads : (from left v : ℕ) → Leads (hex_move from left v)
 unfolding hex_move unit_move checked
 hex_leads from (suc left) v = tt
 hex_leads from zero v =
-    let entire : Leads (checked from v) = leads_cond (sound v) (Still Plain) (Wrong3 from) tt tt in
-    leads_cond (ltb v 0xD800) (checked from v) (cond (ltb v 0xDC00) (Still (Pair from v)) (checked from v)) entire
-    (leads_cond (ltb v 0xDC00) (Still (Pair from v)) (checked from v) tt entire)
+    let entire : Leads (checked from v) = leads_cond (sound v) (Ok (Some Plain)) (Err (Forbidden from)) tt tt in
+    leads_cond (ltb v 0xD800) (checked from v) (cond (ltb v 0xDC00) (Ok (Some (Pair from v))) (checked from v)) entire
+    (leads_cond (ltb v 0xDC00) (Ok (Some (Pair from v))) (checked from v) tt entire)
 
 ways : (s : Inner) → InnerOk s → Ways s
 unfolding move_of digit_of tail_of letter_of
@@ -240,12 +242,12 @@ module _ (L : Limits) (n : ℕ) (os : List Bracket) (spot : Inner → Spot) (beh
       let e : i + 1 + length q ≡ i + suc (length q) = omega arith in
       rw (fed i s b, m i) (completed (i + 1) c ∙ rw e)
 
-  led : (i : ℕ) (m : Move) → Leads m → finish L (on_move i n os spot behind m) ≡ refuse (Grammar i) → ⊥
+  led : (i : ℕ) (m : Result (Option Inner) (Fault ℕ)) → Leads m → finish L (on_move i n os spot behind m) ≡ refuse (Grammar i) → ⊥
   unfolding on_move feed
-  led i (Still r) h = later L i n os n os (spot r) (ok r h)
-  led i Closed h = later L i n os n os behind fine
-  led i (Wrong2 p) h = absurd h
-  led i (Wrong3 p) h = no_char p i
+  led i (Ok (Some r)) h = later L i n os n os (spot r) (ok r h)
+  led i (Ok None) h = later L i n os n os behind fine
+  led i (Err (Malformed p)) h = absurd h
+  led i (Err (Forbidden p)) h = no_char p i
 
   ended_plain : (j : ℕ) → finish L (going j n os (spot Plain)) ≡ refuse (Grammar j)
   unfolding on_move move_of

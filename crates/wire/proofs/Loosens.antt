@@ -1,5 +1,8 @@
 -- The measure is whole reading, 1, 4 and 7 aside: a text within the limit that reading doesn't refuse by 4 is measured as it is read (`measured`). Part by part
 -- the reader that compares no names answers the same, or the one that does has refused by 4 (`Loosens`). Assumes nothing.
+use Rattle.std.specs.Prelude.{Result, Ok, Err}
+use Rattle.text.specs.declared.Fault.{Fault}
+use Rattle.text.specs.declared.Fault.TheVariants.{Malformed, Forbidden}
 use mathlib.Core.Path.{◌≡◌, sym, ◌∙◌}
 use mathlib.Core.Bool.{Bool, true, false, cond}
 use mathlib.Core.List.{List}
@@ -15,8 +18,6 @@ use Rattle.text.specs.Tokens.{skip, kind_by}
 use Rattle.text.specs.Tree.{Bracket, square, curly, Forest, none, size, join}
 use Rattle.text.specs.Reader.{Read, good, bad, Reader, ItemReader, scalar_at, close_of, container, value_with, after_item, items_from, inside_of, named, colon_at, member_with, member_of, value_at}
 use Rattle.text.specs.Whole.{end_of, read_of}
-use Rattle.text.specs.declared.Token.{Token}
-use Rattle.text.specs.declared.Token.TheVariants.{End, No2, No3}
 use Rattle.text.specs.declared.Refusal.TheVariants.{Repeated}
 use Rattle.wire.specs.Measure.{lenient}
 
@@ -73,11 +74,11 @@ module _ (t : List ℕ) where
     abbrev M : Limits
     M = lenient L t
 
-    member_with_lem : {v w : Reader} → Both v w → (done : Forest) (at n : ℕ) (k : Token) → Loosens (member_with L t v done at n k) (member_with M t w done at n k)
+    member_with_lem : {v w : Reader} → Both v w → (done : Forest) (at n : ℕ) (k : Result ℕ (Fault ℕ)) → Loosens (member_with L t v done at n k) (member_with M t w done at n k)
     unfolding member_with
-    member_with_lem h done at n (No2 p) = same
-    member_with_lem h done at n (No3 p) = same
-    member_with_lem {v} {w} h done at n (End end) = go L.unique (named t (name_of t (at + 1) (end - 1)) done) (colon h at end n)
+    member_with_lem h done at n (Err (Malformed p)) = same
+    member_with_lem h done at n (Err (Forbidden p)) = same
+    member_with_lem {v} {w} h done at n (Ok end) = go L.unique (named t (name_of t (at + 1) (end - 1)) done) (colon h at end n)
       where
         go : (u x : Bool) {a b : Read} → Loosens a b → Loosens (cond u (cond x (bad (Repeated at)) a) a) b
         go true true p = four

@@ -1,5 +1,8 @@
 -- What whole reading does with the rest of a number, by the place of its grammar (`number_rest`), goes on with each byte as the automaton does
 -- (`number_step`), and is the number itself where it begins (`number_start`). Assumes nothing.
+use Rattle.std.specs.Prelude.{Result, Ok, Err}
+use Rattle.text.specs.declared.Fault.{Fault}
+use Rattle.text.specs.declared.Fault.TheVariants.{Malformed, Forbidden}
 use mathlib.Core.Path.{◌≡◌, refl, sym, ◌∙◌}
 use mathlib.Core.List.{List}
 use mathlib.Core.Bool.{Bool, true, false, cond}
@@ -7,13 +10,15 @@ use Prim.Native.Nat.{ℕ, ◌+◌}
 use lib.Dec.{eqb}
 use Rattle.text.specs.Text.{byte_at}
 use Rattle.text.specs.Tokens.{is_digit, digits_end, then_at, digits_at, minus_end, int_at, frac_at, sign_end, exp_at, number_at}
-use Rattle.text.specs.declared.Token.{Token}
-use Rattle.text.specs.declared.Token.TheVariants.{End, No2, No3}
 use Rattle.text.proofs.TokenEnds.{run_on_lem, run_end_lem}
-use Rattle.wire.specs.Figures.{Figure, Minus, Nought, Whole, Point, Fraction, Exponent, Sign, Digits, Turn, Goes, Ends, Stuck, exp_turn, frac_turn, turn_of, figure_of}
+use Rattle.wire.specs.declared.Figure.{Figure}
+use Rattle.wire.specs.declared.Figure.TheVariants.{Minus, Nought, Whole, Point, Fraction, Exponent, Sign, Digits}
+use Rattle.wire.specs.declared.Turn.{Turn}
+use Rattle.wire.specs.declared.Turn.TheVariants.{Goes, Ends, Stuck}
+use Rattle.wire.specs.Figures.{exp_turn, frac_turn, turn_of, figure_of}
 
 -- the rest of a number from a place on
-unfoldable pub number_rest : List ℕ → Figure → ℕ → Token
+unfoldable pub number_rest : List ℕ → Figure → ℕ → Result ℕ (Fault ℕ)
 number_rest t Minus i = then_at (exp_at t) (then_at (frac_at t) (int_at t i))
 number_rest t Nought i = then_at (exp_at t) (frac_at t i)
 number_rest t Whole i = then_at (exp_at t) (frac_at t (digits_end t i))
@@ -21,23 +26,23 @@ number_rest t Point i = then_at (exp_at t) (digits_at t i)
 number_rest t Fraction i = exp_at t (digits_end t i)
 number_rest t Exponent i = digits_at t (sign_end t i)
 number_rest t Sign i = digits_at t i
-number_rest t Digits i = End (digits_end t i)
+number_rest t Digits i = Ok (digits_end t i)
 
 -- what a turn says of it
-abbrev pub turned : List ℕ → ℕ → Turn → Token
+abbrev pub turned : List ℕ → ℕ → Turn → Result ℕ (Fault ℕ)
 turned t i (Goes f) = number_rest t f (i + 1)
-turned t i Ends = End i
-turned t i Stuck = No2 i
+turned t i Ends = Ok i
+turned t i Stuck = Err (Malformed i)
 
 module _ (t : List ℕ) (i : ℕ) where
   exp_turn_lem : exp_at t i ≡ turned t i (exp_turn (byte_at t i))
   unfolding exp_at exp_turn number_rest
   exp_turn_lem = go (eqb (byte_at t i) 101) (eqb (byte_at t i) 69)
     where
-      all : Token
+      all : Result ℕ (Fault ℕ)
       all = digits_at t (sign_end t (i + 1))
 
-      go : (x y : Bool) → cond x all (cond y all (End i)) ≡ turned t i (cond x (Goes Exponent) (cond y (Goes Exponent) Ends))
+      go : (x y : Bool) → cond x all (cond y all (Ok i)) ≡ turned t i (cond x (Goes Exponent) (cond y (Goes Exponent) Ends))
       go true y = refl
       go false true = refl
       go false false = refl
@@ -46,21 +51,21 @@ module _ (t : List ℕ) (i : ℕ) where
   unfolding frac_at frac_turn number_rest
   frac_turn_lem = go (eqb (byte_at t i) 46)
     where
-      go : (x : Bool) → then_at (exp_at t) (cond x (digits_at t (i + 1)) (End i)) ≡ turned t i (cond x (Goes Point) (exp_turn (byte_at t i)))
+      go : (x : Bool) → then_at (exp_at t) (cond x (digits_at t (i + 1)) (Ok i)) ≡ turned t i (cond x (Goes Point) (exp_turn (byte_at t i)))
       go true = refl
       go false = exp_turn_lem
 
   -- digits that must stand there, and then what follows them
-  digits_turn : (f : Figure) (k : ℕ → Token) → ((j : ℕ) → k (digits_end t j) ≡ number_rest t f j) → then_at k (digits_at t i) ≡ turned t i (cond (is_digit (byte_at t i)) (Goes f) Stuck)
+  digits_turn : (f : Figure) (k : ℕ → Result ℕ (Fault ℕ)) → ((j : ℕ) → k (digits_end t j) ≡ number_rest t f j) → then_at k (digits_at t i) ≡ turned t i (cond (is_digit (byte_at t i)) (Goes f) Stuck)
   unfolding digits_at
   digits_turn f k e = go (is_digit (byte_at t i))
     where
-      go : (x : Bool) → then_at k (cond x (End (digits_end t (i + 1))) (No2 i)) ≡ turned t i (cond x (Goes f) Stuck)
+      go : (x : Bool) → then_at k (cond x (Ok (digits_end t (i + 1))) (Err (Malformed i))) ≡ turned t i (cond x (Goes f) Stuck)
       go true = e (i + 1)
       go false = refl
 
   -- one more digit, or what follows them
-  more_turn : (f : Figure) (k : ℕ → Token) (other : Turn) → ((j : ℕ) → k (digits_end t j) ≡ number_rest t f j) → k i ≡ turned t i other
+  more_turn : (f : Figure) (k : ℕ → Result ℕ (Fault ℕ)) (other : Turn) → ((j : ℕ) → k (digits_end t j) ≡ number_rest t f j) → k i ≡ turned t i other
       → k (digits_end t i) ≡ turned t i (cond (is_digit (byte_at t i)) (Goes f) other)
   more_turn f k other e o = go (is_digit (byte_at t i)) refl
     where
@@ -72,12 +77,12 @@ module _ (t : List ℕ) (i : ℕ) where
   unfolding int_at turn_of number_rest
   int_turn = go (eqb (byte_at t i) 48)
     where
-      then_then : (k : Token) → then_at (exp_at t) (then_at (frac_at t) k) ≡ then_at (λ j. then_at (exp_at t) (frac_at t j)) k
-      then_then (End to) = refl
-      then_then (No2 p) = refl
-      then_then (No3 p) = refl
+      then_then : (k : Result ℕ (Fault ℕ)) → then_at (exp_at t) (then_at (frac_at t) k) ≡ then_at (λ j. then_at (exp_at t) (frac_at t j)) k
+      then_then (Ok to) = refl
+      then_then (Err (Malformed p)) = refl
+      then_then (Err (Forbidden p)) = refl
 
-      go : (x : Bool) → then_at (exp_at t) (then_at (frac_at t) (cond x (End (i + 1)) (digits_at t i))) ≡ turned t i (cond x (Goes Nought) (cond (is_digit (byte_at t i)) (Goes Whole) Stuck))
+      go : (x : Bool) → then_at (exp_at t) (then_at (frac_at t) (cond x (Ok (i + 1)) (digits_at t i))) ≡ turned t i (cond x (Goes Nought) (cond (is_digit (byte_at t i)) (Goes Whole) Stuck))
       go true = refl
       go false = then_then (digits_at t i) ∙ digits_turn Whole (λ j. then_at (exp_at t) (frac_at t j)) (λ j. refl)
 
@@ -85,7 +90,7 @@ module _ (t : List ℕ) (i : ℕ) where
   unfolding digits_at number_rest
   sign_turn = go (is_digit (byte_at t i))
     where
-      go : (x : Bool) → cond x (End (digits_end t (i + 1))) (No2 i) ≡ turned t i (cond x (Goes Digits) Stuck)
+      go : (x : Bool) → cond x (Ok (digits_end t (i + 1))) (Err (Malformed i)) ≡ turned t i (cond x (Goes Digits) Stuck)
       go true = refl
       go false = refl
 
@@ -104,7 +109,7 @@ module _ (t : List ℕ) (i : ℕ) where
       go false true = refl
       go false false = sign_turn
   number_step Sign = sign_turn
-  number_step Digits = more_turn Digits (λ j. End j) Ends (λ j. refl) refl
+  number_step Digits = more_turn Digits (λ j. Ok j) Ends (λ j. refl) refl
 
   -- where a number begins: a minus or a digit
   pub number_start : cond (is_digit (byte_at t i)) true (eqb (byte_at t i) 45) ≡ true → number_at t i ≡ number_rest t (figure_of (byte_at t i)) (i + 1)

@@ -1,4 +1,5 @@
 -- What is promised of a reader in pieces (specs/Promise.antt) holds of `wired`: `in_pieces`, for all limits. Assumes nothing.
+use Rattle.std.specs.Prelude.{Result, Ok, Err}
 use mathlib.Core.Path.{◌≡◌, refl, sym, ap, ◌∙◌}
 use mathlib.Core.Logic.{inl, inr}
 use mathlib.Core.List.{List, [], ◌++◌}
@@ -12,8 +13,6 @@ use Rattle.text.specs.Sheet.{refused, paper}
 use Rattle.text.specs.declared.Paper.{Paper}
 use Rattle.text.specs.declared.Refusal.{Refusal}
 use Rattle.text.specs.declared.Refusal.TheVariants.{TooLong, Grammar, Character, Repeated, Deep, Many, Small}
-use Rattle.text.specs.declared.Reading.{Reading}
-use Rattle.text.specs.declared.Reading.TheVariants.{Rows, Refused}
 use Rattle.wire.specs.Measure.{measure}
 use Rattle.wire.specs.Machine.{State, going, over, start, feed, finish, piece}
 use Rattle.wire.specs.Held.{state_of, held_of, words_of, held_in}
@@ -29,16 +28,16 @@ meant_kept i s h = ap state_of (words_round (held_of s)) ∙ round i s h
 
 -- ---- demand 1
 
-tells_answers : (a : Reading) → Tells a → Answers (paper a)
+tells_answers : (a : Result ℕ Refusal) → Tells a → Answers (paper a)
 unfolding paper refused
-tells_answers (Rows n) h = acceptance
-tells_answers (Refused TooLong) h = refusal {number = 1} (inl (omega arith, omega arith))
-tells_answers (Refused (Grammar p)) h = refusal {number = 2} (inl (omega arith, omega arith))
-tells_answers (Refused (Character p)) h = refusal {number = 3} (inl (omega arith, omega arith))
-tells_answers (Refused (Repeated p)) h = absurd h
-tells_answers (Refused (Deep p)) h = refusal {number = 5} (inr (omega arith, omega arith))
-tells_answers (Refused (Many p)) h = refusal {number = 6} (inr (omega arith, omega arith))
-tells_answers (Refused (Small n)) h = absurd h
+tells_answers (Ok n) h = acceptance
+tells_answers (Err TooLong) h = refusal {number = 1} (inl (omega arith, omega arith))
+tells_answers (Err (Grammar p)) h = refusal {number = 2} (inl (omega arith, omega arith))
+tells_answers (Err (Character p)) h = refusal {number = 3} (inl (omega arith, omega arith))
+tells_answers (Err (Repeated p)) h = absurd h
+tells_answers (Err (Deep p)) h = refusal {number = 5} (inr (omega arith, omega arith))
+tells_answers (Err (Many p)) h = refusal {number = 6} (inr (omega arith, omega arith))
+tells_answers (Err (Small n)) h = absurd h
 
 state_answers : (i : ℕ) (s : State) → Fits i s → Answers (answer_of s)
 state_answers i (going j n os spot) h = acceptance
@@ -80,7 +79,7 @@ module _ (L : Limits) where
 
   -- ---- the end
 
-  number_of : (r : Refusal) → paper (Refused r) ≡ go_on_answer → ⊥
+  number_of : (r : Refusal) → paper (Err r) ≡ go_on_answer → ⊥
   unfolding paper refused
   number_of TooLong e = let z : ◌≡◌ {A = ℕ} 1 0 = ap (λ (p : Paper). p.number) e in omega arith
   number_of (Grammar p) e = let z : ◌≡◌ {A = ℕ} 2 0 = ap (λ (p : Paper). p.number) e in omega arith
@@ -92,8 +91,8 @@ module _ (L : Limits) where
 
   still_going : (p : List ℕ) → Bytes p → (s : State) → piece L start p ≡ s → answer_of s ≡ go_on_answer → Going s
   still_going p b (going i n os spot) e g = tt
-  still_going p b (over (Rows n)) e g = not_rows L p b n e
-  still_going p b (over (Refused r)) e g = number_of r g
+  still_going p b (over (Ok n)) e g = not_rows L p b n e
+  still_going p b (over (Err r)) e g = number_of r g
 
   at_end : {p words : List ℕ} → After (wired L) p words → Says L p go_on_answer → ((wired L).end words).answer ≡ paper (measure L p)
   unfolding wired
@@ -114,7 +113,7 @@ module _ (L : Limits) where
 
   -- ---- what stays
 
-  over_final : (a : Reading) → Tells a → Final (wired L) (kept (over a))
+  over_final : (a : Result ℕ Refusal) → Tells a → Final (wired L) (kept (over a))
   unfolding wired feed
   over_final a h =
       let m : meant (words_of (held_of (over a))) ≡ over a = meant_kept 0 (over a) h in

@@ -1,6 +1,11 @@
 -- What whole reading of a text has still to do from a place on, by the state of the automaton there: `resume`. One byte further it is the same as from the
 -- state that the byte leads to (`step`); at the end of the text, where the byte is 256, too. No invariant of states is asked.
 -- Assumes nothing.
+use Rattle.std.specs.Prelude.{Option, Some, None, Result, Ok, Err}
+use Rattle.text.specs.declared.Fault.{Fault}
+use Rattle.text.specs.declared.Fault.TheVariants.{Malformed, Forbidden}
+use Rattle.wire.specs.declared.Inner.{Inner}
+use Rattle.text.specs.declared.Refusal.{Refusal}
 use mathlib.Core.Path.{◌≡◌, refl, sym, ap, ◌∙◌}
 use mathlib.Core.List.{List, [], ◌∷◌}
 use mathlib.Core.Bool.{Bool, true, false, cond}
@@ -16,34 +21,30 @@ use Rattle.text.specs.Strings.{string_end}
 use Rattle.text.specs.Tokens.{is_space, is_digit, skip, word_at, kind_by, token_at}
 use Rattle.text.specs.Grammar.{closing}
 use Rattle.text.specs.Tree.{Bracket, square, curly}
-use Rattle.text.specs.declared.Token.{Token}
-use Rattle.text.specs.declared.Token.TheVariants.{No2}
 use Rattle.text.specs.declared.Refusal.TheVariants.{Grammar, Deep, Many}
-use Rattle.text.specs.declared.Reading.{Reading}
-use Rattle.text.specs.declared.Reading.TheVariants.{Rows, Refused}
 use Rattle.text.proofs.TokenEnds.{run_on_lem, run_end_lem}
 use Rattle.text.proofs.TokenBytes.{by_kind}
 use Rattle.text.proofs.Grammar.Words.{skip_inside}
-use Rattle.wire.specs.Figures.{Turn, Goes, Ends, Stuck, turn_of}
+use Rattle.wire.specs.declared.Turn.{Turn}
+use Rattle.wire.specs.declared.Turn.TheVariants.{Goes, Ends, Stuck}
+use Rattle.wire.specs.Figures.{turn_of}
 use Rattle.wire.specs.Inners.{move_of}
 use Rattle.wire.specs.declared.Inner.TheVariants.{Plain}
-use Rattle.wire.specs.declared.Move.{Move}
-use Rattle.wire.specs.declared.Move.TheVariants.{Still, Closed, Wrong2, Wrong3}
 use Rattle.wire.specs.Machine.{Spot, value, first, name, colon, after, word, number, string, key, State, going, over, refuse, counted, opens, spot_of, begins, quotes, items, firsts, behind_comma, closes, spaced, after_of, word_on, on_turn, on_move, feed}
 use Rattle.wire.proofs.Numbers.{number_rest, turned, number_step, number_start}
 use Rattle.wire.proofs.Strings.{string_rest, moved, string_step}
 use Rattle.wire.proofs.Counting.{Went, on, halt, bind, token_c, value_c, colon_c, name_c, item_c, items_c, rest_c, inside_c, box_c, scalar_c, items_law, value_law}
 
 -- a part, and then the rest of the text
-abbrev pub finally : (ℕ → ℕ → Reading) → Went → Reading
+abbrev pub finally : (ℕ → ℕ → Result ℕ Refusal) → Went → Result ℕ Refusal
 finally k (on to n) = k to n
-finally k (halt r) = Refused r
+finally k (halt r) = Err r
 
-finally_bind : (k : ℕ → ℕ → Reading) (g : ℕ → ℕ → Went) (w : Went) → finally k (bind g w) ≡ finally (λ to n. finally k (g to n)) w
+finally_bind : (k : ℕ → ℕ → Result ℕ Refusal) (g : ℕ → ℕ → Went) (w : Went) → finally k (bind g w) ≡ finally (λ to n. finally k (g to n)) w
 finally_bind k g (on to n) = refl
 finally_bind k g (halt r) = refl
 
-finally_cond : (k : ℕ → ℕ → Reading) (x : Bool) (a b : Went) {c d : Reading} → finally k a ≡ c → finally k b ≡ d → finally k (cond x a b) ≡ cond x c d
+finally_cond : (k : ℕ → ℕ → Result ℕ Refusal) (x : Bool) (a b : Went) {c d : (Result ℕ Refusal)} → finally k a ≡ c → finally k b ≡ d → finally k (cond x a b) ≡ cond x c d
 finally_cond k true a b p q = p
 finally_cond k false a b p q = q
 
@@ -53,14 +54,14 @@ module _ (L : Limits) (t : List ℕ) where
   left os = L.depth - length os
 
   -- after a value with these brackets open
-  unfoldable pub rest_of : List Bracket → (to n : ℕ) → Reading
-  rest_of [] to n = cond (eqb (byte_at t (skip t to)) 256) (Rows n) (Refused (Grammar (skip t to)))
+  unfoldable pub rest_of : List Bracket → (to n : ℕ) → Result ℕ Refusal
+  rest_of [] to n = cond (eqb (byte_at t (skip t to)) 256) (Ok n) (Err (Grammar (skip t to)))
   rest_of (b ∷ os) to n = finally (rest_of os) (rest_c L t (left (b ∷ os)) b to n)
 
   -- by the state at a place
-  unfoldable pub spotted : (i n : ℕ) → List Bracket → Spot → Reading
+  unfoldable pub spotted : (i n : ℕ) → List Bracket → Spot → Result ℕ Refusal
   spotted i n os value = finally (rest_of os) (value_c L t (left os) (skip t i) n)
-  spotted i n [] first = Refused (Grammar (skip t i))
+  spotted i n [] first = Err (Grammar (skip t i))
   spotted i n (b ∷ os) first = finally (rest_of os) (inside_c L t (left (b ∷ os)) b i n)
   spotted i n os name = finally (rest_of os) (item_c L t (left os) curly (skip t i) n)
   spotted i n os colon = finally (rest_of os) (colon_c L t (left os) i n)
@@ -71,16 +72,16 @@ module _ (L : Limits) (t : List ℕ) where
   spotted i n os (key s) = finally (rest_of os) (name_c L t (left os) n (string_rest t s i))
 
   -- what whole reading answers, if its part that is left is the one of a state
-  unfoldable pub resume : State → Reading
+  unfoldable pub resume : State → Result ℕ Refusal
   resume (going i n os spot) = spotted i n os spot
   resume (over a) = a
 
-  resume_cond : (x : Bool) (a b : State) {c d : Reading} → c ≡ resume a → d ≡ resume b → cond x c d ≡ resume (cond x a b)
+  resume_cond : (x : Bool) (a b : State) {c d : (Result ℕ Refusal)} → c ≡ resume a → d ≡ resume b → cond x c d ≡ resume (cond x a b)
   resume_cond true a b p q = p
   resume_cond false a b p q = q
 
   -- where white space may stand
-  spaces : (i : ℕ) (f : ℕ → Reading) (s other : State) → f (skip t (i + 1)) ≡ resume s → f i ≡ resume other → f (skip t i) ≡ resume (spaced (byte_at t i) s other)
+  spaces : (i : ℕ) (f : ℕ → Result ℕ Refusal) (s other : State) → f (skip t (i + 1)) ≡ resume s → f i ≡ resume other → f (skip t i) ≡ resume (spaced (byte_at t i) s other)
   spaces i f s other p q = go (is_space (byte_at t i)) refl
     where
       go : (x : Bool) → is_space (byte_at t i) ≡ x → f (skip t i) ≡ resume (cond x s other)
@@ -117,9 +118,9 @@ module _ (L : Limits) (t : List ℕ) where
     unfolding token_at spot_of spotted string_rest
     token_begun kind i n os e pos n6 n7 =
         by_kind (byte_at t i) kind e
-        (λ b k. rw (← k) (ap (λ (w : Token). finally (rest_of os) (token_c n w)) (word_begun 110 (bytes "ull") i b)))
-        (λ b k. rw (← k) (ap (λ (w : Token). finally (rest_of os) (token_c n w)) (word_begun 102 (bytes "alse") i b)))
-        (λ b k. rw (← k) (ap (λ (w : Token). finally (rest_of os) (token_c n w)) (word_begun 116 (bytes "rue") i b)))
+        (λ b k. rw (← k) (ap (λ (w : Result ℕ (Fault ℕ)). finally (rest_of os) (token_c n w)) (word_begun 110 (bytes "ull") i b)))
+        (λ b k. rw (← k) (ap (λ (w : Result ℕ (Fault ℕ)). finally (rest_of os) (token_c n w)) (word_begun 102 (bytes "alse") i b)))
+        (λ b k. rw (← k) (ap (λ (w : Result ℕ (Fault ℕ)). finally (rest_of os) (token_c n w)) (word_begun 116 (bytes "rue") i b)))
         (λ b k. numeral k (rw b))
         (λ b k. rw (← k))
         (λ b k. absurd (n6 (sym k)))
@@ -129,7 +130,7 @@ module _ (L : Limits) (t : List ℕ) where
       where
         numeral : 4 ≡ kind → cond (is_digit (byte_at t i)) true (eqb (byte_at t i) 45) ≡ true
             → finally (rest_of os) (token_c n (token_at t kind i)) ≡ spotted (i + 1) n os (spot_of kind (byte_at t i))
-        numeral k h = rw (← k) (ap (λ (w : Token). finally (rest_of os) (token_c n w)) (number_start t i h))
+        numeral k h = rw (← k) (ap (λ (w : Result ℕ (Fault ℕ)). finally (rest_of os) (token_c n w)) (number_start t i h))
 
     begin_step : (i n : ℕ) (os : List Bracket) → finally (rest_of os) (value_c L t (left os) i n) ≡ resume (begins L i n os (byte_at t i))
     unfolding begins counted scalar_c resume
@@ -176,7 +177,7 @@ module _ (L : Limits) (t : List ℕ) where
 
     first_step : (i n : ℕ) (os : List Bracket) → i ≤ length t → spotted i n os first ≡ resume (feed L (going i n os first) (byte_at t i))
     unfolding spotted feed firsts resume inside_c
-    first_step i n [] h = spaces i (λ x. Refused (Grammar x)) (going (i + 1) n [] first) (firsts L i n [] (byte_at t i)) refl refl
+    first_step i n [] h = spaces i (λ x. Err (Grammar x)) (going (i + 1) n [] first) (firsts L i n [] (byte_at t i)) refl refl
     first_step i n (b ∷ os) h =
         spaces i (λ x. finally (rest_of os) (cond (eqb (byte_at t x) (closing b)) (on (x + 1) n) (items_c L t (left (b ∷ os)) b x n)))
         (going (i + 1) n (b ∷ os) first) (firsts L i n (b ∷ os) (byte_at t i)) refl
@@ -195,8 +196,8 @@ module _ (L : Limits) (t : List ℕ) where
     after_step : (i n : ℕ) (os : List Bracket) → rest_of os i n ≡ resume (after_of i n os (byte_at t i))
     unfolding rest_of after_of closes resume spotted rest_c
     after_step i n [] =
-        spaces i (λ x. cond (eqb (byte_at t x) 256) (Rows n) (Refused (Grammar x))) (going (i + 1) n [] after) (closes i n [] (byte_at t i)) refl
-        (resume_cond (eqb (byte_at t i) 256) (over (Rows n)) (refuse (Grammar i)) refl refl)
+        spaces i (λ x. cond (eqb (byte_at t x) 256) (Ok n) (Err (Grammar x))) (going (i + 1) n [] after) (closes i n [] (byte_at t i)) refl
+        (resume_cond (eqb (byte_at t i) 256) (over (Ok n)) (refuse (Grammar i)) refl refl)
     after_step i n (b ∷ os) =
         spaces i
         (λ x. finally (rest_of os) (cond (eqb (byte_at t x) (closing b)) (on (x + 1) n) (cond (eqb (byte_at t x) 44) (items_c L t (left (b ∷ os)) b (skip t (x + 1)) n) (halt (Grammar x)))))
@@ -230,27 +231,27 @@ module _ (L : Limits) (t : List ℕ) where
     step i n os after h = after_step i n os
     step i n os (word c bs) h = go (eqb (byte_at t i) c) bs
       where
-        go : (x : Bool) (cs : List ℕ) → finally (rest_of os) (token_c n (cond x (word_at t cs (i + 1)) (No2 i))) ≡ resume (cond x (word_on (i + 1) n os cs) (refuse (Grammar i)))
+        go : (x : Bool) (cs : List ℕ) → finally (rest_of os) (token_c n (cond x (word_at t cs (i + 1)) (Err (Malformed i)))) ≡ resume (cond x (word_on (i + 1) n os cs) (refuse (Grammar i)))
         go false cs = refl
         go true [] = refl
         go true (d ∷ cs) = refl
-    step i n os (number f) h = ap (λ (w : Token). finally (rest_of os) (token_c n w)) (number_step t i f) ∙ go (turn_of f (byte_at t i))
+    step i n os (number f) h = ap (λ (w : Result ℕ (Fault ℕ)). finally (rest_of os) (token_c n w)) (number_step t i f) ∙ go (turn_of f (byte_at t i))
       where
         go : (x : Turn) → finally (rest_of os) (token_c n (turned t i x)) ≡ resume (on_turn i n os (byte_at t i) x)
         go (Goes g) = refl
         go Ends = after_step i n os
         go Stuck = refl
-    step i n os (string s) h = ap (λ (w : Token). finally (rest_of os) (token_c n w)) (string_step t i s) ∙ go (move_of i s (byte_at t i))
+    step i n os (string s) h = ap (λ (w : Result ℕ (Fault ℕ)). finally (rest_of os) (token_c n w)) (string_step t i s) ∙ go (move_of i s (byte_at t i))
       where
-        go : (m : Move) → finally (rest_of os) (token_c n (moved t i m)) ≡ resume (on_move i n os (λ x. string x) after m)
-        go (Still r) = refl
-        go Closed = refl
-        go (Wrong2 p) = refl
-        go (Wrong3 p) = refl
-    step i n os (key s) h = ap (λ (w : Token). finally (rest_of os) (name_c L t (left os) n w)) (string_step t i s) ∙ go (move_of i s (byte_at t i))
+        go : (m : Result (Option Inner) (Fault ℕ)) → finally (rest_of os) (token_c n (moved t i m)) ≡ resume (on_move i n os (λ x. string x) after m)
+        go (Ok (Some r)) = refl
+        go (Ok None) = refl
+        go (Err (Malformed p)) = refl
+        go (Err (Forbidden p)) = refl
+    step i n os (key s) h = ap (λ (w : Result ℕ (Fault ℕ)). finally (rest_of os) (name_c L t (left os) n w)) (string_step t i s) ∙ go (move_of i s (byte_at t i))
       where
-        go : (m : Move) → finally (rest_of os) (name_c L t (left os) n (moved t i m)) ≡ resume (on_move i n os (λ x. key x) colon m)
-        go (Still r) = refl
-        go Closed = refl
-        go (Wrong2 p) = refl
-        go (Wrong3 p) = refl
+        go : (m : Result (Option Inner) (Fault ℕ)) → finally (rest_of os) (name_c L t (left os) n (moved t i m)) ≡ resume (on_move i n os (λ x. key x) colon m)
+        go (Ok (Some r)) = refl
+        go (Ok None) = refl
+        go (Err (Malformed p)) = refl
+        go (Err (Forbidden p)) = refl

@@ -4,6 +4,9 @@
 --     chars-pass, key-chars-pass    whole characters of a string, in a value and in a name; `chars_inside` says where they end
 -- The bytes of a character lead back between two characters (`char_passes`): the tests of whole reading one after the other (`step_back`).
 -- Assumes nothing.
+use Rattle.std.specs.Prelude.{Option, Some, None, Result, Ok, Err}
+use Rattle.text.specs.declared.Fault.{Fault}
+use Rattle.text.specs.declared.Fault.TheVariants.{Malformed, Forbidden}
 use mathlib.Core.Path.{◌≡◌, refl, sym, ap, subst, ◌∙◌}
 use mathlib.Core.List.{List, [], ◌∷◌}
 use mathlib.Core.Bool.{true, true≢false}
@@ -24,16 +27,14 @@ use Rattle.text.specs.Text.{byte_at}
 use Rattle.text.specs.Chars.{letter_of, digit_at, tail_at, checked_at, seq2, seq3, seq4, raw_at, low_at, pair_at, unit_at, on_hex, escape_at, step_by, step_at, Chars, stay, more as char}
 use Rattle.text.specs.Tokens.{is_space, is_digit}
 use Rattle.text.specs.Tree.{Bracket}
-use Rattle.text.specs.declared.Step.{Step}
-use Rattle.text.specs.declared.Step.TheVariants.{Close, Char, Bad2, Bad3}
 use Rattle.text.proofs.Sequences.{by_seq2, by_seq3, by_seq4}
 use Rattle.text.proofs.Spelling.Characters.{char_at, some_bytes}
-use Rattle.wire.specs.Figures.{Figure, Whole, Fraction, Digits, turn_of}
+use Rattle.wire.specs.declared.Figure.{Figure}
+use Rattle.wire.specs.declared.Figure.TheVariants.{Whole, Fraction, Digits}
+use Rattle.wire.specs.Figures.{turn_of}
 use Rattle.wire.specs.Inners.{sound, checked, unit_move, hex_move, tail_move, move3, move4, lead_move, paired, move_of}
 use Rattle.wire.specs.declared.Inner.{Inner}
 use Rattle.wire.specs.declared.Inner.TheVariants.{Plain, Escape, Four, Pair, PairU, Low1, Low2, Low3, Low4, Second3, Second4, Tails}
-use Rattle.wire.specs.declared.Move.{Move}
-use Rattle.wire.specs.declared.Move.TheVariants.{Still}
 use Rattle.wire.specs.Machine.{Spot, value, first, name, colon, after, number, string, key, State, going, after_of, on_turn, on_move, feed, feeds}
 use Rattle.wire.proofs.Strings.{sound_surrogate, sound_large, checked_is, by_hex}
 
@@ -94,7 +95,7 @@ digits_pass L n os f h = run_pass L n os (number f) (λ b. is_digit b ≡ true) 
 -- be one piece of many
 abbrev Passes : List ℕ → (p i k : ℕ) → Inner → Type 0
 Passes t p i zero s = s ≡ Plain
-Passes t p i (suc k) s = (r : Inner) × (move_of p s (byte_at t i) ≡ Still r) × Passes t (p + 1) (i + 1) k r
+Passes t p i (suc k) s = (r : Inner) × (move_of p s (byte_at t i) ≡ Ok (Some r)) × Passes t (p + 1) (i + 1) k r
 
 -- ---- raw characters
 
@@ -115,10 +116,10 @@ module _ (t : List ℕ) where
       (Tails from 0 (c * 64 + tail_at t i), rw (w, le-ltb 63 (tail_at t i) l), last_passes (p + 1) from (c * 64 + tail_at t i) (i + 1) (omega arith) m s)
 
   -- the second of three, where a code point comes of it
-  three_on : (from c y : ℕ) → 32 ≤ c → y ≤ 63 → sound (c * 64 + y) ≡ true → move3 from c ≡ Still (Tails from 0 c)
+  three_on : (from c y : ℕ) → 32 ≤ c → y ≤ 63 → sound (c * 64 + y) ≡ true → move3 from c ≡ Ok (Some (Tails from 0 c))
   unfolding move3
   three_on from c y h l s =
-      let P : Move → Type 0 = λ m. m ≡ Still (Tails from 0 c) in
+      let P : Result (Option Inner) (Fault ℕ) → Type 0 = λ m. m ≡ Ok (Some (Tails from 0 c)) in
       rw (le-ltb c 32 h)
       (if_less P c 864 (λ k. refl)
       (λ k. if_less P c 896 (λ m. absurd (true≢false (sym s ∙ sound_surrogate (c * 64 + y) (omega arith) (omega arith)))) (λ m. refl)))
@@ -146,11 +147,11 @@ module _ (t : List ℕ) where
       (Tails from 1 d, rw (w, le-ltb 63 x l, le-ltb d 16 k, lt-ltb d 272 n), tails_pass (p + 1) from d (i + 1) (omega arith) m (rw e o) (rw e s))
 
 -- what is shown of every step: where it is a character, its bytes lead back
-abbrev Back : List ℕ → (p i : ℕ) → Step → Type 0
-Back t p i Close = Prim.Unit {0}
-Back t p i (Char code len) = Passes t p i len Plain
-Back t p i (Bad2 q) = Prim.Unit {0}
-Back t p i (Bad3 q) = Prim.Unit {0}
+abbrev Back : List ℕ → (p i : ℕ) → Result (Option (ℕ × ℕ)) (Fault ℕ) → Type 0
+Back t p i (Ok None) = Prim.Unit {0}
+Back t p i (Ok (Some (code, len))) = Passes t p i len Plain
+Back t p i (Err (Malformed q)) = Prim.Unit {0}
+Back t p i (Err (Forbidden q)) = Prim.Unit {0}
 
 module _ (t : List ℕ) (p i : ℕ) where
   -- a code point is a character where a string may hold it
@@ -222,7 +223,7 @@ module _ (t : List ℕ) (p i : ℕ) where
   unfolding raw_at
   raw_back h =
       let b = byte_at t i in
-      let P : Step → Type 0 = Back t p i in
+      let P : Result (Option (ℕ × ℕ)) (Fault ℕ) → Type 0 = Back t p i in
       if_less P b 192 (λ l. tt)
       (λ l. if_less P b 224 (λ m. two_back l m)
       (λ m. if_less P b 240 (λ n. three_back m n)
@@ -238,7 +239,7 @@ module _ (t : List ℕ) where
 
   -- four of them, and what comes of their value
   unit_passes : (p from i k v : ℕ) (r : Inner) → digit_at t i ≤ 15 → digit_at t (i + 1) ≤ 15 → digit_at t (i + 2) ≤ 15 → digit_at t (i + 3) ≤ 15
-      → v ≡ digit_at t i * 4096 + digit_at t (i + 1) * 256 + digit_at t (i + 2) * 16 + digit_at t (i + 3) → unit_move from v ≡ Still r
+      → v ≡ digit_at t i * 4096 + digit_at t (i + 1) * 256 + digit_at t (i + 2) * 16 + digit_at t (i + 3) → unit_move from v ≡ Ok (Some r)
       → ((q : ℕ) → Passes t q (i + 4) k r) → Passes t p i (suc (suc (suc (suc k)))) (Four from 3 0)
   unfolding hex_move
   unit_passes p from i k v r ka kb kc kd e m rest =
@@ -285,7 +286,7 @@ module _ (t : List ℕ) (p i : ℕ) where
   pair_back : (high : ℕ) → (((q : ℕ) → Passes t q (i + 6) 6 (Pair p high)) → Passes t p i 12 Plain) → Back t p i (pair_at t i high)
   unfolding pair_at low_at move_of
   pair_back high lead =
-      let P : Step → Type 0 = Back t p i in
+      let P : Result (Option (ℕ × ℕ)) (Fault ℕ) → Type 0 = Back t p i in
       let e7 : i + 6 + 1 ≡ i + 7 = omega arith in
       let e8 : i + 7 + 1 ≡ i + 8 = omega arith in
       if_equal P (byte_at t (i + 6)) 92
@@ -301,11 +302,11 @@ module _ (t : List ℕ) (p i : ℕ) where
 
   -- an escape of four digits, by how its six bytes lead on
   unit_back : (v : ℕ)
-      → ((k : ℕ) (r : Inner) → unit_move p v ≡ Still r → ((q : ℕ) → Passes t q (i + 6) k r) → Passes t p i (suc (suc (suc (suc (suc (suc k)))))) Plain)
+      → ((k : ℕ) (r : Inner) → unit_move p v ≡ Ok (Some r) → ((q : ℕ) → Passes t q (i + 6) k r) → Passes t p i (suc (suc (suc (suc (suc (suc k)))))) Plain)
       → Back t p i (unit_at t i v)
   unfolding unit_at unit_move checked
   unit_back v lead =
-      let P : Step → Type 0 = Back t p i in
+      let P : Result (Option (ℕ × ℕ)) (Fault ℕ) → Type 0 = Back t p i in
       if_less P v 0xD800
       (λ l. by_check t p i v 6 (λ s. lead 0 Plain (rw (lt-ltb v 0xD800 l, s)) (λ q. refl)))
       (λ l. if_less P v 0xDC00
@@ -315,11 +316,11 @@ module _ (t : List ℕ) (p i : ℕ) where
   escape_back : byte_at t i ≡ 92 → Back t p i (escape_at t i)
   unfolding escape_at on_hex move_of
   escape_back h =
-      let P : Step → Type 0 = Back t p i in
+      let P : Result (Option (ℕ × ℕ)) (Fault ℕ) → Type 0 = Back t p i in
       let b = byte_at t (i + 1) in
       let e2 : i + 1 + 1 ≡ i + 2 = omega arith in
       let e6 : i + 2 + 4 ≡ i + 6 = omega arith in
-      let escape : move_of p Plain (byte_at t i) ≡ Still (Escape p) = rw h in
+      let escape : move_of p Plain (byte_at t i) ≡ Ok (Some (Escape p)) = rw h in
       if_equal P b 117
       (λ k. by_hex t i (λ x. P (on_hex t i x)) (i + 2) (λ q. tt)
       (λ v ka kb kc kd e. unit_back v
@@ -329,7 +330,7 @@ module _ (t : List ℕ) (p i : ℕ) where
   step_back : Back t p i (step_at t i)
   unfolding step_by move_of
   step_back =
-      let P : Step → Type 0 = Back t p i in
+      let P : Result (Option (ℕ × ℕ)) (Fault ℕ) → Type 0 = Back t p i in
       let b = byte_at t i in
       if_equal P b 34 (λ h. tt)
       (λ n1. if_equal P b 92 (λ h. escape_back h)
@@ -338,13 +339,13 @@ module _ (t : List ℕ) (p i : ℕ) where
       (λ n4. if_less P b 256 (λ h. raw_back t p i n4) (λ h. tt)))))
 
   -- the bytes of a character lead back between two characters
-  char_passes : {code len : ℕ} → step_at t i ≡ Char code len → Passes t p i len Plain
+  char_passes : {code len : ℕ} → step_at t i ≡ Ok (Some (code, len)) → Passes t p i len Plain
   char_passes e = subst (Back t p i) e step_back
 
 -- ---- runs of characters
 
 -- a character's bytes are inside the text
-char_within : (t : List ℕ) (i : ℕ) {code len : ℕ} → step_at t i ≡ Char code len → i + len ≤ length t
+char_within : (t : List ℕ) (i : ℕ) {code len : ℕ} → step_at t i ≡ Ok (Some (code, len)) → i + len ≤ length t
 char_within t i e =
     let a = char_at t i e in
     rw a.size at (within t i a.bytes a.rest a.split (some_bytes a.spelled))

@@ -1,5 +1,8 @@
 -- The states that bytes lead to (`Sane`): so many bytes taken, no acceptance before the end, and inside a character what is needed for one to come of it.
 -- A byte keeps that (`feed_sane`), and at the end there is an answer (`ended`). Assumes nothing.
+use Rattle.std.specs.Prelude.{Option, Some, None, Result, Ok, Err}
+use Rattle.text.specs.declared.Fault.{Fault}
+use Rattle.text.specs.declared.Fault.TheVariants.{Malformed, Forbidden}
 use mathlib.Core.Path.{◌≡◌, refl}
 use mathlib.Core.List.{List, [], ◌∷◌}
 use mathlib.Core.Bool.{cond}
@@ -15,13 +18,12 @@ use Rattle.text.specs.Chars.{digit_of, tail_of, letter_of}
 use Rattle.text.specs.Tokens.{is_space, kind_by}
 use Rattle.text.specs.Grammar.{closing}
 use Rattle.text.specs.Tree.{Bracket, square, curly}
-use Rattle.text.specs.declared.Reading.TheVariants.{Rows, Refused}
-use Rattle.wire.specs.Figures.{Turn, Goes, Ends, Stuck, turn_of}
+use Rattle.wire.specs.declared.Turn.{Turn}
+use Rattle.wire.specs.declared.Turn.TheVariants.{Goes, Ends, Stuck}
+use Rattle.wire.specs.Figures.{turn_of}
 use Rattle.wire.specs.Inners.{sound, checked, unit_move, hex_move, tail_move, move4, lead_move, paired, move_of}
 use Rattle.wire.specs.declared.Inner.{Inner}
 use Rattle.wire.specs.declared.Inner.TheVariants.{Plain, Escape, Four, Pair, PairU, Low1, Low2, Low3, Low4, Second3, Second4, Tails}
-use Rattle.wire.specs.declared.Move.{Move}
-use Rattle.wire.specs.declared.Move.TheVariants.{Still, Closed, Wrong2, Wrong3}
 use Rattle.wire.specs.Machine.{Spot, value, first, name, colon, after, word, number, string, key, State, going, over, counted, opens, spot_of, begins, quotes, items, firsts, behind_comma, closes, after_of, word_on, on_turn, on_move, feed}
 use Rattle.wire.proofs.Strings.{digit_most}
 use Rattle.wire.proofs.Sound.{InnerOk, MoveOk, move_cond, sound_low, sound_beyond}
@@ -31,13 +33,13 @@ use Rattle.wire.proofs.ThreeBytes.{three_ok}
 
 checked_ok : (from c : ℕ) → MoveOk (checked from c)
 unfolding checked
-checked_ok from c = move_cond (sound c) (Still Plain) (Wrong3 from) tt tt
+checked_ok from c = move_cond (sound c) (Ok (Some Plain)) (Err (Forbidden from)) tt tt
 
 unit_ok : (from u : ℕ) → MoveOk (unit_move from u)
 unfolding unit_move
 unit_ok from u =
-    move_cond (ltb u 0xD800) (checked from u) (cond (ltb u 0xDC00) (Still (Pair from u)) (checked from u)) (checked_ok from u)
-    (move_cond (ltb u 0xDC00) (Still (Pair from u)) (checked from u) tt (checked_ok from u))
+    move_cond (ltb u 0xD800) (checked from u) (cond (ltb u 0xDC00) (Ok (Some (Pair from u))) (checked from u)) (checked_ok from u)
+    (move_cond (ltb u 0xDC00) (Ok (Some (Pair from u))) (checked from u) tt (checked_ok from u))
 
 pub hex_ok : (from left v : ℕ) → MoveOk (hex_move from left v)
 unfolding hex_move
@@ -100,8 +102,8 @@ SpotOk (key s) = InnerOk s
 -- after i bytes
 abbrev pub Sane : (i : ℕ) → State → Type 0
 Sane i (going j n os spot) = (j ≡ i) × SpotOk spot
-Sane i (over (Rows n)) = ⊥
-Sane i (over (Refused r)) = Prim.Unit {0}
+Sane i (over (Ok n)) = ⊥
+Sane i (over (Err r)) = Prim.Unit {0}
 
 module _ (L : Limits) (i n b : ℕ) where
   abbrev Next : State → Type 0
@@ -169,12 +171,12 @@ module _ (L : Limits) (i n b : ℕ) where
   turn_sane os h Stuck = tt
 
   move_sane : (os : List Bracket) (inside : Inner → Spot) (behind : Spot) → ((s : Inner) → InnerOk s → SpotOk (inside s)) → SpotOk behind
-      → (m : Move) → MoveOk m → Next (on_move i n os inside behind m)
+      → (m : Result (Option Inner) (Fault ℕ)) → MoveOk m → Next (on_move i n os inside behind m)
   unfolding on_move
-  move_sane os inside behind ok o (Still s) h = (refl, ok s h)
-  move_sane os inside behind ok o Closed h = (refl, o)
-  move_sane os inside behind ok o (Wrong2 p) h = tt
-  move_sane os inside behind ok o (Wrong3 p) h = tt
+  move_sane os inside behind ok o (Ok (Some s)) h = (refl, ok s h)
+  move_sane os inside behind ok o (Ok None) h = (refl, o)
+  move_sane os inside behind ok o (Err (Malformed p)) h = tt
+  move_sane os inside behind ok o (Err (Forbidden p)) h = tt
 
   spot_sane : b < 256 → (os : List Bracket) (spot : Spot) → SpotOk spot → Next (feed L (going i n os spot) b)
   unfolding feed
@@ -191,6 +193,6 @@ module _ (L : Limits) (i n b : ℕ) where
 -- a byte keeps that
 pub feed_sane : (L : Limits) (i : ℕ) (s : State) (b : ℕ) → b < 256 → Sane i s → Sane (i + 1) (feed L s b)
 unfolding feed
-feed_sane L i (over (Rows n)) b h k = k
-feed_sane L i (over (Refused r)) b h k = tt
+feed_sane L i (over (Ok n)) b h k = k
+feed_sane L i (over (Err r)) b h k = tt
 feed_sane L i (going j n os spot) b h k = rw (← k.0) (spot_sane L j n b h os spot k.1)

@@ -1,4 +1,7 @@
 -- What a string's inner state has to keep so that a character can still come of it (`InnerOk`, `MoveOk`), and which code points a string may hold. Assumes nothing.
+use Rattle.std.specs.Prelude.{Option, Some, None, Result, Ok, Err}
+use Rattle.text.specs.declared.Fault.{Fault}
+use Rattle.text.specs.declared.Fault.TheVariants.{Malformed, Forbidden}
 use mathlib.Core.Path.{◌≡◌, refl}
 use mathlib.Core.Bool.{Bool, true, false, cond}
 use Prim.Native.Nat.{ℕ, zero, suc, ◌*◌, ◌%◌, ◌≤◌, ◌<◌}
@@ -8,8 +11,6 @@ use Rattle.laws.proofs.Branches.{if_less}
 use Rattle.wire.specs.Inners.{sound}
 use Rattle.wire.specs.declared.Inner.{Inner}
 use Rattle.wire.specs.declared.Inner.TheVariants.{Plain, Escape, Four, Pair, PairU, Low1, Low2, Low3, Low4, Second3, Second4, Tails}
-use Rattle.wire.specs.declared.Move.{Move}
-use Rattle.wire.specs.declared.Move.TheVariants.{Still, Closed, Wrong2, Wrong3}
 use Rattle.wire.specs.Machine.{string}
 
 -- a character can still come of it
@@ -29,13 +30,13 @@ InnerOk (Tails from zero c) = sound (c % 65536 * 64) ≡ true
 InnerOk (Tails from (suc zero) c) = (16 ≤ c) × (c < 272)
 InnerOk (Tails from (suc (suc left)) c) = ⊥
 
-abbrev pub MoveOk : Move → Type 0
-MoveOk (Still s) = InnerOk s
-MoveOk Closed = Prim.Unit {0}
-MoveOk (Wrong2 p) = Prim.Unit {0}
-MoveOk (Wrong3 p) = Prim.Unit {0}
+abbrev pub MoveOk : Result (Option Inner) (Fault ℕ) → Type 0
+MoveOk (Ok (Some s)) = InnerOk s
+MoveOk (Ok None) = Prim.Unit {0}
+MoveOk (Err (Malformed p)) = Prim.Unit {0}
+MoveOk (Err (Forbidden p)) = Prim.Unit {0}
 
-pub move_cond : (x : Bool) (a b : Move) → MoveOk a → MoveOk b → MoveOk (cond x a b)
+pub move_cond : (x : Bool) (a b : Result (Option Inner) (Fault ℕ)) → MoveOk a → MoveOk b → MoveOk (cond x a b)
 move_cond true a b p q = p
 move_cond false a b p q = q
 

@@ -1,5 +1,6 @@
 -- The automaton's answer at the end is the measure's (`at_end`), and a refusal that it gives is certain (`refused_certain`). Cutting doesn't matter (`cut`), and
 -- after an answer nothing changes (`stays`). Assumes nothing.
+use Rattle.std.specs.Prelude.{Result, Ok, Err}
 use mathlib.Core.Path.{◌≡◌, refl, sym, ap, ◌∙◌}
 use mathlib.Core.List.{List, [], ◌∷◌, ◌++◌, append-nil}
 use mathlib.Core.Bool.{Bool, true, false, cond}
@@ -21,10 +22,10 @@ use Rattle.text.specs.Reader.{Read, good, bad, value_at}
 use Rattle.text.specs.Whole.{end_of, read_of}
 use Rattle.text.specs.declared.Refusal.{Refusal}
 use Rattle.text.specs.declared.Refusal.TheVariants.{Grammar, Character}
-use Rattle.text.specs.declared.Reading.{Reading}
-use Rattle.text.specs.declared.Reading.TheVariants.{Rows, Refused}
 use Rattle.wire.specs.Measure.{lenient, reading_of, measure, Certain}
-use Rattle.wire.specs.Figures.{Figure, Minus, Nought, Whole, Point, Fraction, Exponent, Sign, Digits, exp_turn, frac_turn, turn_of}
+use Rattle.wire.specs.declared.Figure.{Figure}
+use Rattle.wire.specs.declared.Figure.TheVariants.{Minus, Nought, Whole, Point, Fraction, Exponent, Sign, Digits}
+use Rattle.wire.specs.Figures.{exp_turn, frac_turn, turn_of}
 use Rattle.wire.specs.Inners.{move_of}
 use Rattle.wire.specs.declared.Inner.{Inner}
 use Rattle.wire.specs.declared.Inner.TheVariants.{Plain, Escape, Four, Pair, PairU, Low1, Low2, Low3, Low4, Second3, Second4, Tails}
@@ -40,7 +41,7 @@ unfolding feeds
 cut L s [] q = refl
 cut L s (b ∷ p) q = cut L (feed L s b) p q
 
-pub stays : (L : Limits) (a : Reading) (p : List ℕ) → feeds L (over a) p ≡ over a
+pub stays : (L : Limits) (a : Result ℕ Refusal) (p : List ℕ) → feeds L (over a) p ≡ over a
 unfolding feeds feed
 stays L a [] = refl
 stays L a (b ∷ p) = stays L a p
@@ -56,9 +57,9 @@ feeds_sane L i s (b ∷ p) (more l h) k =
 
 -- what the end of the text answers after i bytes: acceptance, 2 at the length, or 3 at the start of what is open
 pub data Ended (i : ℕ) : State → Type 0 where
-  accepts : {n : ℕ} → Ended i (over (Rows n))
-  short : Ended i (over (Refused (Grammar i)))
-  lone : {p : ℕ} → Ended i (over (Refused (Character p)))
+  accepts : {n : ℕ} → Ended i (over (Ok n))
+  short : Ended i (over (Err (Grammar i)))
+  lone : {p : ℕ} → Ended i (over (Err (Character p)))
 
 -- a literal awaits a byte, not the end
 abbrev pub Awaits : Spot → Type 0
@@ -140,7 +141,7 @@ module _ (L : Limits) (i n : ℕ) where
 
 -- a state with an answer
 pub data Over : State → Type 0 where
-  told : {a : Reading} → Over (over a)
+  told : {a : (Result ℕ Refusal)} → Over (over a)
 
 pub over_ended : {i : ℕ} {s : State} → Ended i s → Over s
 over_ended accepts = told
@@ -214,8 +215,8 @@ unfolding measure read_of resume spotted value_c reading_of end_of rest_of
 measure_start L t h =
     rw (le-ltb (length t) (length t) (le_refl (length t)), sub-zero L.depth) (go (value_at (lenient L t) t L.depth 0 0 (skip t 0) 0))
   where
-    last : (x : Bool) (f : Forest) (to : ℕ) → reading_of (cond x (good f to) (bad (Grammar to))) ≡ cond x (Rows (0 + size f)) (Refused (Grammar to))
-    last true f to = ap Rows (sym (zero-add (size f)))
+    last : (x : Bool) (f : Forest) (to : ℕ) → reading_of (cond x (good f to) (bad (Grammar to))) ≡ cond x (Ok (0 + size f)) (Err (Grammar to))
+    last true f to = ap Ok (sym (zero-add (size f)))
     last false f to = refl
 
     go : (R : Read) → reading_of (end_of t R) ≡ finally (rest_of (lenient L t) t []) (tally 0 R)
@@ -239,7 +240,7 @@ module _ (L : Limits) (p q : List ℕ) (h : Bytes p) (k : Bytes q) where
       ∙ ap (resume (lenient L (p ++ q)) (p ++ q)) (feeds_lenient L (p ++ q) start p)
 
   -- a refusal that is given is certain
-  pub refused_measure : (r : Refusal) → feeds L start p ≡ refuse r → measure L (p ++ q) ≡ Refused r
+  pub refused_measure : (r : Refusal) → feeds L start p ≡ refuse r → measure L (p ++ q) ≡ Err r
   unfolding resume
   refused_measure r e = measure_feeds ∙ ap (resume (lenient L (p ++ q)) (p ++ q)) e
 

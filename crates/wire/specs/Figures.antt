@@ -1,15 +1,10 @@
--- Inside a number (RFC 8259, section 6): eight places of its grammar, and what a byte does there. Assumes nothing: these are definitions.
+-- Inside a number (RFC 8259, section 6): what a byte does at each of the eight places of its grammar. Assumes nothing: these are definitions.
 use Rattle.std.specs.Prelude.{ℕ, cond, eqb}
 use Rattle.text.specs.Tokens.{is_digit}
-
--- by what was last: a minus, a leading zero, digits of the whole part, the point, digits after it, the letter of the exponent, its sign, its digits
-pub data Figure : Type 0 where
-  Minus Nought Whole Point Fraction Exponent Sign Digits : Figure
-
--- a byte continues the number; the number has ended before it; it can't continue, nor can the number end
-pub data Turn : Type 0 where
-  Goes : Figure → Turn
-  Ends Stuck : Turn
+use Rattle.wire.specs.declared.Figure.{Figure}
+use Rattle.wire.specs.declared.Figure.TheVariants.{Minus, Nought, Whole, Point, Fraction, Exponent, Sign, Digits}
+use Rattle.wire.specs.declared.Turn.{Turn}
+use Rattle.wire.specs.declared.Turn.TheVariants.{Goes, Ends, Stuck}
 
 -- where an exponent may begin
 unfoldable pub exp_turn : ℕ → Turn

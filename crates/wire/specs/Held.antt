@@ -1,13 +1,14 @@
 -- A state in machine words (`Held`, src/lib.rt): what any words mean, and the words that are left of a state. A caller keeps them between two calls, so
 -- nothing is assumed of them. Assumes nothing: these are definitions.
+use Rattle.std.specs.Prelude.{Result, Ok, Err}
+use Rattle.text.specs.declared.Refusal.{Refusal}
 use Rattle.std.specs.Prelude.{ℕ, zero, suc, ◌+◌, ◌-◌, ◌*◌, ◌/◌, ◌%◌, cond, List, [], ◌∷◌, length, get_or, ltb, eqb}
 use Rattle.text.specs.Text.{bytes}
 use Rattle.text.specs.Tree.{Bracket, square, curly}
 use Rattle.text.specs.Sheet.{paper}
 use Rattle.text.specs.declared.Refusal.TheVariants.{TooLong, Grammar, Character, Deep, Many}
-use Rattle.text.specs.declared.Reading.{Reading}
-use Rattle.text.specs.declared.Reading.TheVariants.{Rows, Refused}
-use Rattle.wire.specs.Figures.{Figure, Minus, Nought, Whole, Point, Fraction, Exponent, Sign, Digits}
+use Rattle.wire.specs.declared.Figure.{Figure}
+use Rattle.wire.specs.declared.Figure.TheVariants.{Minus, Nought, Whole, Point, Fraction, Exponent, Sign, Digits}
 use Rattle.wire.specs.declared.Inner.{Inner}
 use Rattle.wire.specs.declared.Inner.TheVariants.{Plain, Escape, Four, Pair, PairU, Low1, Low2, Low3, Low4, Second3, Second4, Tails}
 use Rattle.wire.specs.declared.Held.{Held}
@@ -147,12 +148,12 @@ spot_at code from bits high =
     (cond (ltb code 38) (string (inner_at (code - 22) from bits high)) (key (inner_at (code - 38) from bits high)))))
 
 -- 54 and more: acceptance is 100, a refusal 100 and its number of the sheet; a number that is none of these means 2, so that no odd word is taken for a go-on
-unfoldable pub told_at : (code second : ℕ) → Reading
+unfoldable pub told_at : (code second : ℕ) → Result ℕ Refusal
 told_at code second =
-    cond (eqb code 100) (Rows second)
-    (cond (eqb code 101) (Refused TooLong)
-    (cond (eqb code 103) (Refused (Character second))
-    (cond (eqb code 105) (Refused (Deep second)) (cond (eqb code 106) (Refused (Many second)) (Refused (Grammar second))))))
+    cond (eqb code 100) (Ok second)
+    (cond (eqb code 101) (Err TooLong)
+    (cond (eqb code 103) (Err (Character second))
+    (cond (eqb code 105) (Err (Deep second)) (cond (eqb code 106) (Err (Many second)) (Err (Grammar second))))))
 
 -- what any words mean; where so many bytes were taken
 unfoldable pub state_at : (place : ℕ) → Held → State

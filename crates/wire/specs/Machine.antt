@@ -1,4 +1,7 @@
 -- The reader that keeps no text (02, Req 10): a state of a few words, what one byte does to it, and what the end does. Assumes nothing: these are definitions.
+use Rattle.std.specs.Prelude.{Option, Some, None, Result, Ok, Err}
+use Rattle.text.specs.declared.Fault.{Fault}
+use Rattle.text.specs.declared.Fault.TheVariants.{Malformed, Forbidden}
 use Rattle.std.specs.Prelude.{ℕ, ◌+◌, List, [], ◌∷◌, cond, length, leb, eqb}
 use Rattle.text.specs.Limits.{Limits}
 use Rattle.text.specs.Text.{bytes}
@@ -7,14 +10,13 @@ use Rattle.text.specs.Grammar.{closing}
 use Rattle.text.specs.Tree.{Bracket, square, curly}
 use Rattle.text.specs.declared.Refusal.{Refusal}
 use Rattle.text.specs.declared.Refusal.TheVariants.{TooLong, Grammar, Character, Deep, Many}
-use Rattle.text.specs.declared.Reading.{Reading}
-use Rattle.text.specs.declared.Reading.TheVariants.{Rows, Refused}
-use Rattle.wire.specs.Figures.{Figure, Turn, Goes, Ends, Stuck, turn_of, figure_of}
+use Rattle.wire.specs.declared.Figure.{Figure}
+use Rattle.wire.specs.declared.Turn.{Turn}
+use Rattle.wire.specs.declared.Turn.TheVariants.{Goes, Ends, Stuck}
+use Rattle.wire.specs.Figures.{turn_of, figure_of}
 use Rattle.wire.specs.Inners.{move_of}
 use Rattle.wire.specs.declared.Inner.{Inner}
 use Rattle.wire.specs.declared.Inner.TheVariants.{Plain}
-use Rattle.wire.specs.declared.Move.{Move}
-use Rattle.wire.specs.declared.Move.TheVariants.{Still, Closed, Wrong2, Wrong3}
 
 -- where in the grammar
 pub data Spot : Type 0 where
@@ -29,14 +31,14 @@ pub data Spot : Type 0 where
 -- so many bytes taken, so many values begun, the brackets that are open, the innermost first (a bit each), and where in the grammar; or the answer
 pub data State : Type 0 where
   going : (at n : ℕ) (opened : List Bracket) (spot : Spot) → State
-  over : Reading → State
+  over : Result ℕ Refusal → State
 
 -- before the first byte
 abbrev pub start : State
 start = going 0 0 [] value
 
 abbrev pub refuse : Refusal → State
-refuse r = over (Refused r)
+refuse r = over (Err r)
 
 -- ---- a value begins
 
@@ -87,7 +89,7 @@ behind_comma curly = name
 
 -- after a value; with nothing open the text may end
 unfoldable pub closes : (at n : ℕ) → List Bracket → (byte : ℕ) → State
-closes at n [] b = cond (eqb b 256) (over (Rows n)) (refuse (Grammar at))
+closes at n [] b = cond (eqb b 256) (over (Ok n)) (refuse (Grammar at))
 closes at n (c ∷ os) b =
     cond (eqb b (closing c)) (going (at + 1) n os after)
     (cond (eqb b 44) (going (at + 1) n (c ∷ os) (behind_comma c)) (refuse (Grammar at)))
@@ -114,11 +116,11 @@ on_turn at n os b Ends = after_of at n os b
 on_turn at n os b Stuck = refuse (Grammar at)
 
 -- in a string, and what its closing quote leads to
-unfoldable pub on_move : (at n : ℕ) → List Bracket → (Inner → Spot) → Spot → Move → State
-on_move at n os inside behind (Still s) = going (at + 1) n os (inside s)
-on_move at n os inside behind Closed = going (at + 1) n os behind
-on_move at n os inside behind (Wrong2 p) = refuse (Grammar p)
-on_move at n os inside behind (Wrong3 p) = refuse (Character p)
+unfoldable pub on_move : (at n : ℕ) → List Bracket → (Inner → Spot) → Spot → Result (Option Inner) (Fault ℕ) → State
+on_move at n os inside behind (Ok (Some s)) = going (at + 1) n os (inside s)
+on_move at n os inside behind (Ok None) = going (at + 1) n os behind
+on_move at n os inside behind (Err (Malformed p)) = refuse (Grammar p)
+on_move at n os inside behind (Err (Forbidden p)) = refuse (Character p)
 
 -- one byte, or 256 at the end of the text; after an answer nothing changes
 unfoldable pub feed : Limits → State → (byte : ℕ) → State

@@ -1,4 +1,4 @@
-// Reading in pieces (docs/RULES.md, 9): where a reader stands inside a string, what a byte does there, and what is kept between two calls. There is no code
+// Reading in pieces (docs/RULES.md, 9): where a reader stands inside a string or a number, and what is kept between two calls. There is no code
 // here: the definitions of specs/ name these types, and the contracts of crate pieces cite the definitions.
 #![tactic(auto)]
 
@@ -26,13 +26,26 @@ pub enum Inner {
     Tails(u32, u32, u32),
 }
 
-// What a byte does: the string goes on, it is closed, or the refusal 2 or 3 is certain, at a place.
+// Inside a number, by what was last: a minus, a leading zero, digits of the whole part, the point, digits after it, the letter of the exponent, its sign,
+// its digits.
 #[derive(Clone, Copy)]
-pub enum Move {
-    Still(Inner),
-    Closed,
-    Wrong2(u32),
-    Wrong3(u32),
+pub enum Figure {
+    Minus,
+    Nought,
+    Whole,
+    Point,
+    Fraction,
+    Exponent,
+    Sign,
+    Digits,
+}
+
+// What a byte does there: it continues the number; the number has ended before it; it can't continue, nor can the number end.
+#[derive(Clone, Copy)]
+pub enum Turn {
+    Goes(Figure),
+    Ends,
+    Stuck,
 }
 
 // What a caller keeps between two calls: a few machine words. Any words mean some state (specs/Held.antt).

@@ -2,14 +2,15 @@
 use mathlib.Core.Path.{ap, ◌∙◌}
 use Rattle.packing.specs.Services.{paper_of_packing, packed_by}
 use Rattle.bezinkol.specs.Answer.{answer_words}
+use Rattle.answers.proofs.Lines.{packing_line}
 use Rattle.bezinkol.proofs.bezinkol_pack.Goals as goal
 
 pub returns : goal.returns
 unfolding packed_by
 returns c =
-    let left = c.pack-a.ensures in
+    let left = c.pack-packing.ensures in
     record {
-      answered = c.put_answer.ensures ∙ ap answer_words (c.packing_on_paper.ensures ∙ ap paper_of_packing left.answered);
+      answered = c.put_answer.ensures ∙ ap answer_words (c.on_paper.ensures ∙ packing_line _ ∙ ap paper_of_packing left.answered);
       rows = left.left;
       bytes = left.bytes;
     }

@@ -3,12 +3,12 @@
 --     fitting, unfitting             a member that is found counts, if its kind fits
 --     rule_told                      a rule by its shape and words is the rule of the definitions, by computation over all of them
 -- Assumes nothing.
+use Rattle.std.specs.Prelude.{Some, None}
 use Prim.Native.Nat.{ℕ, zero, suc, ◌+◌, ◌≤◌}
 use native.Mathlib.Numerals.{add-one}
 use mathlib.Core.Path.{◌≡◌, refl, sym, ap, ◌∙◌}
 use mathlib.Core.List.{List, [], ◌∷◌, map}
 use mathlib.Core.Bool.{Bool, true, false}
-use mathlib.Core.Option.{some}
 use lib.ListN.{length, get_or, drop, get_or-map, drop_of_length-le}
 use Rattle.text.specs.Strings.{name_of}
 use Rattle.text.specs.Tree.{Forest}
@@ -20,7 +20,6 @@ use Rattle.card.specs.Catalog.{gathered, all_rules, no_rule, rule_at, shape_of, 
 use Rattle.card.specs.Rows.{ValueAt, ValueOf}
 use Rattle.json_reader.specs.Lookup.{Standing}
 use Rattle.card.specs.RuleTable.{is_counted, any_counted, then_broken, by_shape}
-use Rattle.json_reader.specs.declared.lookup.Found.TheVariants.{Row, Nothing}
 use Rattle.card.proofs.Judging.Values.{value_kind}
 
 -- ---- one of some words
@@ -55,11 +54,11 @@ module _ (text t : List ℕ) (end : ℕ) (n : Name) (f : Forest) (o : ObjectType
   type_is : type_in (properties o) n ≡ ty
   type_is = sym (typed ∙ ap (type_in (properties o)) found.named)
 
-  pub fitting : fits ty (kind_in t k) ≡ true → ValueOf text t (Row k) (present o n (members_of text f))
+  pub fitting : fits ty (kind_in t k) ≡ true → ValueOf text t (Some k) (present o n (members_of text f))
   unfolding present
   fitting e = rw (found.is, type_is, ← value_kind text found.found value, e) (found.found, value, refl)
 
-  pub unfitting : fits ty (kind_in t k) ≡ false → ValueOf text t Nothing (present o n (members_of text f))
+  pub unfitting : fits ty (kind_in t k) ≡ false → ValueOf text t None (present o n (members_of text f))
   unfolding present
   unfitting e = rw (found.is, type_is, ← value_kind text found.found value, e) tt
 

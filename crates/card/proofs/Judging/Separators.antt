@@ -2,7 +2,7 @@
 -- Assumes nothing.
 use mathlib.Core.Path.{◌≡◌, refl, sym, ap, ◌∙◌}
 use mathlib.Core.List.{List, [], ◌∷◌}
-use mathlib.Core.Bool.{Bool, true, false, ◌&&◌, ◌||◌, or-false, or-true, and-true, and-false, or_assoc, and_assoc}
+use mathlib.Core.Bool.{Bool, not, false, ◌&&◌, ◌||◌, or-false, and-true, or_assoc, and_assoc}
 use Prim.Native.Nat.{ℕ}
 use Rattle.laws.proofs.Bools.{or_false as neither}
 use Rattle.laws.specs.Tests.{any_mark, all_marks, adjacent}
@@ -13,33 +13,10 @@ use Rattle.text.specs.Doc.{doc_of, members_of}
 use Rattle.text.proofs.Promise.{members_first, members_none}
 use Rattle.contact.specs.Rules.{is_separator, marks_of, badly_separated}
 use Rattle.card.specs.Rows.{ValueAt}
-use Rattle.card.specs.Marks.{tallied as kept, no_marks, mark_on, tally}
+use Rattle.card.specs.Marks.{no_marks, mark_on, tally}
 use Rattle.card.specs.declared.rules.Marks.{Marks}
 
 -- ---- the marks of a list
-
--- one more entry, by its mark
-module _ (m : Marks) where
-  same_marks : {a b c d x y z w : Bool} → a ≡ x → b ≡ y → c ≡ z → d ≡ w → kept a b c d ≡ kept x y z w
-  same_marks p q r s = λ i. kept (p i) (q i) (r i) (s i)
-
-  pub mark_other : kept m.any false m.twice false ≡ mark_on m false
-  mark_other =
-      same_marks (sym (or-false m.any)) (sym (and-false m.all))
-      (sym (ap (λ (b : Bool). m.twice || b) (and-false m.last) ∙ or-false m.twice))
-      refl
-
-  pub mark_second : m.last ≡ true → kept true m.all true true ≡ mark_on m true
-  mark_second e =
-      same_marks (sym (or-true m.any)) (sym (and-true m.all))
-      (sym (ap (λ (b : Bool). m.twice || (b && true)) e ∙ or-true m.twice))
-      refl
-
-  pub mark_first : m.last ≡ false → kept true m.all m.twice true ≡ mark_on m true
-  mark_first e =
-      same_marks (sym (or-true m.any)) (sym (and-true m.all))
-      (sym (ap (λ (b : Bool). m.twice || (b && true)) e ∙ or-false m.twice))
-      refl
 
 tally_any : (m : Marks) (ss : List Bool) → (tally m ss).any ≡ (m.any || any_mark ss)
 unfolding tally any_mark
@@ -101,14 +78,6 @@ module _ (m : Marks) (ss : List Bool) (e : m ≡ tally no_marks ss) (ordered : B
   unfolding badly_separated
   no_separator q = let z = told_any m ss e ∙ q in rw (unmarked ss z, z)
 
-  pub two_in_a_row : m.twice ≡ true → true ≡ badly_separated ss ordered
+  pub separated : m.twice || (m.any && not ordered) ≡ badly_separated ss ordered
   unfolding badly_separated
-  two_in_a_row q = rw (told_twice m ss e, q)
-
-  pub in_order : m.twice ≡ false → ordered ≡ true → false ≡ badly_separated ss ordered
-  unfolding badly_separated
-  in_order q p = rw (told_twice m ss e, q, p, and-false (any_mark ss))
-
-  pub out_of_order : m.twice ≡ false → ordered ≡ false → m.any ≡ badly_separated ss ordered
-  unfolding badly_separated
-  out_of_order q p = rw (told_twice m ss e, q, p, and-true (any_mark ss)) (sym (told_any m ss e))
+  separated = rw (told_twice m ss e, told_any m ss e)

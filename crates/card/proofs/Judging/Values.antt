@@ -1,8 +1,10 @@
 -- A value that stands at a row: its kind, its token and its members, by the row's words; and the member of a name. Assumes nothing.
+use Rattle.std.specs.Prelude.{Some, None, Option}
+use Rattle.std.specs.Option.{is_some}
 use Prim.Native.Nat.{ℕ, ◌<◌, ◌≤◌, ◌+◌, ◌*◌}
 use mathlib.Core.Path.{◌≡◌, refl, sym, subst, ◌∙◌}
 use mathlib.Core.List.{List}
-use mathlib.Core.Option.{Option, none, some}
+use mathlib.Core.Option.{Option as Maybe, none, some}
 use native.Mathlib.Omega.{arith}
 use lib.ListN.{length}
 use Rattle.laws.specs.Lists.{part_of}
@@ -10,15 +12,13 @@ use Rattle.text.specs.Limits.{row_words}
 use Rattle.text.specs.Tree.{Forest}
 use Rattle.text.specs.Standing.{StandsTo}
 use Rattle.text.specs.Firsts.{inside_at}
-use Rattle.text.specs.Doc.{Name, Doc, Property, doc_of, members_of, kind_of, token_of, children_of, seek}
+use Rattle.text.specs.Doc.{Name, Doc, Property, doc_of, members_of, kind_of, token_of, children_of, seek, is_there}
 use Rattle.text.proofs.Promise.{first_row_lem, first_room, doc_kind, doc_token, doc_below}
 use Rattle.contact.specs.Rules.{is_this_string, has_kind}
 use Rattle.json_reader.specs.Rows.{kind_in, start_in, end_in, below_in}
 use Rattle.json_reader.specs.Lookup.{last_row, row_after, Finds}
 use Rattle.json_reader.proofs.Seeking.{row_after_lem, members_stand}
 use Rattle.card.specs.Rows.{ValueAt, RowOf, ValueOf}
-use Rattle.json_reader.specs.declared.lookup.Found.{Found}
-use Rattle.json_reader.specs.declared.lookup.Found.TheVariants.{Row, Nothing}
 
 -- ---- one value
 
@@ -44,59 +44,66 @@ value_below text f = doc_below text f
 
 -- ---- the member of a name
 
-abbrev pub seek_in : (text name : List ℕ) → Forest → Option Property
+abbrev pub seek_in : (text name : List ℕ) → Forest → Maybe Property
 seek_in text name f = seek name (members_of text f)
 
 abbrev pub content_of : Property → Doc
 content_of p = p.content
 
 -- a search among rows answers with the row of the member
-pub row_of : (text table : List ℕ) (end : ℕ) (name : Name) (f : Forest) (r : Found) → Finds text table end name f r
+pub row_of : (text table : List ℕ) (end : ℕ) (name : Name) (f : Forest) (r : Option ℕ) → Finds text table end name f r
     → RowOf content_of text table r (seek_in text name f)
-row_of text table end name f (Row m) h = rw h.is (h.found, record { some = h.some_found; stands = h.stands.stands }, refl)
-row_of text table end name f Nothing h = rw h tt
+row_of text table end name f (Some m) h = rw h.is (h.found, record { some = h.some_found; stands = h.stands.stands }, refl)
+row_of text table end name f None h = rw h tt
 
 -- the value of a member, if there is one
-abbrev pub content_in : Option Property → Option Doc
+abbrev pub content_in : Maybe Property → Maybe Doc
 content_in none = none
 content_in (some p) = some p.content
 
-pub content_row : (text table : List ℕ) (r : Found) (o : Option Property) → RowOf content_of text table r o → ValueOf text table r (content_in o)
-content_row text table (Row k) (some p) h = h
-content_row text table (Row k) none h = absurd h
-content_row text table Nothing (some p) h = absurd h
-content_row text table Nothing none h = tt
+pub content_row : (text table : List ℕ) (r : Option ℕ) (o : Maybe Property) → RowOf content_of text table r o → ValueOf text table r (content_in o)
+content_row text table (Some k) (some p) h = h
+content_row text table (Some k) none h = absurd h
+content_row text table None (some p) h = absurd h
+content_row text table None none h = tt
 
-pub content_string : (n : Name) (o : Option Property) → is_this_string n (content_in o) ≡ has_kind n o
+pub content_string : (n : Name) (o : Maybe Property) → is_this_string n (content_in o) ≡ has_kind n o
 content_string n none = refl
 content_string n (some p) = refl
 
 -- ---- what the answer of a search says
 
 module _ {A : Type 0} (value_of : A → Doc) (text t : List ℕ) where
-  at_case : (k : ℕ) (o : Option A) → RowOf value_of text t (Row k) o → (P : Option A → Type 0)
+  -- it says whether there is one
+  pub there : (r : Option ℕ) (o : Maybe A) → RowOf value_of text t r o → is_some r ≡ is_there o
+  there (Some k) (some a) h = refl
+  there (Some k) none h = absurd h
+  there None (some a) h = absurd h
+  there None none h = refl
+
+  at_case : (k : ℕ) (o : Maybe A) → RowOf value_of text t (Some k) o → (P : Maybe A → Type 0)
       → ((a : A) (f : Forest) → ValueAt t k f → value_of a ≡ doc_of text f → P (some a)) → P o
   at_case k (some a) (f, v, e) P this = this a f v e
   at_case k none s P this = absurd s
 
-  nothing_case : (o : Option A) → RowOf value_of text t Nothing o → (P : Option A → Type 0) → P none → P o
+  nothing_case : (o : Maybe A) → RowOf value_of text t None o → (P : Maybe A → Type 0) → P none → P o
   nothing_case (some a) s P this = absurd s
   nothing_case none s P this = this
 
-  here_case : (k : ℕ) (o : Option A) → RowOf value_of text t (Row k) o → (f : Forest) × ValueAt t k f
+  here_case : (k : ℕ) (o : Maybe A) → RowOf value_of text t (Some k) o → (f : Forest) × ValueAt t k f
   here_case k (some a) (f, v, e) = (f, v)
   here_case k none s = absurd s
 
-  module _ {r : Found} (o : Option A) (s : RowOf value_of text t r o) where
-    pub found_here : {k : ℕ} → r ≡ Row k → (f : Forest) × ValueAt t k f
-    found_here {k} q = here_case k o (subst (λ (g : Found). RowOf value_of text t g o) q s)
+  module _ {r : (Option ℕ)} (o : Maybe A) (s : RowOf value_of text t r o) where
+    pub found_here : {k : ℕ} → r ≡ Some k → (f : Forest) × ValueAt t k f
+    found_here {k} q = here_case k o (subst (λ (g : Option ℕ). RowOf value_of text t g o) q s)
 
-    pub by_found : (P : Option A → Type 0) {k : ℕ} → r ≡ Row k
+    pub by_found : (P : Maybe A → Type 0) {k : ℕ} → r ≡ Some k
         → ((a : A) (f : Forest) → ValueAt t k f → value_of a ≡ doc_of text f → P (some a)) → P o
-    by_found P {k} q this = at_case k o (subst (λ (g : Found). RowOf value_of text t g o) q s) P this
+    by_found P {k} q this = at_case k o (subst (λ (g : Option ℕ). RowOf value_of text t g o) q s) P this
 
-    pub by_nothing : (P : Option A → Type 0) → r ≡ Nothing → P none → P o
-    by_nothing P q this = nothing_case o (subst (λ (g : Found). RowOf value_of text t g o) q s) P this
+    pub by_nothing : (P : Maybe A → Type 0) → r ≡ None → P none → P o
+    by_nothing P q this = nothing_case o (subst (λ (g : Option ℕ). RowOf value_of text t g o) q s) P this
 
 abbrev pub itself : Doc → Doc
 itself d = d

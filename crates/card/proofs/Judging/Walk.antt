@@ -1,9 +1,10 @@
 -- The walk over a card's rows, by the definition's own steps:
---     row-unfit, row-object, row-value    the number of one row
+--     row-unfit, row-object, row-other    the number of one row
+--     numbered                            what is broken has a number
 --     breach-free                         there is none where nothing is judged
 --     breach-row                          a value's breach is its row's
 --     pass                                a value more among those passed
---     Ahead, judging-starts, -hit, -on, -ends    or the first below it: what is passed and what is left of the members of a value
+--     Ahead, judging-starts, -some, -none, -ends    or the first below it: what is passed and what is left of the members of a value
 -- Assumes nothing.
 use Prim.Native.Nat.{ℕ, zero, suc, ◌+◌, ◌≤◌, ◌<◌}
 use mathlib.Core.Path.{◌≡◌, refl, sym, ap, ◌∙◌}
@@ -20,9 +21,15 @@ use Rattle.contact.specs.Schema.{ObjectType, Ty, any, simple, object_of, list_of
 use Rattle.contact.proofs.Judging.Table.{simple_low}
 use Rattle.contact.specs.Judge.{member_type, key_fits, row_number, Breach, nothing, found, on_this_row, or_else, breach_of, breach_among}
 use Rattle.json_reader.specs.Rows.{name_start_in, name_end_in, below_in}
-use Rattle.card.specs.Types.{is_any, NotObject}
+use Rattle.card.specs.Types.{is_any, NotObject, AsObject}
+use Rattle.card.specs.declared.items.Role.{Role}
+use Rattle.card.specs.declared.items.Role.TheVariants.{As, Between, Other}
 use Rattle.card.specs.Rows.{ValueAt, names_onto, row_key}
-use Rattle.card.specs.Walk.{object_number, value_number}
+use Rattle.card.specs.Walk.{object_number, value_number, sheet_number, found_of}
+use Rattle.std.specs.Prelude.{Option, Some, None}
+use Rattle.std.specs.Option.{is_some}
+use Rattle.card.specs.declared.walk.Broken.{Broken}
+use Rattle.card.specs.declared.walk.Broken.TheVariants.{Kind, Missing, Value, Rule}
 use Rattle.json_reader.proofs.Seeking.{rest_kinds, inside_kinds}
 
 -- ---- one row ----
@@ -41,7 +48,7 @@ module _ (t : List ℕ) (f : Forest) (s : HasFirst f) where
   unfolding row_number object_number
   row_object o key e = rw (doc_below t f, doc_kind t f s, e, and_true key)
 
-  pub row_value : (ty : Ty) (key : Bool) → NotObject ty → fits ty (kind_at f) ≡ true → value_number ty key t f ≡ row_number ty key (doc_of t f)
+  row_value : (ty : Ty) (key : Bool) → NotObject ty → fits ty (kind_at f) ≡ true → value_number ty key t f ≡ row_number ty key (doc_of t f)
   unfolding row_number value_number
   row_value any true n e = refl
   row_value any false n e = refl
@@ -55,11 +62,25 @@ module _ (t : List ℕ) (f : Forest) (s : HasFirst f) where
   row_value (by_type usual special) key n e = absurd n
 
   -- a choice of two types is none that stands at a value, and would ask nothing of it but its kind
-  pub row_choice : (usual special : ObjectType) (key : Bool) → fits (by_type usual special) (kind_at f) ≡ true
+  row_choice : (usual special : ObjectType) (key : Bool) → fits (by_type usual special) (kind_at f) ≡ true
       → value_number (by_type usual special) key t f ≡ row_number (by_type usual special) key (doc_of t f)
   unfolding row_number value_number
   row_choice usual special true e = rw (doc_kind t f s, e)
   row_choice usual special false e = rw (doc_kind t f s, e)
+
+  -- of a type that is no object type, by its role
+  pub row_other : (r : Role) (ty : Ty) (key : Bool) → AsObject r ty → ((o : ℕ) → r ≡ As o → ⊥) → fits ty (kind_at f) ≡ true
+      → value_number ty key t f ≡ row_number ty key (doc_of t f)
+  row_other (As o) ty key is apart e = absurd (apart o refl)
+  row_other (Between usual special) ty key is apart e = rw is (row_choice usual special key (rw is at e))
+  row_other Other ty key is apart e = row_value ty key is e
+
+-- what is broken has a number
+pub numbered : (b : Broken) → sheet_number b ≡ 0 → ⊥
+numbered Kind e = omega (arith, e)
+numbered Missing e = omega (arith, e)
+numbered Value e = omega (arith, e)
+numbered Rule e = omega (arith, e)
 
 -- ---- what is below ----
 
@@ -228,10 +249,10 @@ module _ {t table : List ℕ} {ty : Ty} {key : Bool} {row end : ℕ} {f : Forest
           rw (is, typed, keyed, n) refl in
           a.is ∙ among_first t ty names at a.ahead value_here.some ∙ ap (λ x. or_else x rest_of) q
 
-      pub judging_hit : (r m : ℕ) → b ≡ found r m → found r m ≡ breach_of ty key row (doc_of t f)
+      judging_hit : (r m : ℕ) → b ≡ found r m → found r m ≡ breach_of ty key row (doc_of t f)
       judging_hit r m e = sym (by_first ∙ ap (λ x. or_else x rest_of) e)
 
-      pub judging_on : b ≡ nothing → Ahead t table ty key row end f (at + 1 + below_in table at)
+      judging_on : b ≡ nothing → Ahead t table ty key row end f (at + 1 + below_in table at)
       unfolding names rest_of
       judging_on e =
           let r = first_row_lem a.ahead value_here.some a.stands.stands in
@@ -245,6 +266,15 @@ module _ {t table : List ℕ} {ty : Ty} {key : Bool} {row end : ℕ} {f : Forest
             kinds = rest_kinds a.ahead a.kinds;
             is = rw (r.below, q) (by_first ∙ ap (λ x. or_else x rest_of) e);
           }
+
+      -- by what the code has found
+      pub judging_some : (o : Option (ℕ × Broken)) → b ≡ found_of o → is_some o ≡ true → found_of o ≡ breach_of ty key row (doc_of t f)
+      judging_some (Some (r, broken)) e s = judging_hit r (sheet_number broken) e
+      judging_some None e s = cc
+
+      pub judging_none : (o : Option (ℕ × Broken)) → b ≡ found_of o → is_some o ≡ false → Ahead t table ty key row end f (at + 1 + below_in table at)
+      judging_none (Some (r, broken)) e s = cc
+      judging_none None e s = judging_on e
 
   pub judging_ends : end ≤ at → nothing ≡ breach_of ty key row (doc_of t f)
   unfolding breach_among breach_of

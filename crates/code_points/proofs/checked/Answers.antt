@@ -1,32 +1,10 @@
--- `code_points::checked` meets its contract: at each `return` the tests so far pick the case of `checked_at`. Assumes nothing.
-use Rattle.text.specs.Chars.{checked_at}
-use Rattle.laws.proofs.Picks.{picks}
+-- `code_points::checked` meets its contract by what `checked_at` asks. Assumes nothing.
+use mathlib.Core.Path.{sym, ◌∙◌}
+use Rattle.code_points.proofs.Characters.{checked_is}
 use Rattle.code_points.proofs.checked.Goals as goal
 
-pub returns-then-code-lt55296 : goal.returns-then-code-lt55296
-unfolding checked_at
-returns-then-code-lt55296 c = search picks
+pub returns-then-is_character : goal.returns-then-is_character
+returns-then-is_character c = let a = c.args in rw (← checked_is a.at a.code a.len, sym c.is_character.ensures ∙ c.if-is_character.true)
 
-pub returns-then-code-lt57344 : goal.returns-then-code-lt57344
-unfolding checked_at
-returns-then-code-lt57344 c = search picks
-
-pub returns-then-code-lt64976 : goal.returns-then-code-lt64976
-unfolding checked_at
-returns-then-code-lt64976 c = search picks
-
-pub returns-then-code-lt65008 : goal.returns-then-code-lt65008
-unfolding checked_at
-returns-then-code-lt65008 c = search picks
-
-pub returns-then-code-gt1114111 : goal.returns-then-code-gt1114111
-unfolding checked_at
-returns-then-code-gt1114111 c = search picks
-
-pub returns-then-code-lt65534 : goal.returns-then-code-lt65534
-unfolding checked_at
-returns-then-code-lt65534 c = search picks
-
-pub returns-else-code-lt65534 : goal.returns-else-code-lt65534
-unfolding checked_at
-returns-else-code-lt65534 c = search picks
+pub returns-else-is_character : goal.returns-else-is_character
+returns-else-is_character c = let a = c.args in rw (← checked_is a.at a.code a.len, sym c.is_character.ensures ∙ c.if-is_character.false)

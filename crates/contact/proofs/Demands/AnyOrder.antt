@@ -2,6 +2,8 @@
 -- (`reordered_readable`), if the one is a card so is the other (`order_card`), and if they are refused it is by one number (`order_number`); the place may
 -- differ, as white space may. Cards are localized alike: one number, one key, one table and one output (`order_served`, `order_allowed`).
 -- Assumes nothing.
+use Rattle.std.specs.Prelude.{Result}
+use Rattle.contact.specs.declared.LocalRefusal.{LocalRefusal}
 use Prim.Native.Nat.{ℕ}
 use mathlib.Core.Path.{◌≡◌, refl, sym, ap, ◌∙◌}
 use mathlib.Core.Bool.{true}
@@ -27,7 +29,6 @@ use Rattle.contact.specs.Verdict.{refused_fault, refused_card, paper_of_verdict,
 use Rattle.contact.specs.Localize.{refused_local, paper_of_localized, Outcome, start, by_judge, by_room, localized_of, answer_of_outcome, sheet_of_outcome, table_of_outcome, output_of_outcome}
 use Rattle.contact.specs.Places.{key_place}
 use Rattle.contact.specs.Contract.{Localizes}
-use Rattle.contact.specs.declared.Localized.{Localized}
 use Rattle.contact.specs.Patching.{OrderOnly}
 use Rattle.contact.specs.Judging.{CardText}
 use Rattle.contact.specs.Services.{judge, localize, served}
@@ -162,7 +163,7 @@ module _ (L : Limits) (unique : L.unique ≡ true) (words room : ℕ) (t u : Lis
   unfolding served
   order_served = (order_alike.but_place, order_alike.table, order_alike.output)
 
-  pub order_allowed : (a b : Localized) (x y p q : List ℕ) → Localizes L words room t lang a x p → Localizes L words room u lang b y q
+  pub order_allowed : (a b : Result (ℕ × ℕ) LocalRefusal) (x y p q : List ℕ) → Localizes L words room t lang a x p → Localizes L words room u lang b y q
       → SameButPlace lang t f u h (paper_of_localized a) (paper_of_localized b) × (¬ NamesKey (paper_of_localized a) → a ≡ b) × (x ≡ y) × (p ≡ q)
   order_allowed a b x y p q l m = (
     rw (l.paper, m.paper) order_alike.but_place,

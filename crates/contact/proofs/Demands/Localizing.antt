@@ -1,4 +1,5 @@
 -- Demand 3, of what localizing leaves, from the theorems of Patching. Assumes nothing.
+use Rattle.std.specs.Prelude.{Result, Err}
 use Prim.Native.Nat.{ℕ, ◌≤◌, ◌<◌}
 use native.Mathlib.Omega.{arith}
 use mathlib.Core.Path.{◌≡◌, refl, sym, ap, ap₂, ◌∙◌, subst}
@@ -28,8 +29,6 @@ use Rattle.contact.specs.Contract.{Localizes}
 use Rattle.contact.specs.declared.CardRefusal.{CardRefusal}
 use Rattle.contact.specs.declared.LocalRefusal.{LocalRefusal}
 use Rattle.contact.specs.declared.LocalRefusal.TheVariants.{Inner}
-use Rattle.contact.specs.declared.Localized.{Localized}
-use Rattle.contact.specs.declared.Localized.TheVariants.{Denied}
 use Rattle.contact.proofs.Patching.Public.{passed_so, failed_so}
 use Rattle.contact.proofs.Patching.Entering.{Accepted, late_applicable, unfit_of, key_second, key_smallest, smallest_key}
 use Rattle.contact.proofs.Patching.Faults.{breaks_there}
@@ -170,18 +169,18 @@ module _ (L : Limits) (unique : L.unique ≡ true) (words room : ℕ) (t : List 
             )
 
     -- the refusal itself
-    pub refused_answer : (a : Localized) (x o : List ℕ) → Localizes L words room t lang a x o → (r : LocalRefusal)
-        → (a ≡ Denied r) ↔ ((n : ℕ) × Smallest (BrokenCondition L words room place (doc_of t f) lang) n r)
+    pub refused_answer : (a : Result (ℕ × ℕ) LocalRefusal) (x o : List ℕ) → Localizes L words room t lang a x o → (r : LocalRefusal)
+        → (a ≡ Err r) ↔ ((n : ℕ) × Smallest (BrokenCondition L words room place (doc_of t f) lang) n r)
     unfolding answer_of_outcome
     refused_answer a x o l r =
         let is : answer_of_outcome (localized_doc L words room place (doc_of t f) lang) ≡ a = ap answer_of_outcome (sym (passed_so L words room t lang f pass)) ∙ sym l.answer in
         (λ e. (_, (refused_iff L words room place (doc_of t f) lang r).0 (denied_so (localized_doc L words room place (doc_of t f) lang) (is ∙ e))), λ (n, s). sym is ∙ back n s)
       where
-        denied_so : (o : Outcome) → answer_of_outcome o ≡ Denied r → o ≡ denied r
+        denied_so : (o : Outcome) → answer_of_outcome o ≡ Err r → o ≡ denied r
         denied_so (done text g) e = let z : ◌≡◌ {A = ℕ} 0 1 = cc in absurd (omega arith)
         denied_so (denied q) e = let k : q ≡ r = cc in ap (λ (y : LocalRefusal). denied y) k
 
-        back : (n : ℕ) → Smallest (BrokenCondition L words room place (doc_of t f) lang) n r → answer_of_outcome (localized_doc L words room place (doc_of t f) lang) ≡ Denied r
+        back : (n : ℕ) → Smallest (BrokenCondition L words room place (doc_of t f) lang) n r → answer_of_outcome (localized_doc L words room place (doc_of t f) lang) ≡ Err r
         back n s =
             let number : (refused_local r).number ≡ n = broken_number L words room place (doc_of t f) lang s.broken in
             ap answer_of_outcome ((refused_iff L words room place (doc_of t f) lang r).1 (rw (sym number) at s))

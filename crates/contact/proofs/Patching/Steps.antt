@@ -5,6 +5,7 @@
 --     short-so, room-so                  27, and then the text that is written is judged
 --     start-walk, start-walks            a pointer that does not begin with `localizations` leads where it leads in the card
 -- Assumes nothing.
+use Rattle.std.specs.Prelude.{Result, Err}
 use mathlib.Core.Path.{◌≡◌, refl, sym, ap, ◌∙◌}
 use mathlib.Core.Bool.{Bool, false, true≢false}
 use mathlib.Core.List.{List, [], ◌∷◌}
@@ -26,8 +27,6 @@ use Rattle.contact.specs.Patch.{Entry, entry, entries_of, Walk, onward, walk, an
 use Rattle.contact.specs.Faults.{all_kept, broken_by, fault_in}
 use Rattle.contact.specs.Localize.{key_refusal, denied, start, by_judge, by_room, by_fault, by_entries}
 use Rattle.contact.specs.declared.CardRefusal.{CardRefusal}
-use Rattle.contact.specs.declared.Verdict.{Verdict}
-use Rattle.contact.specs.declared.Verdict.TheVariants.{Failed}
 use Rattle.contact.specs.declared.LocalRefusal.TheVariants.{Short}
 use Rattle.contact.proofs.Judging.{one_answer, judging}
 use Rattle.contact.proofs.Patching.Names.{same_yes}
@@ -35,7 +34,7 @@ use Rattle.contact.proofs.Patching.Seek.{seek_without_other}
 
 -- ---- judging
 
-pub judged_answer : (v : Verdict) (j : Judged) → paper_of_verdict v ≡ sheet_of_judged j → v ≡ answer_of_judged j
+pub judged_answer : (v : Result ℕ CardRefusal) (j : Judged) → paper_of_verdict v ≡ sheet_of_judged j → v ≡ answer_of_judged j
 unfolding sheet_of_judged
 judged_answer v j e = one_answer v (answer_of_judged j) e
 
@@ -43,9 +42,9 @@ judged_answer v j e = one_answer v (answer_of_judged j) e
 module _ (L : Limits) (words : ℕ) (t : List ℕ) (r : CardRefusal) where
   pub answer_failed : {table : List ℕ} → CardAnswer L words t (refused_card r) table → judged_of L words t ≡ failed r
   unfolding paper_of_verdict
-  answer_failed {table} s = go (judged_of L words t) (judged_answer (Failed r) (judged_of L words t) ((judging.answer L words t (refused_card r) table).1 s).0)
+  answer_failed {table} s = go (judged_of L words t) (judged_answer (Err r) (judged_of L words t) ((judging.answer L words t (refused_card r) table).1 s).0)
     where
-      go : (j : Judged) → Failed r ≡ answer_of_judged j → j ≡ failed r
+      go : (j : Judged) → Err r ≡ answer_of_judged j → j ≡ failed r
       go (passed f) e = let z : ◌≡◌ {A = ℕ} 0 1 = cc in absurd (omega arith)
       go (failed q) e = let h : r ≡ q = cc in ap (λ (x : CardRefusal). failed x) (sym h)
 

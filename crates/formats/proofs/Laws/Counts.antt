@@ -1,19 +1,31 @@
 -- An unsigned integer digit by digit: what is still asked of the bytes left, after digits of a value. Assumes nothing.
-use mathlib.Core.Path.{◌≡◌, refl}
+use mathlib.Core.Path.{◌≡◌, refl, sym, ◌∙◌}
 use mathlib.Core.List.{List, [], ◌∷◌}
 use mathlib.Core.Bool.{Bool, true, false, cond}
 use Prim.Native.Nat.{ℕ, ◌+◌, ◌-◌, ◌*◌, ◌≤◌, ◌<◌}
 use native.Mathlib.Omega.{arith}
 use lib.Dec.{ltb, leb}
-use borrow.Author.Tests.{lt-ltb, le-ltb, ltb-true}
+use borrow.Author.Tests.{lt-ltb, le-ltb, le-leb, lt-leb, ltb-true}
 use native.Mathlib.Decide.{dec_le}
 use native.Mathlib.Numerals.{add-one}
 use lib.ListN.{length, get_or, drop}
 use lib.Seq.{drop-cons}
 use Rattle.laws.proofs.Picks.{never}
 use Rattle.laws.specs.Tests.{every}
+use Rattle.std.specs.Char.{is_ascii_digit}
 use Rattle.text.specs.Tokens.{is_digit}
 use Rattle.contact.specs.Values.{value_from, is_count}
+
+-- the library's test of a digit, of which only the order is written otherwise
+pub ascii_digit : (b : ℕ) {r : Bool} → r ≡ is_ascii_digit b → is_digit b ≡ r
+ascii_digit b e =
+    sym (e ∙ elim (dec_le 48 b) [
+      | yes k ↦ elim (dec_le b 57) [
+        | yes l ↦ simp (le-leb 48 b k, le-leb b 57 l, le-ltb b 48 k, lt-ltb b 58 (omega arith))
+        | no l ↦ simp (le-leb 48 b k, lt-leb b 57 (omega arith), le-ltb b 48 k, le-ltb b 58 (omega arith))
+      ]
+      | no k ↦ simp (lt-leb 48 b (omega arith), lt-ltb b 48 (omega arith))
+    ])
 
 -- a digit as a number
 pub record Digit (b : ℕ) : Type 0 where

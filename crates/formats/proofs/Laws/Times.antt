@@ -1,7 +1,7 @@
 -- UTCDateTime byte by byte: the shape of its beginning, the fraction, and what its first nineteen bytes say. Assumes nothing.
 use mathlib.Core.Path.{◌≡◌, refl, ap, ◌∙◌}
 use mathlib.Core.List.{List, [], ◌∷◌, ◌++◌, append_assoc}
-use mathlib.Core.Bool.{true, false, cond, ◌&&◌}
+use mathlib.Core.Bool.{Bool, true, false, not, cond, ◌&&◌}
 use Prim.Native.Nat.{ℕ, ◌+◌, ◌≤◌, ◌<◌}
 use native.Mathlib.Omega.{arith}
 use native.Mathlib.Numerals.{add-one}
@@ -13,6 +13,15 @@ use Rattle.laws.proofs.Picks.{never}
 use Rattle.text.specs.Text.{bytes}
 use Rattle.text.specs.Tokens.{is_digit}
 use Rattle.contact.specs.Dates.{shaped, two_at, fraction_ends, ends, in_range, is_time}
+
+-- what a test for nothing says of what it tests
+pub on : (b : Bool) → false ≡ not b → b ≡ true
+on true e = refl
+on false e = let z : ◌≡◌ {A = Bool} false true = e in cc
+
+pub off : (b : Bool) → true ≡ not b → b ≡ false
+off true e = let z : ◌≡◌ {A = Bool} true false = e in cc
+off false e = refl
 
 -- ---- the shape
 

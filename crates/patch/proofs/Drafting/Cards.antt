@@ -3,6 +3,8 @@
 --     card-countable     what the entries of its PatchObject make of it is short enough to be counted
 --     for-none, for-nothing, for-other, for-object     what it has for a language: no localizations, nothing, no object, or a PatchObject
 -- Assumes nothing.
+use Rattle.std.specs.Prelude.{Option, Some, None, Result, Err}
+use Rattle.contact.specs.declared.LocalRefusal.{LocalRefusal}
 use Prim.Native.Nat.{ℕ}
 use mathlib.Core.Path.{◌≡◌, refl, sym, ap, ◌∙◌}
 use mathlib.Core.List.{List, []}
@@ -31,14 +33,10 @@ use Rattle.contact.proofs.Patching.Readback.{card_shorter}
 use Rattle.json_reader.specs.Rows.{kind_in}
 use Rattle.json_reader.specs.Lookup.{first_member, from_name}
 use Rattle.patch.specs.Children.{Held, ChildAt, ChildFound}
-use Rattle.json_reader.specs.declared.lookup.Found.{Found}
-use Rattle.json_reader.specs.declared.lookup.Found.TheVariants.{Row, Nothing}
 use Rattle.patch.specs.Entries.{most_entries}
 use Rattle.patch.specs.Marks.{ShortKeys}
 use Rattle.patch.specs.Patched.{BaseAt}
 use Rattle.patch.specs.Drafts.{refusal, value_draft, entries_draft, draft_of, CardIn, Countable, Drafted, Makes, MakesFor}
-use Rattle.patch.specs.declared.compose.Attempt.{Attempt}
-use Rattle.patch.specs.declared.compose.Attempt.TheVariants.{Refused}
 use Rattle.patch.proofs.Putting.Walks.{value_row}
 use Rattle.patch.proofs.Putting.Leaving.{leaves_found}
 use Rattle.patch.proofs.Drafting.Children.{value_kind, inside_few, no_patch_in, no_patch_within, patch_is, patch_place}
@@ -124,7 +122,7 @@ module _ {t table : List ℕ} {f : Forest} (lang : Name) {m k : ℕ} (a : ChildA
         let label = (first_member t b.place.found).label in
         record { label = label; stands = patch_is lang a b ∙ ap (λ (d : Doc). some (property label d)) is_object }
 
-    made_for : CardIn t table f → (old new : List ℕ) (r : Attempt) → Makes t table m t table k old new r → Drafted (draft_of places (doc_of t f) lang) old new r
+    made_for : CardIn t table f → (old new : List ℕ) (r : Result ℕ LocalRefusal) → Makes t table m t table k old new r → Drafted (draft_of places (doc_of t f) lang) old new r
     made_for c old new r made =
         let p = patch_for in
         rw object_for
@@ -133,31 +131,31 @@ module _ {t table : List ℕ} {f : Forest} (lang : Name) {m k : ℕ} (a : ChildA
         (λ key has. patch_place lang a b key) (card_short c) (card_countable c lang in_patch p))
 
 -- by the rows that were found: of the localizations, and in them of what the language has
-module _ {t table : List ℕ} (lang : Name) {all : Found}
+module _ {t table : List ℕ} (lang : Name) {all : (Option ℕ)}
     (first : (g : Forest) (limit : ℕ) → Held table limit 0 g → ChildFound t table limit 0 (bytes "localizations") g all) where
-  pub for_none : (old : List ℕ) → all ≡ Nothing → MakesFor t table lang old old (Refused NoLanguage)
+  pub for_none : (old : List ℕ) → all ≡ None → MakesFor t table lang old old (Err NoLanguage)
   for_none old e f c =
       rw (none_draft (key_place t f lang) (doc_of t f) lang (no_patch_in lang (doc_of t f) (rw e at (first f most_entries (card_held c))))) (refl, refl)
 
-  module _ {m : ℕ} (e : all ≡ Row m) where
+  module _ {m : ℕ} (e : all ≡ Some m) where
     in_all : {f : Forest} → CardIn t table f → ChildAt t table most_entries 0 (bytes "localizations") f m
     in_all {f} c = rw e at (first f most_entries (card_held c))
 
-    module _ (found : Found) (second : (g : Forest) (limit : ℕ) → Held table limit m g → ChildFound t table limit m lang g found) where
+    module _ (found : Option ℕ) (second : (g : Forest) (limit : ℕ) → Held table limit m g → ChildFound t table limit m lang g found) where
       -- what is said of their value
       in_it : {f : Forest} (c : CardIn t table f) → ChildFound t table most_entries m lang (in_all c).place.found found
       in_it c = second (in_all c).place.found most_entries (in_all c).held
 
-      pub for_nothing : (old : List ℕ) → found ≡ Nothing → MakesFor t table lang old old (Refused NoLanguage)
+      pub for_nothing : (old : List ℕ) → found ≡ None → MakesFor t table lang old old (Err NoLanguage)
       for_nothing old q f c =
           rw (none_draft (key_place t f lang) (doc_of t f) lang (no_patch_within lang (in_all c) (rw q at (in_it c)))) (refl, refl)
 
-      module _ {k : ℕ} (q : found ≡ Row k) where
+      module _ {k : ℕ} (q : found ≡ Some k) where
         at_it : {f : Forest} (c : CardIn t table f) → ChildAt t table most_entries m lang (in_all c).place.found k
         at_it c = rw q at (in_it c)
 
-        pub for_other : (old : List ℕ) → (kind_in table k ≡ 7 → ⊥) → MakesFor t table lang old old (Refused NoLanguage)
+        pub for_other : (old : List ℕ) → (kind_in table k ≡ 7 → ⊥) → MakesFor t table lang old old (Err NoLanguage)
         for_other old h f c = rw (no_object_for lang (in_all c) (at_it c) h) (refl, refl)
 
-        pub for_object : (old new : List ℕ) (r : Attempt) → kind_in table k ≡ 7 → Makes t table m t table k old new r → MakesFor t table lang old new r
+        pub for_object : (old new : List ℕ) (r : Result ℕ LocalRefusal) → kind_in table k ≡ 7 → Makes t table m t table k old new r → MakesFor t table lang old new r
         for_object old new r h made f c = made_for lang (in_all c) (at_it c) h c old new r made

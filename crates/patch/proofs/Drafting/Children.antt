@@ -5,6 +5,7 @@
 --     no-patch-in, no-patch-within, patch-is     the PatchObject is a member of a member of the card
 --     patch-place                  where its keys stand
 -- Assumes nothing.
+use Rattle.std.specs.Prelude.{Option, Some, None}
 use Prim.Native.Nat.{ℕ, ◌+◌, ◌≤◌}
 use mathlib.Core.Path.{◌≡◌, refl, sym, ap, ◌∙◌}
 use mathlib.Core.List.{List}
@@ -28,8 +29,6 @@ use Rattle.json_reader.specs.Lookup.{KnownAt, first_member, from_name, Finds}
 use Rattle.patch.specs.Entries.{most_entries, width}
 use Rattle.patch.specs.Drafts.{EntriesUpTo}
 use Rattle.patch.specs.Children.{Held, ChildAt, ChildFound}
-use Rattle.json_reader.specs.declared.lookup.Found.{Found}
-use Rattle.json_reader.specs.declared.lookup.Found.TheVariants.{Row, Nothing}
 use Rattle.json_reader.proofs.Seeking.{inside_kinds, members_stand}
 use Rattle.patch.proofs.Putting.Walks.{value_row}
 
@@ -54,9 +53,9 @@ inside_size (T.leaf kind ns ne from to rest) s = omega arith
 inside_size (T.node b ns ne from to inside rest) s = omega arith
 
 module _ {table : List ℕ} {limit row : ℕ} {g : Forest} (h : Held table limit row g) (t : List ℕ) (n : Name) where
-  pub child_is : kind_in table row ≡ 7 → (r : Found) → Finds t table (row + 1 + below_in table row) n (inside_at g) r → ChildFound t table limit row n g r
-  child_is e Nothing f = rw (doc_object t g h.value.some h.value.kinds (sym (value_row h.value).kind ∙ e)) f
-  child_is e (Row m) f =
+  pub child_is : kind_in table row ≡ 7 → (r : Option ℕ) → Finds t table (row + 1 + below_in table row) n (inside_at g) r → ChildFound t table limit row n g r
+  child_is e None f = rw (doc_object t g h.value.some h.value.kinds (sym (value_row h.value).kind ∙ e)) f
+  child_is e (Some m) f =
       let v = h.value in
       record {
         whole = doc_object t g v.some v.kinds (sym (value_row v).kind ∙ e);

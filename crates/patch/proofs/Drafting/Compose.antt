@@ -3,6 +3,7 @@
 --     sorting                       the members of the PatchObject are listed in the order of their pointers, and their places are known
 --     made-broken, made-sorted      a key is at fault; or it comes to what sorted entries make of the card
 -- Assumes nothing.
+use Rattle.std.specs.Prelude.{Result, Ok, Err}
 use Prim.Native.Nat.{ℕ, ◌+◌, ◌<◌}
 use mathlib.Core.Path.{◌≡◌, refl, sym, ap, ap₂, subst, ◌∙◌}
 use mathlib.Core.Bool.{true}
@@ -37,10 +38,6 @@ use Rattle.output.specs.Written.{full, Wrote}
 use Rattle.patch.specs.Conditions.{key_fault, walk_fault, ListedPlaces, condition_of, FirstKey}
 use Rattle.patch.specs.Patched.{Said, BaseAt}
 use Rattle.patch.specs.Drafts.{Draft, unless_broken, unless_astray, entries_draft, Countable, fitting_of, Drafted, PutSorted, EntriesUpTo, PlacesOf, Makes}
-use Rattle.patch.specs.declared.conditions.Condition.{Condition}
-use Rattle.patch.specs.declared.conditions.Condition.TheVariants.{Kept, Broken}
-use Rattle.patch.specs.declared.compose.Attempt.{Attempt}
-use Rattle.patch.specs.declared.compose.Attempt.TheVariants.{Refused}
 use Rattle.patch.proofs.Listing.Kept.{placed_kept, keys_kept, walks_kept}
 use Rattle.patch.proofs.Listing.Sorting.{arranged_all}
 use Rattle.patch.proofs.Listing.Orders.{Resorted, resorted}
@@ -60,23 +57,23 @@ apart asc_none = tt
 apart (asc_more l a) = (leads_apart l, apart a)
 
 -- the card was put as the sorted entries leave it, and what their walks come to is told
-abbrev pub PutTold : (card ctable : List ℕ) → (leave : ℕ) → (text table rows : List ℕ) → (n shared : ℕ) → (old new : List ℕ) → (count : ℕ) → Condition → Type 0
+abbrev pub PutTold : (card ctable : List ℕ) → (leave : ℕ) → (text table rows : List ℕ) → (n shared : ℕ) → (old new : List ℕ) → (count : ℕ) → Result Unit LocalRefusal → Type 0
 PutTold card ctable leave text table rows n shared old new count condition =
     (place : Name → ℕ) (g : Forest) (ms : Members) → BaseAt card ctable leave 0 true g → Said text table rows 0 n 0 ms
     → BeginAlike text table rows n shared → ListedPlaces text table rows n place
     → Wrote old 0 (written (patched_doc (doc_of card g) ms)) new count × (condition ≡ condition_of place (walk_fault (start (doc_of card g)) ms))
 
-module _ {card ctable text table rows old new : List ℕ} {leave n shared count : ℕ} {condition : Condition}
+module _ {card ctable text table rows old new : List ℕ} {leave n shared count : ℕ} {condition : (Result Unit LocalRefusal)}
     (put : PutTold card ctable leave text table rows n shared old new count condition) where
-  pub put_astray : {q : LocalRefusal} → condition ≡ Broken q → PutSorted card ctable leave text table rows n shared old new (Refused q)
+  pub put_astray : {q : LocalRefusal} → condition ≡ Err q → PutSorted card ctable leave text table rows n shared old new (Err q)
   put_astray {q} e place g ms b s alike p few =
       let (w, told) = put place g ms b s alike p in
-      subst (λ (c : Condition). Drafted (unless_astray c (written (patched_doc (doc_of card g) ms))) old new (Refused q)) (sym e ∙ told) (refl, w.out)
+      subst (λ (c : Result Unit LocalRefusal). Drafted (unless_astray c (written (patched_doc (doc_of card g) ms))) old new (Err q)) (sym e ∙ told) (refl, w.out)
 
   -- 27, or the card was written
-  pub put_fitting : condition ≡ Kept → {a : Attempt} → a ≡ fitting_of count (length new) → PutSorted card ctable leave text table rows n shared old new a
+  pub put_fitting : condition ≡ (Ok tt) → {a : (Result ℕ LocalRefusal)} → a ≡ fitting_of count (length new) → PutSorted card ctable leave text table rows n shared old new a
   put_fitting e {a} fits place g ms b s alike p few =
-      subst (λ (c : Condition). Drafted (unless_astray c text') old new a) (sym is) (fits ∙ ap₂ fitting_of counted long, w.out)
+      subst (λ (c : Result Unit LocalRefusal). Drafted (unless_astray c text') old new a) (sym is) (fits ∙ ap₂ fitting_of counted long, w.out)
     where
       text' : List ℕ
       text' = written (patched_doc (doc_of card g) ms)
@@ -87,7 +84,7 @@ module _ {card ctable text table rows old new : List ℕ} {leave n shared count 
       d : Doc
       d = start (doc_of card g)
 
-      is : condition_of place (walk_fault d ms) ≡ Kept
+      is : condition_of place (walk_fault d ms) ≡ (Ok tt)
       is = sym (put place g ms b s alike p).1 ∙ e
 
       no_clash_lem : NoClash (entries_of ms)
@@ -145,20 +142,20 @@ sorting {text} {table} {old} e c room common tails place p h d places =
     }
 
 -- what is found of the keys
-found : {text table rows : List ℕ} {n : ℕ} {ms : Members} {place : Name → ℕ} {condition : Condition} → FirstKey text table rows n condition
+found : {text table rows : List ℕ} {n : ℕ} {ms : Members} {place : Name → ℕ} {condition : (Result Unit LocalRefusal)} → FirstKey text table rows n condition
     → Sorts text table rows n ms place → condition_of place (key_fault ms) ≡ condition
 found {place = place} first s =
     let o = s.order in ap (condition_of place) (same_keys o.shuffled) ∙ sym (first place o.members o.listed o.sorted s.places)
 
-module _ (card : List ℕ) {ctable text table rows : List ℕ} {leave n patch : ℕ} (sorts : SortsAt text table rows n patch) {condition : Condition}
+module _ (card : List ℕ) {ctable text table rows : List ℕ} {leave n patch : ℕ} (sorts : SortsAt text table rows n patch) {condition : (Result Unit LocalRefusal)}
     (first : FirstKey text table rows n condition) where
-  pub made_broken : {q : LocalRefusal} (old : List ℕ) → condition ≡ Broken q → Makes card ctable leave text table patch old old (Refused q)
+  pub made_broken : {q : LocalRefusal} (old : List ℕ) → condition ≡ Err q → Makes card ctable leave text table patch old old (Err q)
   made_broken {q} old e place g p b h d places short few =
       let ms = members_of text (inside_at p) in
       let later = unless_astray (condition_of place (walk_fault (start (doc_of card g)) ms)) (written (patched_doc (doc_of card g) ms)) in
-      subst (λ (c : Condition). Drafted (unless_broken c later) old old (Refused q)) (sym (found first (sorts place p h d places) ∙ e)) (refl, refl)
+      subst (λ (c : Result Unit LocalRefusal). Drafted (unless_broken c later) old old (Err q)) (sym (found first (sorts place p h d places) ∙ e)) (refl, refl)
 
-  pub made_sorted : condition ≡ Kept → {shared : ℕ} → BeginAlike text table rows n shared → {old new : List ℕ} {a : Attempt}
+  pub made_sorted : condition ≡ (Ok tt) → {shared : ℕ} → BeginAlike text table rows n shared → {old new : List ℕ} {a : (Result ℕ LocalRefusal)}
       → PutSorted card ctable leave text table rows n shared old new a
       → Makes card ctable leave text table patch old new a
   made_sorted e alike {old} {new} {a} put place g p b h d places short few =
@@ -179,7 +176,7 @@ module _ (card : List ℕ) {ctable text table rows : List ℕ} {leave n patch : 
       σ : Shuffled ms ns
       σ = s.order.shuffled
 
-      kept : condition_of place (key_fault ms) ≡ Kept
+      kept : condition_of place (key_fault ms) ≡ (Ok tt)
       kept = found first s ∙ e
 
       no_clash_lem : NoClash (entries_of ms)
@@ -190,5 +187,5 @@ module _ (card : List ℕ) {ctable text table rows : List ℕ} {leave n patch : 
 
       is : entries_draft place card' ms ≡ unless_astray (condition_of place (walk_fault (start card') ns)) (written (patched_doc card' ns))
       is =
-          ap (λ (c : Condition). unless_broken c (unless_astray (condition_of place (walk_fault (start card') ms)) (written (patched_doc card' ms)))) kept
+          ap (λ (c : Result Unit LocalRefusal). unless_broken c (unless_astray (condition_of place (walk_fault (start card') ms)) (written (patched_doc card' ms)))) kept
           ∙ ap₂ (λ f (x : Doc). unless_astray (condition_of place f) (written x)) (same_walks σ (start card')) (same_card σ card' no_clash_lem)

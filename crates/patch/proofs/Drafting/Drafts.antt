@@ -2,6 +2,8 @@
 --     localized-draft     27 and 28 are asked of the draft
 --     one-outcome         two outcomes that writing the card of a language allows are equal
 -- Assumes nothing.
+use Rattle.std.specs.Prelude.{Result}
+use Rattle.contact.specs.declared.LocalRefusal.{LocalRefusal}
 use Prim.Native.Nat.{ℕ}
 use mathlib.Core.Path.{◌≡◌, refl, sym, ap, ◌∙◌}
 use mathlib.Core.List.{List}
@@ -17,7 +19,6 @@ use Rattle.contact.specs.Places.{key_place}
 use Rattle.contact.specs.Localize.{start, patch_at, patched_doc, by_fault, by_entries, in_patch, with_patch, localized_doc}
 use Rattle.patch.specs.Conditions.{condition_of, key_fault, walk_fault}
 use Rattle.patch.specs.Drafts.{Draft, draft, refusal, unless_broken, unless_astray, entries_draft, value_draft, found_draft, draft_of, draft_outcome, CardIn, Drafted, MakesFor}
-use Rattle.patch.specs.declared.compose.Attempt.{Attempt}
 use Rattle.patch.proofs.Listing.Conditions.{or_then_fault, fault_parts}
 
 module _ (L : Limits) (words room : ℕ) (place : Name → ℕ) (card : Doc) where
@@ -51,11 +52,11 @@ module _ (L : Limits) (words room : ℕ) (place : Name → ℕ) (card : Doc) whe
   unfolding localized_doc draft_of
   localized_draft lang = by_found (find (patch_at lang) card)
 
-one_drafted : (d : Draft) (old new other : List ℕ) (r s : Attempt) → Drafted d old new r → Drafted d old other s → (r ≡ s) × (new ≡ other)
+one_drafted : (d : Draft) (old new other : List ℕ) (r s : Result ℕ LocalRefusal) → Drafted d old new r → Drafted d old other s → (r ≡ s) × (new ≡ other)
 one_drafted (draft t) old new other r s (a, b) (x, y) = (a ∙ sym x, b ∙ sym y)
 one_drafted (refusal q tried) old new other r s (a, b) (x, y) = (a ∙ sym x, b ∙ sym y)
 
-pub one_outcome : (text table : List ℕ) (lang : Name) (old new other : List ℕ) (r s : Attempt) (f : Forest) → CardIn text table f
+pub one_outcome : (text table : List ℕ) (lang : Name) (old new other : List ℕ) (r s : Result ℕ LocalRefusal) (f : Forest) → CardIn text table f
     → MakesFor text table lang old new r → MakesFor text table lang old other s → (r ≡ s) × (new ≡ other)
 one_outcome text table lang old new other r s f c a b =
     one_drafted (draft_of (key_place text f lang) (doc_of text f) lang) old new other r s (a f c) (b f c)

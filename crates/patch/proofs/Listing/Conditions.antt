@@ -3,11 +3,13 @@
 --     keys-said, walks-said                          what is found of 22, 23 and 24, and of 25 and 26, is what the definition finds
 --     fault-parts                                    together they are all of them
 -- Assumes nothing.
+use Rattle.std.specs.Prelude.{Some, None, Result, Ok, Err, Option}
+use Rattle.contact.specs.declared.LocalRefusal.{LocalRefusal}
 use Prim.Native.Nat.{ℕ, zero, suc, ◌+◌, ◌-◌, ◌≤◌, ◌<◌}
 use mathlib.Core.Path.{◌≡◌, refl, sym, ap, ap₂, ◌∙◌}
 use mathlib.Core.Bool.{Bool, true, false, cond}
 use mathlib.Core.List.{List}
-use mathlib.Core.Option.{Option, none, some}
+use mathlib.Core.Option.{Option as Maybe, none, some}
 use native.Mathlib.Omega.{arith}
 use lib.Dec.{eqb}
 use lib.ListN.{get_or}
@@ -29,10 +31,6 @@ use Rattle.patch.specs.Neighbours.{keys_of, key_order, least_leading}
 use Rattle.patch.specs.Conditions.{walk_code, Walked, listed_key, clashes_next, at_fault, smaller_row, least_row, number_of, condition_by, one_condition, key_fault, walk_fault, ListedPlaces, condition_of}
 use Rattle.patch.specs.declared.conditions.Fault.{Fault}
 use Rattle.patch.specs.declared.conditions.Fault.TheVariants.{Tilde, Own, Clash, InArray, NoObject}
-use Rattle.patch.specs.declared.conditions.Named.{Named}
-use Rattle.patch.specs.declared.conditions.Named.TheVariants.{Nothing, Row}
-use Rattle.patch.specs.declared.conditions.Condition.{Condition}
-use Rattle.patch.specs.declared.conditions.Condition.TheVariants.{Kept, Broken}
 use Rattle.patch.proofs.Listing.Orders.{key_is}
 use Rattle.patch.proofs.Listing.Neighbours.{neighbours}
 use Rattle.patch.proofs.Listing.Kept.{none_bad_lem}
@@ -40,10 +38,10 @@ use Rattle.patch.proofs.Listing.Kept.{none_bad_lem}
 -- ---- from the last entry to the first
 
 module _ (fault : Fault) (t table rows : List ℕ) (n : ℕ) (walks : List ℕ) where
-  abbrev from : (i k : ℕ) → Named
+  abbrev from : (i k : ℕ) → Option ℕ
   from i k = least_row fault t table rows n walks i k
 
-  pub least_none : (i k : ℕ) → k ≡ 0 → Nothing ≡ from i k
+  pub least_none : (i k : ℕ) → k ≡ 0 → None ≡ from i k
   unfolding least_row
   least_none i k e = rw e
 
@@ -57,11 +55,11 @@ module _ (fault : Fault) (t table rows : List ℕ) (n : ℕ) (walks : List ℕ) 
       let f : i - 1 + 1 ≡ i = omega arith in
       rw (e, f)
 
-  pub least_more : (i : ℕ) {later : Named} → 0 < i → i ≤ n → later ≡ from i (n - i) → at_fault fault t table rows n walks (i - 1) ≡ true
+  pub least_more : (i : ℕ) {later : (Option ℕ)} → 0 < i → i ≤ n → later ≡ from i (n - i) → at_fault fault t table rows n walks (i - 1) ≡ true
       → smaller_row t table (get_or rows (i - 1) 0) later ≡ from (i - 1) (n - (i - 1))
   least_more i p h e f = rw (least_step i p h, f, e)
 
-  pub least_on : (i : ℕ) {later : Named} → 0 < i → i ≤ n → later ≡ from i (n - i) → at_fault fault t table rows n walks (i - 1) ≡ false
+  pub least_on : (i : ℕ) {later : (Option ℕ)} → 0 < i → i ≤ n → later ≡ from i (n - i) → at_fault fault t table rows n walks (i - 1) ≡ false
       → later ≡ from (i - 1) (n - (i - 1))
   least_on i p h e f = rw (least_step i p h, f) e
 
@@ -72,13 +70,13 @@ module _ (fault : Fault) (t table rows : List ℕ) (n : ℕ) (walks : List ℕ) 
 
 module _ (t table rows : List ℕ) (n : ℕ) where
   -- what is named is one of the first n
-  abbrev InList : Named → Type 0
-  InList Nothing = Prim.Unit {0}
-  InList (Row row) = (i : ℕ) × (i < n) × (get_or rows i 0 ≡ row)
+  abbrev InList : Option ℕ → Type 0
+  InList None = Prim.Unit {0}
+  InList (Some row) = (i : ℕ) × (i < n) × (get_or rows i 0 ≡ row)
 
-  in_smaller : (row : ℕ) (later : Named) → InList (Row row) → InList later → InList (smaller_row t table row later)
-  in_smaller row Nothing h l = h
-  in_smaller row (Row other) h l = by_test (before (key_at t table other) (key_at t table row)) (λ b. rw b l) (λ b. rw b h)
+  in_smaller : (row : ℕ) (later : Option ℕ) → InList (Some row) → InList later → InList (smaller_row t table row later)
+  in_smaller row None h l = h
+  in_smaller row (Some other) h l = by_test (before (key_at t table other) (key_at t table row)) (λ b. rw b l) (λ b. rw b h)
 
   in_list : (fault : Fault) (walks : List ℕ) (i k : ℕ) → i + k ≤ n → InList (least_row fault t table rows n walks i k)
   unfolding least_row
@@ -92,16 +90,16 @@ module _ (t table rows : List ℕ) (n : ℕ) where
 -- ---- its key
 
 -- the key of a row that is named
-abbrev key_of : (t table : List ℕ) → Named → Option Name
-key_of t table Nothing = none
-key_of t table (Row row) = some (key_at t table row)
+abbrev key_of : (t table : List ℕ) → Option ℕ → Maybe Name
+key_of t table None = none
+key_of t table (Some row) = some (key_at t table row)
 
 module _ (t table : List ℕ) where
-  smaller_key_lem : (row : ℕ) (later : Named) → key_of t table (smaller_row t table row later) ≡ smaller_key (some (key_at t table row)) (key_of t table later)
-  smaller_key_lem row Nothing = refl
-  smaller_key_lem row (Row other) = by_test (before (key_at t table other) (key_at t table row)) (λ b. rw b) (λ b. rw b)
+  smaller_key_lem : (row : ℕ) (later : Option ℕ) → key_of t table (smaller_row t table row later) ≡ smaller_key (some (key_at t table row)) (key_of t table later)
+  smaller_key_lem row None = refl
+  smaller_key_lem row (Some other) = by_test (before (key_at t table other) (key_at t table row)) (λ b. rw b) (λ b. rw b)
 
-  key_step : (b : Bool) (row : ℕ) (later : Named)
+  key_step : (b : Bool) (row : ℕ) (later : Option ℕ)
       → key_of t table (cond b (smaller_row t table row later) later) ≡ smaller_key (key_if b (key_at t table row)) (key_of t table later)
   key_step true row later = smaller_key_lem row later
   key_step false row later = refl
@@ -140,19 +138,19 @@ module _ {t table rows : List ℕ} {n : ℕ} where
 -- ---- one condition and then the others
 
 -- what is said first, or else what is said then
-abbrev pub or_else : Condition → Condition → Condition
-or_else Kept later = later
-or_else (Broken r) later = Broken r
+abbrev pub or_else : Result Unit LocalRefusal → Result Unit LocalRefusal → Result Unit LocalRefusal
+or_else (Ok tt) later = later
+or_else (Err r) later = Err r
 
-or_kept : (c : Condition) → or_else c Kept ≡ c
-or_kept Kept = refl
-or_kept (Broken r) = refl
+or_kept : (c : Result Unit LocalRefusal) → or_else c (Ok tt) ≡ c
+or_kept (Ok tt) = refl
+or_kept (Err r) = refl
 
 -- after 22 the neighbours are enough for 24
-by_neighbours : (ms : Members) → Sorted key_order (keys_of ms) → (bad own : Option Name) → least_key bad_tilde ms ≡ bad
+by_neighbours : (ms : Members) → Sorted key_order (keys_of ms) → (bad own : Maybe Name) → least_key bad_tilde ms ≡ bad
     → or_else_fault 22 bad (or_else_fault 23 own (or_else_fault 24 (least_leading ms) all_kept))
     ≡ or_else_fault 22 bad (or_else_fault 23 own (or_else_fault 24 (least_clash ms) all_kept))
-by_neighbours ms s none own e = ap (λ (o : Option Name). or_else_fault 23 own (or_else_fault 24 o all_kept)) (neighbours ms s (none_bad_lem ms e))
+by_neighbours ms s none own e = ap (λ (o : Maybe Name). or_else_fault 23 own (or_else_fault 24 o all_kept)) (neighbours ms s (none_bad_lem ms e))
 by_neighbours ms s (some k) own e = refl
 
 in_array_code : (w : Walk) → eqb (walk_code w) 1 ≡ is_in_array w
@@ -166,10 +164,10 @@ no_object_code in_array = refl
 no_object_code no_object = refl
 
 module _ (t table rows : List ℕ) (n : ℕ) (walks : List ℕ) where
-  abbrev one : Fault → Condition
+  abbrev one : Fault → Result Unit LocalRefusal
   one fault = one_condition fault t table rows n walks
 
-  abbrev found : Fault → Named
+  abbrev found : Fault → Option ℕ
   found fault = least_row fault t table rows n walks 0 n
 
   -- what the walk left of an entry says where it ended
@@ -180,21 +178,21 @@ module _ (t table rows : List ℕ) (n : ℕ) (walks : List ℕ) where
 
   module _ (place : Name → ℕ) (p : ListedPlaces t table rows n place) where
     -- a row of the list stands for its key
-    said_by : (fault : Fault) (named : Named) → InList t table rows n named → (rest : PatchFault)
+    said_by : (fault : Fault) (named : Option ℕ) → InList t table rows n named → (rest : PatchFault)
         → or_else (condition_by table fault named) (condition_of place rest) ≡ condition_of place (or_else_fault (number_of fault) (key_of t table named) rest)
-    said_by fault Nothing h rest = refl
-    said_by fault (Row row) (i, lt, e) rest = ap (λ (at : ℕ). Broken (key_refusal (number_of fault) at)) (sym (rw e at (p i lt)))
+    said_by fault None h rest = refl
+    said_by fault (Some row) (i, lt, e) rest = ap (λ (at : ℕ). Err (key_refusal (number_of fault) at)) (sym (rw e at (p i lt)))
 
-    said : (fault : Fault) (key : Option Name) → key_of t table (found fault) ≡ key → (later : Condition) (rest : PatchFault) → later ≡ condition_of place rest
+    said : (fault : Fault) (key : Maybe Name) → key_of t table (found fault) ≡ key → (later : Result Unit LocalRefusal) (rest : PatchFault) → later ≡ condition_of place rest
         → or_else (one fault) later ≡ condition_of place (or_else_fault (number_of fault) key rest)
     said fault key e later rest f =
         ap (or_else (one fault)) f
         ∙ said_by fault (found fault) (in_list t table rows n fault walks 0 n (omega arith)) rest
-        ∙ ap (λ (o : Option Name). condition_of place (or_else_fault (number_of fault) o rest)) e
+        ∙ ap (λ (o : Maybe Name). condition_of place (or_else_fault (number_of fault) o rest)) e
 
     -- the last one, with none behind it
-    said_last : (fault : Fault) (key : Option Name) → key_of t table (found fault) ≡ key → one fault ≡ condition_of place (or_else_fault (number_of fault) key all_kept)
-    said_last fault key e = sym (or_kept (one fault)) ∙ said fault key e Kept all_kept refl
+    said_last : (fault : Fault) (key : Maybe Name) → key_of t table (found fault) ≡ key → one fault ≡ condition_of place (or_else_fault (number_of fault) key all_kept)
+    said_last fault key e = sym (or_kept (one fault)) ∙ said fault key e (Ok tt) all_kept refl
 
     pub keys_said : (ms : Members) → Listed t table rows 0 n ms → Sorted key_order (keys_of ms)
         → or_else (one Tilde) (or_else (one Own) (one Clash)) ≡ condition_of place (key_fault ms)
@@ -220,7 +218,7 @@ abbrev pub or_then_fault : PatchFault → PatchFault → PatchFault
 or_then_fault all_kept rest = rest
 or_then_fault (broken_by number key) rest = broken_by number key
 
-or_parts : (a b c : Option Name) (rest : PatchFault)
+or_parts : (a b c : Maybe Name) (rest : PatchFault)
     → or_else_fault 22 a (or_else_fault 23 b (or_else_fault 24 c rest)) ≡ or_then_fault (or_else_fault 22 a (or_else_fault 23 b (or_else_fault 24 c all_kept))) rest
 or_parts none none none rest = refl
 or_parts none none (some k) rest = refl

@@ -3,6 +3,7 @@
 --     keys_kept        22, 23 and 24: no key has a loose `~`, none begins with `localizations`, no two clash
 --     walks-kept       25 and 26: each pointer finds its parent
 -- Assumes nothing.
+use Rattle.std.specs.Prelude.{Ok}
 use Prim.Native.Nat.{ℕ}
 use mathlib.Core.Path.{◌≡◌, refl, sym, ◌∙◌}
 use mathlib.Core.Bool.{Bool, true, false}
@@ -17,9 +18,8 @@ use Rattle.contact.specs.Entries.{NoClash, ParentsThere}
 use Rattle.contact.proofs.Patching.Least.{any_key, key_some, clash_some, bad_keys, own_keys, walk_keys}
 use Rattle.contact.proofs.Patching.Apart.{from_any_clash, from_any_walk}
 use Rattle.patch.specs.Conditions.{key_fault, walk_fault, condition_of}
-use Rattle.patch.specs.declared.conditions.Condition.TheVariants.{Kept}
 
-pub placed_kept : (place : Name → ℕ) (f : PatchFault) → condition_of place f ≡ Kept → f ≡ all_kept
+pub placed_kept : (place : Name → ℕ) (f : PatchFault) → condition_of place f ≡ (Ok tt) → f ≡ all_kept
 placed_kept place all_kept e = refl
 placed_kept place (broken_by number key) e = let z : ◌≡◌ {A = ℕ} 0 1 = cc in absurd (omega arith)
 

@@ -4,6 +4,7 @@
 --     around-part, around-join, around-next     what is outside a run
 --     cleared-word, cleared-long, cleared-same, waiting-start     where all begin
 -- Assumes nothing.
+use Rattle.std.specs.Prelude.{Some, None}
 use Prim.Native.Nat.{ℕ, zero, suc, ◌+◌, ◌≤◌, ◌<◌}
 use mathlib.Core.Path.{◌≡◌, refl, sym, ap, ◌∙◌}
 use mathlib.Core.List.{List, [], ◌∷◌, ◌++◌}
@@ -21,7 +22,6 @@ use Rattle.contact.specs.Pointer.{Pointer, down, pointer_of}
 use Rattle.json_reader.specs.Rows.{name_start_in, name_end_in}
 use Rattle.json_reader.specs.Cursors.{rest, cursor}
 use Rattle.pointers.specs.Parts.{GoesAt}
-use Rattle.pointers.specs.declared.keys.After.TheVariants.{Nothing, At}
 use Rattle.patch.specs.Children.{key_bytes}
 use Rattle.patch.specs.Marks.{PlaceWord, Around, FilledWith, left_of, Waiting, ShortKeys, NextCue, NextAt, Advanced}
 
@@ -58,13 +58,13 @@ pub down_tail : {n m : Name} {p q : Pointer} → down n p ≡ down m q → p ≡
 down_tail e = cc
 
 -- where a pointer goes on is where its part ends
-pub next_goes : (key : List ℕ) (at : ℕ) {to w : ℕ} → GoesAt key (pointer_of (rest key (cursor at 0 0))) (At to) → PlaceWord to w → NextCue key at w
+pub next_goes : (key : List ℕ) (at : ℕ) {to w : ℕ} → GoesAt key (pointer_of (rest key (cursor at 0 0))) (Some to) → PlaceWord to w → NextCue key at w
 next_goes key at {to} {w} (goes, near) word short n q e =
     let place : w ≡ to = word.is (omega arith) in
     let after : q ≡ pointer_of (rest key (cursor to 0 0)) = down_tail (sym e ∙ goes) in
     (word.low, rw place (sym after))
 
-pub next_ends : (key : List ℕ) (at : ℕ) {w : ℕ} → GoesAt key (pointer_of (rest key (cursor at 0 0))) Nothing → NextCue key at w
+pub next_ends : (key : List ℕ) (at : ℕ) {w : ℕ} → GoesAt key (pointer_of (rest key (cursor at 0 0))) None → NextCue key at w
 next_ends key at ends short n q e = let both = sym e ∙ ends in let z : ◌≡◌ {A = ℕ} 0 1 = cc in absurd (omega arith)
 
 module _ {pt ptable rows : List ℕ} {lo : ℕ} where

@@ -3,6 +3,8 @@
 --     run_ends               its first pointer ends there: it says what becomes of the member
 --     Deep and its laws      its first pointer goes on: all do, nothing is said of the member itself, and the run is for its value, one part further
 -- Assumes nothing.
+use Rattle.std.specs.declared.cmp.Ordering.{Ordering}
+use Rattle.std.specs.declared.cmp.Ordering.TheVariants.{Less, Equal, Greater}
 use Prim.Native.Nat.{ℕ, ◌+◌, ◌≤◌, ◌<◌}
 use mathlib.Core.Path.{◌≡◌, refl, ap, ◌∙◌}
 use mathlib.Core.Logic.{◌≢◌}
@@ -11,8 +13,6 @@ use mathlib.Core.List.{List, [], ◌∷◌, ◌++◌, append-nil}
 use mathlib.Core.Option.{Option, none, some}
 use native.Mathlib.Omega.{arith}
 use Rattle.laws.specs.Order.{order_of, is_same, same}
-use Rattle.laws.specs.declared.Order.{Order}
-use Rattle.laws.specs.declared.Order.TheVariants.{Less, Same, More}
 use Rattle.laws.proofs.Orders.{order_refl, same_eq, same_refl}
 use Rattle.text.specs.Doc.{Name, Doc, Members, empty, member}
 use Rattle.contact.specs.Pointer.{Pointer, last, down, pointer_of, first_part}
@@ -75,12 +75,12 @@ under_append n (entry (down m p) c ∷ xs) ys = go (same m n) (under_append n xs
 -- ---- entries that do not concern the member ----
 
 -- the test of a side that the name itself is not on
-not_same : (past is : Bool) (o : Order) → stands_before past o ≡ is → (stands_before past Same ≡ is → ⊥) → is_same o ≡ false
+not_same : (past is : Bool) (o : Ordering) → stands_before past o ≡ is → (stands_before past Equal ≡ is → ⊥) → is_same o ≡ false
 not_same past is Less e ne = refl
-not_same past is Same e ne = absurd (ne e)
-not_same past is More e ne = refl
+not_same past is Equal e ne = absurd (ne e)
+not_same past is Greater e ne = refl
 
-module _ (past : Bool) (n : Name) (is : Bool) (off : stands_before past Same ≡ is → ⊥) where
+module _ (past : Bool) (n : Name) (is : Bool) (off : stands_before past Equal ≡ is → ⊥) where
   pub aside_mine : {es : List Entry} → Side past n is es → mine n es ≡ none
   aside_mine side_none = refl
   aside_mine (side_more {p = last m} e h) = rw (not_same past is (order_of m n) e off) (aside_mine h)
@@ -98,16 +98,16 @@ pub data Named (n : Name) : List Entry → Type 0 where
   named_none : Named n []
   named_more : {p : Pointer} {c : Change} {es : List Entry} → first_part p ≡ n → Named n es → Named n (entry p c ∷ es)
 
-exactly : (o : Order) → stands_before false o ≡ false → stands_before true o ≡ true → is_same o ≡ true
+exactly : (o : Ordering) → stands_before false o ≡ false → stands_before true o ≡ true → is_same o ≡ true
 exactly Less e f = let z : ◌≡◌ {A = ℕ} 0 1 = cc in absurd (omega arith)
-exactly Same e f = refl
-exactly More e f = let z : ◌≡◌ {A = ℕ} 0 1 = cc in absurd (omega arith)
+exactly Equal e f = refl
+exactly Greater e f = let z : ◌≡◌ {A = ℕ} 0 1 = cc in absurd (omega arith)
 
 differs_before : (f n : Name) → stands_before false (order_of f n) ≡ true → f ≢ n
-differs_before f n e q = let o : stands_before false Same ≡ true = rw (q, order_refl n) at e in let z : ◌≡◌ {A = ℕ} 0 1 = cc in omega arith
+differs_before f n e q = let o : stands_before false Equal ≡ true = rw (q, order_refl n) at e in let z : ◌≡◌ {A = ℕ} 0 1 = cc in omega arith
 
 differs_after : (f n : Name) → stands_before true (order_of f n) ≡ false → f ≢ n
-differs_after f n e q = let o : stands_before true Same ≡ false = rw (q, order_refl n) at e in let z : ◌≡◌ {A = ℕ} 0 1 = cc in omega arith
+differs_after f n e q = let o : stands_before true Equal ≡ false = rw (q, order_refl n) at e in let z : ◌≡◌ {A = ℕ} 0 1 = cc in omega arith
 
 between : {n : Name} {es : List Entry} → Side false n false es → Side true n true es → Named n es
 between side_none side_none = named_none
@@ -188,7 +188,7 @@ goes_too : (n : Name) (q p : Pointer) → pointer_order (down n q) p ≡ Less �
 unfolding pointer_order
 goes_too n q (down m r) e f = (r, ap (λ k. down k r) f)
 goes_too n q (last m) e f =
-    let same_names : order_of n m ≡ Same = rw f (order_refl n) in
+    let same_names : order_of n m ≡ Equal = rw f (order_refl n) in
     let more = rw same_names at e in
     let z : ◌≡◌ {A = ℕ} 0 1 = cc in
     absurd (omega arith)

@@ -2,6 +2,7 @@
 -- smallest that clashes with any: `neighbours`. A pointer that clashes with a later one clashes with all between, and it is a prefix, so its key is not
 -- after the other in byte order.
 -- Assumes nothing.
+use Rattle.std.specs.declared.cmp.Ordering.TheVariants.{Greater}
 use mathlib.Core.Path.{◌≡◌, refl, ap₂}
 use mathlib.Core.Bool.{Bool, true, false}
 use mathlib.Core.Logic.{◌≢◌}
@@ -9,7 +10,6 @@ use mathlib.Core.List.{List}
 use mathlib.Core.Option.{Option, none, some}
 use Prim.Native.Nat.{ℕ}
 use Rattle.laws.specs.Sorting.{Upto, upto_more, Sorted, sorted_more}
-use Rattle.laws.specs.declared.Order.TheVariants.{More}
 use Rattle.laws.proofs.Bools.{by_test, or_false}
 use Rattle.text.specs.Doc.{Name, Doc, Members, empty, member}
 use Rattle.contact.specs.Pointer.{pointer_of, bad_tilde, clash}
@@ -25,7 +25,7 @@ clashing key other = clash (pointer_of key) (pointer_of other)
 
 -- ---- one of the keys
 
-upto_key : {key other : Name} {ms : Members} → HasKey other ms → Upto key_order key (keys_of ms) → key_order key other ≢ More
+upto_key : {key other : Name} {ms : Members} → HasKey other ms → Upto key_order key (keys_of ms) → key_order key other ≢ Greater
 upto_key first (upto_more h u) = h
 upto_key (later x) (upto_more h u) = upto_key x u
 

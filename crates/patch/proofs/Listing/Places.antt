@@ -4,6 +4,7 @@
 --     sorted-places     so it is after sorting
 --     sorted-alike      and the keys begin alike as they did before
 -- Assumes nothing.
+use Rattle.std.specs.declared.cmp.Ordering.{Ordering}
 use Prim.Native.Nat.{ℕ, zero, suc, ◌+◌, ◌-◌, ◌≤◌, ◌<◌}
 use mathlib.Core.Path.{◌≡◌, sym, ap, ◌∙◌}
 use mathlib.Core.Bool.{true, false}
@@ -16,7 +17,6 @@ use Rattle.laws.specs.Each.{Some}
 use Rattle.laws.specs.Each as each
 use Rattle.laws.specs.Order.{same}
 use Rattle.laws.specs.Sorting.{Arranged}
-use Rattle.laws.specs.declared.Order.{Order}
 use Rattle.laws.proofs.Slices.{slice_more}
 use Rattle.laws.proofs.Earliest.{perm_in, perm_back}
 use Rattle.laws.proofs.Searching.{Stands, in_slice}
@@ -104,15 +104,15 @@ slice_in zero l lo hi i e lt r = let here : lo ≡ i = omega arith in rw (slice_
 slice_in (suc m) l lo hi i e lt r = rw (slice_more lo hi l (omega arith) r) (each.later (slice_in m l (lo + 1) hi i (omega arith) lt r))
 
 -- so each word of a sorted part was in it before
-was_in : {o : ℕ → ℕ → Order} {old new : List ℕ} {n : ℕ} → n ≤ length old → Arranged o old 0 n new → (i : ℕ) → i < n → Stands old 0 n (get_or new i 0)
+was_in : {o : ℕ → ℕ → Ordering} {old new : List ℕ} {n : ℕ} → n ≤ length old → Arranged o old 0 n new → (i : ℕ) → i < n → Stands old 0 n (get_or new i 0)
 was_in {old = old} {new} {n} r a i lt =
     in_slice n old 0 n (get_or new i 0) (omega arith) r
     (perm_in (perm_back a.perm) (slice_in i new 0 n i (omega arith) lt (omega (arith, a.long))))
 
-pub sorted_places : (t table : List ℕ) {old new : List ℕ} {n : ℕ} (place : Name → ℕ) {o : ℕ → ℕ → Order} → n ≤ length old → Arranged o old 0 n new
+pub sorted_places : (t table : List ℕ) {old new : List ℕ} {n : ℕ} (place : Name → ℕ) {o : ℕ → ℕ → Ordering} → n ≤ length old → Arranged o old 0 n new
     → ListedPlaces t table old n place → ListedPlaces t table new n place
 sorted_places t table place r a p i lt = let s = was_in r a i lt in rw (← s.is) (p s.at s.upto_end)
 
-pub sorted_alike : (t table : List ℕ) {old new : List ℕ} {n k : ℕ} {o : ℕ → ℕ → Order} → n ≤ length old → BeginAlike t table old n k → Arranged o old 0 n new
+pub sorted_alike : (t table : List ℕ) {old new : List ℕ} {n k : ℕ} {o : ℕ → ℕ → Ordering} → n ≤ length old → BeginAlike t table old n k → Arranged o old 0 n new
     → BeginAlike t table new n k
 sorted_alike t table r h a = record { like = h.like; all = λ i lt. let s = was_in r a i lt in rw (← s.is) (h.all s.at s.upto_end) }

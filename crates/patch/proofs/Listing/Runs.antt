@@ -3,6 +3,8 @@
 --     falling                    where it does, those before it do too, if the entries ascend
 --     bound-made                 so a place that is found by halving parts the run
 -- Assumes nothing.
+use Rattle.std.specs.declared.cmp.Ordering.{Ordering}
+use Rattle.std.specs.declared.cmp.Ordering.TheVariants.{Less, Equal, Greater}
 use Prim.Native.Nat.{ℕ, ◌≤◌, ◌<◌}
 use mathlib.Core.Path.{◌≡◌, refl, sym, ap, ◌∙◌}
 use mathlib.Core.Logic.{◌≢◌}
@@ -13,8 +15,6 @@ use native.Mathlib.Decide.{ℕ_discrete}
 use Rattle.laws.specs.Order.{order_of, is_same}
 use Rattle.laws.proofs.Orders.{order_trans, same_eq}
 use Rattle.laws.proofs.Halving.{Falling, Halved, halved_end}
-use Rattle.laws.specs.declared.Order.{Order}
-use Rattle.laws.specs.declared.Order.TheVariants.{Less, Same, More}
 use Rattle.text.specs.Strings.{name_of}
 use Rattle.text.specs.Firsts.{name_start, name_end}
 use Rattle.text.specs.Doc.{Name, Members, empty, member, label_at, doc_of}
@@ -29,18 +29,18 @@ use Rattle.patch.proofs.Listing.Orders.{key_is}
 -- ---- by the order of names
 
 -- a name that is not More than one that stands before the place stands before it too
-before_upto : (past : Bool) (f g n : Name) → order_of f g ≢ More → stands_before past (order_of g n) ≡ true → stands_before past (order_of f n) ≡ true
+before_upto : (past : Bool) (f g n : Name) → order_of f g ≢ Greater → stands_before past (order_of g n) ≡ true → stands_before past (order_of f n) ≡ true
 before_upto past f g n u e = go (order_of f g) refl
   where
-    by_less : (o : Order) → order_of g n ≡ o → stands_before past o ≡ true → order_of f g ≡ Less → stands_before past (order_of f n) ≡ true
+    by_less : (o : Ordering) → order_of g n ≡ o → stands_before past o ≡ true → order_of f g ≡ Less → stands_before past (order_of f n) ≡ true
     by_less Less d a l = rw (order_trans f g n l d)
-    by_less Same d a l = rw (← same_eq g n (ap is_same d), l)
-    by_less More d a l = let z : ◌≡◌ {A = ℕ} 0 1 = cc in absurd (omega arith)
+    by_less Equal d a l = rw (← same_eq g n (ap is_same d), l)
+    by_less Greater d a l = let z : ◌≡◌ {A = ℕ} 0 1 = cc in absurd (omega arith)
 
-    go : (o : Order) → order_of f g ≡ o → stands_before past (order_of f n) ≡ true
+    go : (o : Ordering) → order_of f g ≡ o → stands_before past (order_of f n) ≡ true
     go Less d = by_less (order_of g n) refl e d
-    go Same d = rw (same_eq f g (ap is_same d)) e
-    go More d = absurd (u d)
+    go Equal d = rw (same_eq f g (ap is_same d)) e
+    go Greater d = absurd (u d)
 
 -- ---- the entries of a run
 

@@ -6,6 +6,7 @@
 --     change-null, change-set, adds-down     what an entry adds
 --     passed_none, passed-some     a member that is not written, and one that is
 -- Assumes nothing.
+use Rattle.std.specs.declared.cmp.Ordering.TheVariants.{Less}
 use Prim.Native.Nat.{ℕ, ◌<◌}
 use mathlib.Core.Path.{◌≡◌, refl}
 use mathlib.Core.Bool.{Bool, true, false, cond}
@@ -15,7 +16,6 @@ use native.Mathlib.Omega.{arith}
 use lib.ListN.{length}
 use borrow.Author.Tests.{eq-eqb, ne_eqb}
 use Rattle.laws.specs.Order.{same, before}
-use Rattle.laws.specs.declared.Order.TheVariants.{Less}
 use Rattle.text.specs.Text.{bytes}
 use Rattle.text.specs.Doc.{Name, Doc, scalar, array, object, Members, empty, member, Property, seek, kind_of}
 use Rattle.text.specs.Writing.{spelled, written, written_members}

@@ -4,11 +4,12 @@
 --     rest_by, PatchWalk and its laws        a walk along the members of an object, and the members that are added
 --     idle-value                            a value of which nothing is said
 -- Assumes nothing.
+use Rattle.std.specs.Prelude.{Some, None, Option}
 use Prim.Native.Nat.{ℕ, ◌+◌, ◌≤◌, ◌<◌}
 use mathlib.Core.Path.{◌≡◌, refl, sym, ap, ◌∙◌}
 use mathlib.Core.Bool.{Bool, true, false}
 use mathlib.Core.List.{List, ◌++◌}
-use mathlib.Core.Option.{Option, none, some}
+use mathlib.Core.Option.{Option as Maybe, none, some}
 use native.Mathlib.Omega.{arith}
 use Rattle.text.specs.Tree.{Forest}
 use Rattle.text.specs.Tree as T
@@ -27,8 +28,6 @@ use Rattle.patch.specs.Runs.{InOrder}
 use Rattle.output.specs.Written.{Wrote}
 use Rattle.patch.specs.Patched.{Said, based_all, is_out, OutAt, LeavesOut, BaseAt, kept_by, stays, pointer_in, is_last, is_nothing, ends_first, piece, since, Passed}
 use Rattle.pointers.specs.Parts.{GoesAt}
-use Rattle.pointers.specs.declared.keys.After.{After}
-use Rattle.pointers.specs.declared.keys.After.TheVariants.{Nothing, At}
 use Rattle.patch.specs.declared.writing.Pen.{Pen}
 use Rattle.output.proofs.Bytes.{BytesLeft, left_on, left_as, left_last}
 use Rattle.patch.proofs.Putting.Walks.{value_row, Walk, walk_start, walk_here, walk_on, walk_end}
@@ -39,18 +38,18 @@ use Rattle.patch.proofs.Putting.Leaving.{out_first, out_rest}
 
 -- ---- the first entry of a run ----
 
-pub goes_last : {p q : Pointer} (key : List ℕ) (o : After) → p ≡ q → GoesAt key p o → is_last q ≡ is_nothing o
-goes_last {p} key Nothing e f = rw (← e, f)
-goes_last {p} key (At to) e f = rw (← e, f.0)
+pub goes_last : {p q : Pointer} (key : List ℕ) (o : Option ℕ) → p ≡ q → GoesAt key p o → is_last q ≡ is_nothing o
+goes_last {p} key None e f = rw (← e, f)
+goes_last {p} key (Some to) e f = rw (← e, f.0)
 
 -- the same the other way: what was answered says whether it ends
-pub ended_by : (key : List ℕ) {p : Pointer} (o : After) → GoesAt key p o → is_nothing o ≡ true → p ≡ last (first_part p)
-ended_by key Nothing g e = g
-ended_by key (At to) g e = let z : ◌≡◌ {A = ℕ} 0 1 = cc in absurd (omega arith)
+pub ended_by : (key : List ℕ) {p : Pointer} (o : Option ℕ) → GoesAt key p o → is_nothing o ≡ true → p ≡ last (first_part p)
+ended_by key None g e = g
+ended_by key (Some to) g e = let z : ◌≡◌ {A = ℕ} 0 1 = cc in absurd (omega arith)
 
-pub gone_by : (key : List ℕ) {p : Pointer} (o : After) → GoesAt key p o → is_nothing o ≡ false → (q : Pointer) × (p ≡ down (first_part p) q)
-gone_by key Nothing g e = let z : ◌≡◌ {A = ℕ} 0 1 = cc in absurd (omega arith)
-gone_by key (At to) g e = (_, g.0)
+pub gone_by : (key : List ℕ) {p : Pointer} (o : Option ℕ) → GoesAt key p o → is_nothing o ≡ false → (q : Pointer) × (p ≡ down (first_part p) q)
+gone_by key None g e = let z : ◌≡◌ {A = ℕ} 0 1 = cc in absurd (omega arith)
+gone_by key (Some to) g e = (_, g.0)
 
 pub ends_by : (t : List ℕ) {table rows : List ℕ} {lo hi parts : ℕ} {ms : Members} {r : Bool} (f : First t table rows lo hi parts ms)
     → is_last (pointer_in t parts f.tree) ≡ r → r ≡ ends_first (stripped parts ms)
@@ -107,7 +106,7 @@ module _ {t table rows : List ℕ} {from to lo hi parts : ℕ} {n : Name} {ms : 
       let its : mine n (stripped parts (member_of t g f.more)) ≡ some (change_of (doc_of t g)) =
       run_ends parts n key label (doc_of t g) f.more names (last_ends (pointer_in t parts g) (sym ends)) in
       stays_by root n (stripped parts ms) d kept_in
-      ∙ ap (λ (o : Option Change). kept_by o (applied d (under n (stripped parts ms))))
+      ∙ ap (λ (o : Maybe Change). kept_by o (applied d (under n (stripped parts ms))))
       (m.its_mine ∙ ap (λ (l : Members). mine n (stripped parts l)) f.is ∙ its)
 
   module _ (e : false ≡ ends_first (stripped parts m.run)) where

@@ -1,10 +1,11 @@
 -- Keys by the bytes that they begin with, as they are written:
 --     Begins, begins, uncoded    a pointer by the first byte of what is left of a key
 --     alike-none, alike_next     keys that begin alike, byte by byte
---     same-plain, same_more          bytes that both have as they are written
+--     alike-raw, same-written, same-plain     bytes that both have as they are written
 --     alike-to-tilde, alike-past     what is left behind these decides, with the tildes that both have
 --     by_first     their order, and whether they clash, by the first byte that differs
 -- Assumes nothing.
+use Rattle.std.specs.declared.cmp.Ordering.TheVariants.{Less, Greater}
 use Prim.Native.Nat.{ℕ, zero, suc, ◌+◌, ◌-◌, ◌≤◌, ◌<◌}
 use mathlib.Core.Path.{◌≡◌, refl, sym, ap, ◌∙◌}
 use mathlib.Core.Logic.{◌≢◌}
@@ -15,15 +16,13 @@ use native.Mathlib.Numerals.{add-one}
 use native.Mathlib.Decide.{ℕ_discrete, dec_le}
 use lib.Dec.{eqb}
 use lib.ListN.{length}
-use borrow.Author.Count.{below_more}
 use borrow.Author.Tests.{ne_eqb, lt-ltb, le-ltb, eqb-false}
 use Rattle.laws.specs.Order.{order_of, same}
-use Rattle.laws.specs.declared.Order.TheVariants.{Less, More}
 use Rattle.laws.proofs.Orders.{order_on}
 use Rattle.laws.proofs.Places.{inside}
 use Rattle.text.specs.Text.{byte_at}
 use Rattle.json_reader.specs.Cursors.{rest, cursor}
-use Rattle.json_reader.specs.Names.{order_at}
+use Rattle.json_reader.specs.Names.{order_at, Raw}
 use Rattle.json_reader.specs.Plain.{Plain, AlikeTo}
 use Rattle.contact.specs.Pointer.{Pointer, last, down, push, split, plain, plain_parts, pointer_of, clash}
 use Rattle.pointers.specs.Pointers.{pointer_order, is_coded, tells, pointer_from, SameAt, SameWritten, AlikeKeys, ends_before, rank_of}
@@ -146,14 +145,20 @@ module _ (a b : List ℕ) (k : ℕ) (w : AlikeKeys a b k) (e : byte_at a k ≡ b
 
 -- ---- as they are written
 
-pub same_plain : (a b : List ℕ) {k : ℕ} → AlikeTo Plain a 0 b 0 k → SameWritten a b k
-same_plain a b run i h =
-    let e : 0 + i ≡ i = omega arith in
-    let here = rw e at (run.alike i h) in
-    record { same = here.0; byte = omega (arith, here.1.ascii); no_escape = here.1.no_slash }
+plain_raw : (b : ℕ) → Plain b → Raw b
+plain_raw b p = record { byte = omega (arith, p.ascii); no_escape = p.no_slash }
 
-pub same_more : (a b : List ℕ) (k : ℕ) → SameWritten a b k → byte_at a k ≡ byte_at b k → byte_at a k < 256 → byte_at a k ≢ 92 → SameWritten a b (k + 1)
-same_more a b k run e some back = below_more (SameAt a b) k run (record { same = e; byte = some; no_escape = back })
+pub alike_raw : {a b : List ℕ} {i j k : ℕ} → AlikeTo Plain a i b j k → AlikeTo Raw a i b j k
+alike_raw r = record { alike = λ m h. let here = r.alike m h in (here.0, plain_raw _ here.1); first = r.first; second = r.second }
+
+pub same_written : (a b : List ℕ) {k : ℕ} → AlikeTo Raw a 0 b 0 k → SameWritten a b k
+same_written a b r i h =
+    let z : 0 + i ≡ i = omega arith in
+    let here = r.alike i h in
+    record { same = rw z at here.0; byte = rw z at here.1.byte; no_escape = rw z at here.1.no_escape }
+
+pub same_plain : (a b : List ℕ) {k : ℕ} → AlikeTo Plain a 0 b 0 k → SameWritten a b k
+same_plain a b run = same_written a b (alike_raw run)
 
 -- ---- with tildes that both have
 
@@ -269,12 +274,12 @@ unfolding pointer_order order_of
 part_less p y (last m) = (refl, refl)
 part_less p y (down m q) = (refl, refl)
 
-end_more : (x : ℕ) (p : Pointer) → (pointer_order (push x p) (last []) ≡ More) × (clash (push x p) (last []) ≡ false)
+end_more : (x : ℕ) (p : Pointer) → (pointer_order (push x p) (last []) ≡ Greater) × (clash (push x p) (last []) ≡ false)
 unfolding pointer_order order_of
 end_more x (last n) = (refl, refl)
 end_more x (down n p) = (refl, refl)
 
-part_more : (x : ℕ) (p q : Pointer) → (pointer_order (push x p) (down [] q) ≡ More) × (clash (push x p) (down [] q) ≡ false)
+part_more : (x : ℕ) (p q : Pointer) → (pointer_order (push x p) (down [] q) ≡ Greater) × (clash (push x p) (down [] q) ≡ false)
 unfolding pointer_order order_of
 part_more x (last n) q = (refl, refl)
 part_more x (down n p) q = (refl, refl)
@@ -286,7 +291,7 @@ byte_less x y (last n) (down m q) h = (rw (lt-ltb x y h), rw (lt-ltb x y h))
 byte_less x y (down n p) (last m) h = (rw (lt-ltb x y h), rw (lt-ltb x y h))
 byte_less x y (down n p) (down m q) h = (rw (lt-ltb x y h), rw (lt-ltb x y h))
 
-byte_more : (x y : ℕ) (p q : Pointer) → y < x → (pointer_order (push x p) (push y q) ≡ More) × (clash (push x p) (push y q) ≡ false)
+byte_more : (x y : ℕ) (p q : Pointer) → y < x → (pointer_order (push x p) (push y q) ≡ Greater) × (clash (push x p) (push y q) ≡ false)
 unfolding pointer_order order_of
 byte_more x y (last n) (last m) h = (rw (le-ltb x y (omega arith), lt-ltb y x h), rw (le-ltb x y (omega arith), lt-ltb y x h))
 byte_more x y (last n) (down m q) h = (rw (le-ltb x y (omega arith), lt-ltb y x h), rw (le-ltb x y (omega arith), lt-ltb y x h))
@@ -313,7 +318,7 @@ at_less : (p q : ℕ) → p < q → q < 256 → order_at p q ≡ Less
 unfolding order_at
 at_less p q lt h = rw (ne_eqb p q (λ e. omega arith), ne_eqb p 256 (λ e. omega arith), ne_eqb q 256 (λ e. omega arith), lt-ltb p q lt)
 
-at_more : (p q : ℕ) → q < p → p < 256 → order_at p q ≡ More
+at_more : (p q : ℕ) → q < p → p < 256 → order_at p q ≡ Greater
 unfolding order_at
 at_more p q lt h = rw (ne_eqb p q (λ e. omega arith), ne_eqb p 256 (λ e. omega arith), ne_eqb q 256 (λ e. omega arith), le-ltb p q (omega arith))
 
@@ -321,7 +326,7 @@ over_less : (q : ℕ) → q < 256 → order_at 256 q ≡ Less
 unfolding order_at
 over_less q h = rw (ne_eqb 256 q (λ e. omega arith))
 
-over_more : (p : ℕ) → p < 256 → order_at p 256 ≡ More
+over_more : (p : ℕ) → p < 256 → order_at p 256 ≡ Greater
 unfolding order_at
 over_more p h = rw (ne_eqb p 256 (λ e. omega arith))
 

@@ -1,18 +1,20 @@
 -- Laws of keys that are read as written, up to a backslash:
 --     order-fresh                                         a cursor where a character begins is a place
---     untold-glyph, name-glyph, part-glyph, slash-glyph   what a byte shows
+--     name-glyph, part-glyph, slash-glyph   what a byte shows
 --     slash-read, name-read, part-read                    what is read at a backslash
 --     tilde-one, tilde-zero, tilde-alone                  what a `~` and the byte after it show
 --     shown-order, shown-ends, shown-on                   two glyphs that are compared
---     common-none, common-next, common-own                bytes that two places have in common
+--     common-none, common-next, common-spelled                bytes that two places have in common
 --     Later, later-run, later-past, as-tilded-past        a run of bytes without a `/` stays in its part, one without a `~` has no bad one
 --     goes_later, slash-next, over-next                   what follows a part, from a later cursor on, at a `/` and at the end
 -- Assumes nothing.
+use Rattle.std.specs.Prelude.{Some, None, Option}
+use Rattle.std.specs.declared.cmp.Ordering.TheVariants.{Equal}
 use Prim.Native.Nat.{ℕ, zero, suc, ◌+◌, ◌-◌, ◌≤◌, ◌<◌}
 use mathlib.Core.Path.{◌≡◌, refl, ap, sym, ◌∙◌}
 use mathlib.Core.Bool.{Bool, true, false}
 use mathlib.Core.List.{List, [], ◌∷◌, ◌++◌}
-use mathlib.Core.Option.{Option}
+use mathlib.Core.Option.{Option as Maybe}
 use native.Mathlib.Decide.{ℕ_discrete}
 use native.Mathlib.Nat.{add-zero}
 use native.Mathlib.Numerals.{add-one}
@@ -20,7 +22,6 @@ use native.Mathlib.Omega.{arith}
 use lib.ListN.{length}
 use borrow.Author.Tests.{ne_eqb}
 use Rattle.laws.specs.Order.{order_of}
-use Rattle.laws.specs.declared.Order.TheVariants.{Same}
 use Rattle.laws.proofs.Orders.{order_on}
 use Rattle.laws.proofs.Places.{inside}
 use Rattle.text.specs.Text.{byte_at}
@@ -32,11 +33,8 @@ use Rattle.json_reader.specs.Cursors.{rest, cursor, fresh_of, next_of}
 use Rattle.json_reader.specs.Names.{order_at}
 use Rattle.json_reader.specs.Plain.{Own}
 use Rattle.json_reader.specs.declared.decode.Cursor.{Cursor}
-use Rattle.json_reader.specs.declared.decode.Next.TheVariants.{Byte, Over}
 use Rattle.json_reader.proofs.Alike.{decode_over, decode_byte, order_heads}
-use Rattle.pointers.specs.Parts.{part_left, name_left, left_at, tilde_left, GlyphAt, InCommon, beyond, Goes, Crosses, at_end, at_slash, past, RunTo, no_byte, one_more, Passes, stays, passes}
-use Rattle.pointers.specs.declared.parts.Onward.{Onward}
-use Rattle.pointers.specs.declared.parts.Onward.TheVariants.{Last, Part}
+use Rattle.pointers.specs.Parts.{part_left, name_left, left_at, tilde_left, GlyphAt, Spelled, InCommon, beyond, Goes, Crosses, at_end, at_slash, past, RunTo, no_byte, one_more, Passes, stays, passes}
 use Rattle.pointers.specs.declared.parts.Glyph.{Glyph}
 use Rattle.pointers.proofs.Laws.Parts.{part_plain, part_tilde, tail_on, ends, goes}
 
@@ -73,9 +71,6 @@ module _ (t : List ℕ) (at : ℕ) where
 abbrev pub glyph : (value len : ℕ) → Glyph
 glyph value len = record { value = value; len = len }
 
-pub untold_glyph : (part : Bool) (t : List ℕ) (at : ℕ) → GlyphAt part t at (glyph 257 1)
-untold_glyph part t at = record { most = omega arith; over = λ e. absurd (omega arith); byte = λ h. absurd (omega arith); within = λ h. absurd (omega arith) }
-
 -- a glyph that is a byte
 shows : (part : Bool) (t : List ℕ) (at value len : ℕ) → value < 256 → at + len ≤ length t → left_at part t at ≡ value ∷ left_at part t (at + len)
     → GlyphAt part t at (glyph value len)
@@ -110,20 +105,25 @@ slash_glyph t at e = part_over t at (ap part_left (rest_byte t at (λ z. omega a
 
 -- ---- what is read at a backslash ----
 
-module _ (t : List ℕ) (at b : ℕ) (d : Cursor) (read : rest t (cursor at 0 0) ≡ b ∷ rest t d) where
-  pub slash_read : b ≡ 47 → GlyphAt true t at (glyph 256 1)
-  slash_read e = part_over t at (ap part_left read ∙ rw e)
+pub name_read : (t : List ℕ) (at b : ℕ) (d : Cursor) → rest t (cursor at 0 0) ≡ b ∷ rest t d → b < 256 → d.left ≡ 0 → at ≤ d.at → d.at ≤ length t
+    → GlyphAt false t at (glyph b (d.at - at))
+name_read t at b d read small alone later long =
+    let e : at + (d.at - at) ≡ d.at = omega arith in
+    shows false t at b (d.at - at) small (omega arith) (rw (e, ← fresh t d alone) read)
 
-  module _ (small : b < 256) (alone : d.left ≡ 0) (later : at ≤ d.at) (long : d.at ≤ length t) where
-    whole : rest t (cursor at 0 0) ≡ b ∷ rest t (cursor (at + (d.at - at)) 0 0)
-    whole = let e : at + (d.at - at) ≡ d.at = omega arith in rw (e, ← fresh t d alone) read
+-- as a name's glyph shows what is left, so it does that of a part
+module _ (t : List ℕ) (at : ℕ) (g : Glyph) (G : GlyphAt false t at g) where
+  pub slash_read : g.value ≡ 47 → GlyphAt true t at (glyph 256 1)
+  slash_read e = part_over t at (ap part_left (G.byte (omega arith)) ∙ rw e)
 
-    pub name_read : GlyphAt false t at (glyph b (d.at - at))
-    name_read = shows false t at b (d.at - at) small (omega arith) whole
-
-    pub part_read : (b ≡ 47 → ⊥) → (b ≡ 126 → ⊥) → GlyphAt true t at (glyph b (d.at - at))
-    part_read slash tilde =
-        shows true t at b (d.at - at) small (omega arith) (ap part_left whole ∙ part_plain b (rest t (cursor (at + (d.at - at)) 0 0)) slash tilde)
+  pub part_read : (g.value ≡ 47 → ⊥) → (g.value ≡ 126 → ⊥) → GlyphAt true t at g
+  part_read slash tilde =
+      record {
+        most = G.most;
+        over = λ e. ap part_left (G.over e);
+        byte = λ h. ap part_left (G.byte h) ∙ part_plain g.value (rest t (cursor (at + g.len) 0 0)) slash tilde;
+        within = G.within;
+      }
 
 -- ---- what a `~` shows ----
 
@@ -168,13 +168,13 @@ module _ (t : List ℕ) (at : ℕ) (tilde : byte_at t at ≡ 126) where
 -- ---- two glyphs ----
 
 module _ (key name : List ℕ) (own part : Bool) (i j : ℕ) (p q : Glyph) (P : GlyphAt own key i p) (Q : GlyphAt part name j q) where
-  pub shown_order : (p.value ≡ 257 → ⊥) → (q.value ≡ 257 → ⊥) → (p.value ≡ q.value → ⊥)
+  pub shown_order : (p.value ≡ q.value → ⊥)
       → order_at p.value q.value ≡ order_of (left_at own key i) (left_at part name j)
-  shown_order x y ne =
+  shown_order ne =
       order_heads p.value q.value (left_at own key i) (left_at part name j) P.over (λ o. P.byte (omega (arith, P.most))) Q.over
       (λ o. Q.byte (omega (arith, Q.most))) (λ e. absurd (ne e))
 
-  pub shown_ends : p.value ≡ q.value → p.value ≡ 256 → Same ≡ order_of (left_at own key i) (left_at part name j)
+  pub shown_ends : p.value ≡ q.value → p.value ≡ 256 → Equal ≡ order_of (left_at own key i) (left_at part name j)
   unfolding order_of
   shown_ends e o = rw (P.over o, Q.over (sym e ∙ o))
 
@@ -214,14 +214,15 @@ module _ (key : List ℕ) (i : ℕ) (name : List ℕ) (j : ℕ) where
         second = omega arith;
       }
 
-  pub common_own : (k : ℕ) → ((m : ℕ) → m < k → (byte_at key (i + m) ≡ byte_at name (j + m)) × Own (byte_at key (i + m))) → InCommon key i name j k
-  common_own zero alike = common_none
-  common_own (suc k) alike =
+  pub common_spelled : (k : ℕ) → ((m : ℕ) → m < k → (byte_at key (i + m) ≡ byte_at name (j + m)) × Spelled (byte_at key (i + m))) → InCommon key i name j k
+  common_spelled zero alike = common_none
+  common_spelled (suc k) alike =
       let here = alike k (omega arith) in
-      let own = here.1 in
-      rw (← add-one k)
-      (common_next k (common_own k (λ m h. alike m (omega arith))) (omega (arith, own.plain.ascii)) own.no_part own.no_tilde own.plain.no_slash
-      here.0)
+      let b = here.1 in
+      rw (← add-one k) (common_next k (common_spelled k (λ m h. alike m (omega arith))) b.byte b.no_slash b.no_tilde b.no_escape here.0)
+
+pub own_spelled : {b : ℕ} → Own b → Spelled b
+own_spelled o = record { byte = omega (arith, o.plain.ascii); no_slash = o.no_part; no_tilde = o.no_tilde; no_escape = o.plain.no_slash }
 
 -- ---- a run ----
 
@@ -230,12 +231,12 @@ next_fresh : (t : List ℕ) (c : Cursor) → c.left ≡ 0 → next_of t c ≡ ne
 unfolding next_of
 next_fresh t c e = rw e
 
-pub next_byte : (t : List ℕ) (at : ℕ) → (byte_at t at ≡ 92 → ⊥) → (byte_at t at ≡ 256 → ⊥) → next_of t (cursor at 0 0) ≡ Byte (byte_at t at) (cursor (at + 1) 0 0)
+pub next_byte : (t : List ℕ) (at : ℕ) → (byte_at t at ≡ 92 → ⊥) → (byte_at t at ≡ 256 → ⊥) → next_of t (cursor at 0 0) ≡ Some (byte_at t at, cursor (at + 1) 0 0)
 unfolding next_of fresh_of
 next_byte t at s e = rw (ne_eqb (byte_at t at) 256 e, ne_eqb (byte_at t at) 92 s)
 
 -- two cursors that read alike
-crosses_as : (t : List ℕ) {c d : Cursor} {r : Onward} → next_of t c ≡ next_of t d → Crosses t d r → Crosses t c r
+crosses_as : (t : List ℕ) {c d : Cursor} {r : (Option Cursor)} → next_of t c ≡ next_of t d → Crosses t d r → Crosses t c r
 crosses_as t e (at_end o) = at_end (e ∙ o)
 crosses_as t e (at_slash o) = at_slash (e ∙ o)
 crosses_as t e (past o n x) = past (e ∙ o) n x
@@ -244,9 +245,9 @@ crosses_as t e (past o n x) = past (e ∙ o) n x
 pub record Later (key : List ℕ) (c d : Cursor) : Type 0 where
   pub follows : beyond (pointer_of (rest key d)) ≡ beyond (pointer_of (rest key c))
   pub fewer : length (rest key d) ≤ length (rest key c)
-  pub leads : (r : Onward) → Crosses key d r → Crosses key c r
+  pub leads : (r : Option Cursor) → Crosses key d r → Crosses key c r
 
-abbrev beyond_in : List ℕ → Option Pointer
+abbrev beyond_in : List ℕ → Maybe Pointer
 beyond_in bs = beyond (pointer_of bs)
 
 later_on_lem : (t : List ℕ) (c : Cursor) (at : ℕ) → byte_at t at < 256 → (byte_at t at ≡ 92 → ⊥) → (byte_at t at ≡ 47 → ⊥) → Later t c (cursor at 0 0)
@@ -273,23 +274,23 @@ later_past t c stays = record { follows = refl; fewer = omega arith; leads = λ 
 later_past t c (passes e r) = later_run t c e r
 
 -- what follows a part is the same from a later cursor in it on
-pub goes_later : (t : List ℕ) {c d : Cursor} {r : Onward} → Later t c d → Goes t (pointer_of (rest t d)) r → Crosses t d r
+pub goes_later : (t : List ℕ) {c d : Cursor} {r : (Option Cursor)} → Later t c d → Goes t (pointer_of (rest t d)) r → Crosses t d r
     → Goes t (pointer_of (rest t c)) r × Crosses t c r
-goes_later t {c = c} {r = Last} l g x = (ends (pointer_of (rest t c)) (sym l.follows ∙ ap beyond g), l.leads Last x)
-goes_later t {c = c} {r = Part e} l g x = (goes (pointer_of (rest t c)) (pointer_of (rest t e)) (sym l.follows ∙ ap beyond g), l.leads (Part e) x)
+goes_later t {c = c} {r = None} l g x = (ends (pointer_of (rest t c)) (sym l.follows ∙ ap beyond g), l.leads None x)
+goes_later t {c = c} {r = Some e} l g x = (goes (pointer_of (rest t c)) (pointer_of (rest t e)) (sym l.follows ∙ ap beyond g), l.leads (Some e) x)
 
 -- at a `/`, and at the end
 pub slash_next : (t : List ℕ) (at : ℕ) → byte_at t at ≡ 47
-    → Goes t (pointer_of (rest t (cursor at 0 0))) (Part (cursor (at + 1) 0 0)) × Crosses t (cursor at 0 0) (Part (cursor (at + 1) 0 0))
+    → Goes t (pointer_of (rest t (cursor at 0 0))) (Some (cursor (at + 1) 0 0)) × Crosses t (cursor at 0 0) (Some (cursor (at + 1) 0 0))
 slash_next t at e =
-    let next : next_of t (cursor at 0 0) ≡ Byte 47 (cursor (at + 1) 0 0) = next_byte t at (λ z. omega arith) (λ z. omega arith) ∙ rw e in
+    let next : next_of t (cursor at 0 0) ≡ Some (47, cursor (at + 1) 0 0) = next_byte t at (λ z. omega arith) (λ z. omega arith) ∙ rw e in
     let r = rest_byte t at (λ z. omega arith) (λ z. omega arith) in
     (goes (pointer_of (rest t (cursor at 0 0))) (pointer_of (rest t (cursor (at + 1) 0 0))) (rw (r, e)), at_slash next)
 
-pub over_next : (t : List ℕ) (at : ℕ) → byte_at t at ≡ 256 → Goes t (pointer_of (rest t (cursor at 0 0))) Last × Crosses t (cursor at 0 0) Last
+pub over_next : (t : List ℕ) (at : ℕ) → byte_at t at ≡ 256 → Goes t (pointer_of (rest t (cursor at 0 0))) None × Crosses t (cursor at 0 0) None
 unfolding next_of fresh_of
 over_next t at e =
-    let next : next_of t (cursor at 0 0) ≡ Over = rw e in
+    let next : next_of t (cursor at 0 0) ≡ None = rw e in
     (ends (pointer_of (rest t (cursor at 0 0))) (rw (rest_over t at e)), at_end next)
 
 -- a cursor no earlier than another, from which on a bad `~` stands just if one does from the other on

@@ -3,24 +3,24 @@
 --     plain-tilde                     a `~` that neither `0` nor `1` follows
 --     tail-on                         what follows the first part
 --     ends, goes                      a pointer by what follows its first part
---     by_part, by_name                a name that is read as a part, or as it is
+--     order_sides                     the order of what is left at two cursors
 --     taken, over                     what is read of a part, and what is left of it
 -- Assumes nothing.
+use Rattle.std.specs.Prelude.{Option, Some, None}
 use mathlib.Core.Path.{◌≡◌, refl, ap, sym, ◌∙◌}
-use mathlib.Core.Bool.{true, false}
+use mathlib.Core.Bool.{Bool, true, false}
 use mathlib.Core.List.{List, [], ◌∷◌}
 use mathlib.Core.Option.{none, some}
 use Prim.Native.Nat.{ℕ}
 use native.Mathlib.Omega.{arith}
 use native.Mathlib.Decide.{ℕ_discrete}
 use borrow.Author.Tests.{ne_eqb}
+use Rattle.laws.specs.Order.{order_of}
 use Rattle.text.specs.Doc.{Name}
 use Rattle.contact.specs.Pointer.{Pointer, last, down, push, split, plain, plain_parts, pointer_of, first_part}
-use Rattle.pointers.specs.Parts.{part_left, part_unread, tilde_left, name_unread, beyond}
+use Rattle.pointers.specs.Parts.{part_left, part_unread, tilde_left, name_left, name_unread, beyond}
 use Rattle.json_reader.specs.Cursors.{rest, unread}
 use Rattle.json_reader.specs.declared.decode.Cursor.{Cursor}
-use Rattle.json_reader.specs.declared.decode.Next.{Next}
-use Rattle.json_reader.specs.declared.decode.Next.TheVariants.{Byte, Over}
 
 -- ---- the first part ----
 
@@ -91,21 +91,18 @@ pub goes : (p q : Pointer) → beyond p ≡ some q → p ≡ down (first_part p)
 goes (last n) q e = let z : ◌≡◌ {A = ℕ} 0 1 = cc in absurd (omega arith)
 goes (down n p) q e = cc
 
--- ---- the two ways in which a name is read ----
-
-pub by_part : (key : List ℕ) (r : Next) → name_unread true key r ≡ part_unread key r
-by_part key (Byte b c) = refl
-by_part key Over = refl
-
-pub by_name_lem : (key : List ℕ) (r : Next) → name_unread false key r ≡ unread key r
-by_name_lem key (Byte b c) = refl
-by_name_lem key Over = refl
+-- ---- what is read ----
 
 -- a byte that is handed out is the first of those that were left
-pub taken : (key : List ℕ) (c : Cursor) {r : Next} {b : ℕ} {d : Cursor} → part_unread key r ≡ part_left (rest key c) → r ≡ Byte b d
+pub taken : (key : List ℕ) (c : Cursor) {r : (Option (ℕ × Cursor))} {b : ℕ} {d : Cursor} → part_unread key r ≡ part_left (rest key c) → r ≡ Some (b, d)
     → part_left (rest key c) ≡ b ∷ part_left (rest key d)
 taken key c e g = sym e ∙ ap (part_unread key) g
 
 -- where none is handed out, none is left
-pub over : (key : List ℕ) (c : Cursor) {r : Next} → part_unread key r ≡ part_left (rest key c) → r ≡ Over → part_left (rest key c) ≡ []
+pub over : (key : List ℕ) (c : Cursor) {r : (Option (ℕ × Cursor))} → part_unread key r ≡ part_left (rest key c) → r ≡ None → part_left (rest key c) ≡ []
 over key c e g = sym e ∙ ap (part_unread key) g
+
+-- the order of what is left at two cursors, by what these are
+pub order_sides : (part other : Bool) {a a' b b' : List ℕ} {x x' y y' : Cursor} → a ≡ a' → x ≡ x' → b ≡ b' → y ≡ y'
+    → order_of (name_left part a x) (name_left other b y) ≡ order_of (name_left part a' x') (name_left other b' y')
+order_sides part other e f g h = rw (e, f, g, h) refl

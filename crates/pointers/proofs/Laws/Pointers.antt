@@ -3,18 +3,19 @@
 --     order-first, order-ends, order-left, order-right, order-on    the order of pointers
 --     strip-on                                             a pointer without its first parts
 -- Assumes nothing.
-use mathlib.Core.Path.{◌≡◌, refl}
-use mathlib.Core.Bool.{Bool, true, false}
+use Rattle.std.specs.declared.cmp.Ordering.{Ordering}
+use Rattle.std.specs.declared.cmp.Ordering.TheVariants.{Less, Equal, Greater}
+use mathlib.Core.Path.{◌≡◌, refl, sym}
+use mathlib.Core.Bool.{Bool, true, false, true≢false}
 use mathlib.Core.List.{List}
 use Prim.Native.Nat.{ℕ, zero, suc, ◌+◌, ◌<◌}
 use native.Mathlib.Omega.{arith}
 use native.Mathlib.Numerals.{add-one}
 use lib.ListN.{length}
+use Rattle.std.specs.Ordering.{is_ne}
 use Rattle.laws.specs.Order.{order_of, same}
-use Rattle.laws.specs.declared.Order.{Order}
-use Rattle.laws.specs.declared.Order.TheVariants.{Less, Same, More}
 use Rattle.contact.specs.Pointer.{Pointer, last, down, first_part, parts, clash}
-use Rattle.pointers.specs.Pointers.{or_then, pointer_order, strip}
+use Rattle.pointers.specs.Pointers.{pointer_order, strip}
 
 abbrev First : Pointer → Pointer → Bool
 First p q = same (first_part p) (first_part q)
@@ -43,18 +44,24 @@ clash_on p q {p'} {q'} d g e = go p q (first_part p) (first_part q) d g e
 
 -- ---- the order ----
 
-pub order_first : (p q : Pointer) (o : Order) → order_of (first_part p) (first_part q) ≡ o → (or_then o Same ≡ o) → (or_then o Less ≡ o)
-    → (or_then o More ≡ o) → pointer_order p q ≡ o
+pub order_first : (p q : Pointer) (o : Ordering) → order_of (first_part p) (first_part q) ≡ o → is_ne o ≡ true → pointer_order p q ≡ o
 unfolding pointer_order
-order_first (last n) (last m) o e s l g = e
-order_first (last n) (down m q) o e s l g = rw (e, l)
-order_first (down n p) (last m) o e s l g = rw (e, g)
-order_first (down n p) (down m q) Less e s l g = rw e
-order_first (down n p) (down m q) More e s l g = rw e
-order_first (down n p) (down m q) Same e s l g = let z : ◌≡◌ {A = ℕ} 0 1 = cc in absurd (omega arith)
+order_first p q Equal e n = absurd (true≢false (sym n))
+order_first (last n) (last m) o e s = e
+order_first (last n) (down m q) Less e s = rw e
+order_first (last n) (down m q) Greater e s = rw e
+order_first (down n p) (last m) Less e s = rw e
+order_first (down n p) (last m) Greater e s = rw e
+order_first (down n p) (down m q) Less e s = rw e
+order_first (down n p) (down m q) Greater e s = rw e
 
-module _ (p q : Pointer) (e : order_of (first_part p) (first_part q) ≡ Same) where
-  pub order_ends : p ≡ last (first_part p) → q ≡ last (first_part q) → pointer_order p q ≡ Same
+pub tied : (o : Ordering) → is_ne o ≡ false → o ≡ Equal
+tied Less n = absurd (true≢false n)
+tied Equal n = refl
+tied Greater n = absurd (true≢false n)
+
+module _ (p q : Pointer) (e : order_of (first_part p) (first_part q) ≡ Equal) where
+  pub order_ends : p ≡ last (first_part p) → q ≡ last (first_part q) → pointer_order p q ≡ Equal
   unfolding pointer_order
   order_ends l g = rw (l, g) e
 
@@ -62,7 +69,7 @@ module _ (p q : Pointer) (e : order_of (first_part p) (first_part q) ≡ Same) w
   unfolding pointer_order
   order_left l g = rw (l, g, e)
 
-  pub order_right : {p' : Pointer} → p ≡ down (first_part p) p' → q ≡ last (first_part q) → pointer_order p q ≡ More
+  pub order_right : {p' : Pointer} → p ≡ down (first_part p) p' → q ≡ last (first_part q) → pointer_order p q ≡ Greater
   unfolding pointer_order
   order_right l g = rw (l, g, e)
 

@@ -2,6 +2,8 @@
 --     between         what stands between two pointers that clash clashes with the first of them
 --     prefix-first    of two keys without a loose `~` whose pointers clash, the one whose pointer is not More is not after the other in byte order
 -- Assumes nothing.
+use Rattle.std.specs.declared.cmp.Ordering.{Ordering}
+use Rattle.std.specs.declared.cmp.Ordering.TheVariants.{Less, Equal, Greater}
 use mathlib.Core.Path.{◌≡◌, refl, ap, sym, ◌∙◌}
 use mathlib.Core.Logic.{◌≢◌}
 use mathlib.Core.Bool.{true, false, true≢false}
@@ -9,8 +11,6 @@ use mathlib.Core.List.{List, [], ◌∷◌, ◌++◌, append_assoc, append-nil}
 use Prim.Native.Nat.{ℕ}
 use Rattle.laws.specs.Order.{order_of, before, Earlier, begins, equal}
 use Rattle.laws.proofs.Orders.{flip, order_flip, order_refl, same_eq, same_refl, before_irrefl, before_asym, before_earlier}
-use Rattle.laws.specs.declared.Order.{Order}
-use Rattle.laws.specs.declared.Order.TheVariants.{Less, Same, More}
 use Rattle.text.specs.Doc.{Name}
 use Rattle.contact.specs.Pointer.{Pointer, last, down, first_part, pointer_of, bad_tilde, clash}
 use Rattle.contact.specs.PointerText.{PartText, PointerText, one, more}
@@ -22,19 +22,19 @@ use Rattle.pointers.proofs.Laws.Orders.{name_eq, first_not_more}
 -- ---- the same first part
 
 -- two names, neither of which is More than the other
-squeeze : (n m : Name) → order_of n m ≢ More → order_of m n ≢ More → n ≡ m
+squeeze : (n m : Name) → order_of n m ≢ Greater → order_of m n ≢ Greater → n ≡ m
 squeeze n m f g = go (order_of n m) refl
   where
-    go : (o : Order) → order_of n m ≡ o → n ≡ m
+    go : (o : Ordering) → order_of n m ≡ o → n ≡ m
     go Less e = absurd (g (order_flip n m ∙ ap flip e))
-    go Same e = name_eq n m e
-    go More e = absurd (f e)
+    go Equal e = name_eq n m e
+    go Greater e = absurd (f e)
 
 past : (n : Name) (p q : Pointer) → pointer_order (down n p) (down n q) ≡ pointer_order p q
 unfolding pointer_order
 past n p q = rw (order_refl n)
 
-end_after : (n : Name) (p : Pointer) → pointer_order (down n p) (last n) ≡ More
+end_after : (n : Name) (p : Pointer) → pointer_order (down n p) (last n) ≡ Greater
 unfolding pointer_order
 end_after n p = rw (order_refl n)
 
@@ -50,10 +50,10 @@ clash_past n p q = rw (same_refl n)
 -- ---- between two that clash
 
 -- the first parts of what stands between two with the same first part
-middle : (p m q : Pointer) → pointer_order p m ≢ More → pointer_order m q ≢ More → clash p q ≡ true → first_part p ≡ first_part m
+middle : (p m q : Pointer) → pointer_order p m ≢ Greater → pointer_order m q ≢ Greater → clash p q ≡ true → first_part p ≡ first_part m
 middle p m q f g c = squeeze (first_part p) (first_part m) (first_not_more p m f) (rw (clash_first p q c) (first_not_more m q g))
 
-pub between : (p m q : Pointer) → pointer_order p m ≢ More → pointer_order m q ≢ More → clash p q ≡ true → clash p m ≡ true
+pub between : (p m q : Pointer) → pointer_order p m ≢ Greater → pointer_order m q ≢ Greater → clash p q ≡ true → clash p m ≡ true
 between (last n) (last m) q f g c = same_yes (middle (last n) (last m) q f g c)
 between (last n) (down m r) q f g c = same_yes (middle (last n) (down m r) q f g c)
 between (down n p) (last m) q f g c = same_yes (middle (down n p) (last m) q f g c)
@@ -77,7 +77,7 @@ one_text : {bs cs : List ℕ} {n m : Name} → n ≡ m → PartText bs n → Par
 one_text e x y = sym (part_one x (rw e y))
 
 -- what is written begins what is written of the other
-begun : {k l : List ℕ} {p q : Pointer} → PointerText k p → PointerText l q → clash p q ≡ true → pointer_order p q ≢ More → (r : List ℕ) × (l ≡ k ++ r)
+begun : {k l : List ℕ} {p q : Pointer} → PointerText k p → PointerText l q → clash p q ≡ true → pointer_order p q ≢ Greater → (r : List ℕ) × (l ≡ k ++ r)
 begun {k} (one {n = n} x) (one {n = m} y) c h =
     let e : n ≡ m = clash_first (last n) (last m) c in
     ([], one_text e x y ∙ sym (append-nil k))
@@ -101,7 +101,7 @@ not_after k [] = rw append-nil (before_irrefl k)
 not_after k (b ∷ r) = before_asym k (k ++ (b ∷ r)) ((before_earlier k (k ++ (b ∷ r))).1 (earlier_longer k b r))
 
 pub prefix_first : (k l : Name) → bad_tilde k ≡ false → bad_tilde l ≡ false → clash (pointer_of k) (pointer_of l) ≡ true
-    → pointer_order (pointer_of k) (pointer_of l) ≢ More → before l k ≡ false
+    → pointer_order (pointer_of k) (pointer_of l) ≢ Greater → before l k ≡ false
 prefix_first k l a b c h =
     let (r, e) = begun ((pointer_iff k (pointer_of k)).1 (a, refl)) ((pointer_iff l (pointer_of l)).1 (b, refl)) c h in
     rw e (not_after k r)

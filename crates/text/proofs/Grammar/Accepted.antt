@@ -1,5 +1,6 @@
 -- Accepted exactly: a text is read with a tree if and only if it derives that tree from the grammar, its strings and names spell, the names in each object
 -- are distinct, and the limits hold (`accepts`), for any limits. A text of bytes that is read is read to its end (`accepts_whole`). Assumes nothing.
+use Rattle.std.specs.Prelude.{Ok}
 use mathlib.Core.Path.{◌≡◌, refl, sym, ap, subst, ◌∙◌}
 use mathlib.Core.List.{List}
 use mathlib.Core.Logic.{◌↔◌, ◌⊎◌, ⊎_elim}
@@ -19,7 +20,6 @@ use Rattle.text.specs.Placed.{Quoted}
 use Rattle.text.specs.Grammar.{JsonText, root_of, value}
 use Rattle.text.specs.Seats.{Head, Seat, top, Sits}
 use Rattle.text.specs.Meaning.{Accepts}
-use Rattle.text.specs.declared.Token.TheVariants.{End}
 use Rattle.text.specs.declared.Refusal.{Refusal}
 use Rattle.text.proofs.Induction.{read_accepted}
 use Rattle.text.proofs.Grammar.Exact.{PastPlace}
@@ -57,7 +57,7 @@ module _ (L : Limits) (t : List ℕ) where
 
   -- ---- as it should be, so it is read ----
 
-  name_closed : {f : Forest} {d : Seat} {h : Head} (j : ℕ) → Accepts L t f → Sits top f d h → h.ns ≡ j + 1 → quoted_at t j ≡ End (h.ne + 1)
+  name_closed : {f : Forest} {d : Seat} {h : Head} (j : ℕ) → Accepts L t f → Sits top f d h → h.ns ≡ j + 1 → quoted_at t j ≡ Ok (h.ne + 1)
   name_closed {d} {h} j a i k = quoted_end t j (subst (λ (n : ℕ). Quoted t n h.ne) k (a.names d h i (omega arith)))
 
   -- its values have nothing wrong
@@ -65,7 +65,7 @@ module _ (L : Limits) (t : List ℕ) where
   accepts_clean {d} {h} a i (string k z) = three_end z (quoted_end t h.from (a.strings d h i k))
   accepts_clean {d} {h} a i (name j k z) = three_end z (name_closed j a i k)
   accepts_clean {d} {h} {x} a i (again {e} u k z n) =
-      let same_end : End e ≡ End (h.ne + 1) = sym z ∙ name_closed x a i k in
+      let same_end : Ok e ≡ Ok (h.ne + 1) = sym z ∙ name_closed x a i k in
       let end : e ≡ h.ne + 1 = cc in
       let last : e - 1 ≡ h.ne = omega arith in
       let p : Spells (part_of t h.ns h.ne) n.codes = rw (k, ← last) n.spells in

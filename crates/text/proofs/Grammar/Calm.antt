@@ -1,5 +1,8 @@
 -- Nothing wrong is passed over (`calm`): where a text is like a derived part as far as a place q, and something is wrong with a value of the part's tree before
 -- q, then the definition refuses, and of no later place, nor of that place with a larger number. By induction on the derivation. Assumes nothing.
+use Rattle.std.specs.Prelude.{Result, Ok, Err}
+use Rattle.text.specs.declared.Fault.{Fault}
+use Rattle.text.specs.declared.Fault.TheVariants.{Malformed, Forbidden}
 use mathlib.Core.Path.{◌≡◌, refl, sym, ◌∙◌}
 use mathlib.Core.List.{List, [], ◌∷◌, ◌++◌, append_assoc}
 use mathlib.Core.Bool.{true, false}
@@ -18,8 +21,6 @@ use Rattle.text.specs.Tree.{Bracket, Forest, none, leaf, node, size, join}
 use Rattle.text.specs.Reader.{Read, good, bad, scalar_with, scalar_at, close_of, container, deep, after_item, items_from, inside_of, named, colon_at, member_with, value_at}
 use Rattle.text.specs.Grammar.{Ws, JsonString, Simple, simple_kind, IsSimple, opening, Phrase, value, item, items, Is, simple, empty, full, element, member, one, comma, tree_of, closing}
 use Rattle.text.specs.Seats.{Head, Seat, under, behind, Sits}
-use Rattle.text.specs.declared.Token.{Token}
-use Rattle.text.specs.declared.Token.TheVariants.{End, No2, No3}
 use Rattle.text.specs.declared.Refusal.{Refusal}
 use Rattle.text.specs.declared.Refusal.TheVariants.{Deep, Character, Repeated}
 use Rattle.text.proofs.Grammar.Stands.{clash, Like, stands_inside, like_tail, like_skip, like_here}
@@ -199,7 +200,7 @@ module _ (L : Limits) (t : List ℕ) (q : ℕ) where
         (λ n. absurd (omega (arith, (skip_stuck L t q (58 ∷ (r ++ (w ++ z))) j p refl l n).word)))
 
     -- its name is closed: known already, or new
-    module _ (a : ℕ) (k : quoted_at t at ≡ End a) where
+    module _ (a : ℕ) (k : quoted_at t at ≡ Ok a) where
       known_time : (m x : ℕ) → Whence L t c.beside (at + 1) begin m x → InTime m x (bad (Repeated at))
       known_time m x (by_name_lem (spelled b e y)) = let l : b ≡ at = omega arith in three_end (rw l at y) k
       known_time m x (by_name_lem (known b e y n)) = in_time {r = Repeated at} (omega arith)
@@ -209,7 +210,7 @@ module _ (L : Limits) (t : List ℕ) (q : ℕ) where
       new_names new m x (spelled b e y) lt = let l : b ≡ at = omega arith in three_end (rw l at y) k
       new_names new m x (known {e = f} b e y n) lt =
           let l : x ≡ at = omega arith in
-          let same_end : End f ≡ End a = sym (rw l at y) ∙ k in
+          let same_end : Ok f ≡ Ok a = sym (rw l at y) ∙ k in
           let l₂ : f ≡ a = cc in
           clash (named t (name_of t (at + 1) (a - 1)) c.beside) (known_named t (rw (l, l₂) at n)) (new b)
 
@@ -224,17 +225,17 @@ module _ (L : Limits) (t : List ℕ) (q : ℕ) where
     member_time : (GoodNames c.beside (at + 1) → begin ≤ length t → Calm c (tree_of d (at + 1) (at + length v - 1) begin)
         (value_at L t depth (at + 1) (at + length v - 1) begin c.after))
         → (e : Seat) (f : Head) (m x : ℕ) → Sits c (tree_of d (at + 1) (at + length v - 1) begin) e f → Wrong L t e f m x → x < q
-        → (key : Token) → quoted_at t at ≡ key → TokenSays t JsonString at key → TokenFollows q (at + length v) key → Whence L t c.beside (at + 1) begin m x
+        → (key : Result ℕ (Fault ℕ)) → quoted_at t at ≡ key → TokenSays t JsonString at key → TokenFollows q (at + length v) key → Whence L t c.beside (at + 1) begin m x
         → InTime m x (member_with L t (value_at L t depth) c.beside at c.after key)
     unfolding member_with
-    member_time g e f m x j y lt (No2 a) k n u (by_name_lem (spelled b o₂ z₂)) = let l : b ≡ at = omega arith in no_two k (rw l at z₂)
-    member_time g e f m x j y lt (No2 a) k n u (by_name_lem (known b o₂ z₂ n₂)) = let l : x ≡ at = omega arith in no_end k (rw l at z₂)
-    member_time g e f m x j y lt (No2 a) k n u (within o₂) = absurd (omega (arith, u.word))
-    member_time g e f m x j y lt (No3 a) k n u (by_name_lem (spelled b o₂ z₂)) = let l : b ≡ at = omega arith in let l₂ = same_three k (rw l at z₂) in in_time {r = Character a} (omega arith)
-    member_time g e f m x j y lt (No3 a) k n u (by_name_lem (known b o₂ z₂ n₂)) = let l : x ≡ at = omega arith in three_end k (rw l at z₂)
-    member_time g e f m x j y lt (No3 a) k n (inl u) (within o₂) = absurd (omega arith)
-    member_time g e f m x j y lt (No3 a) k n (inr u) (within o₂) = in_time {r = Character a} (omega arith)
-    member_time g e f m x j y lt (End a) k n u whence =
+    member_time g e f m x j y lt (Err (Malformed a)) k n u (by_name_lem (spelled b o₂ z₂)) = let l : b ≡ at = omega arith in no_two k (rw l at z₂)
+    member_time g e f m x j y lt (Err (Malformed a)) k n u (by_name_lem (known b o₂ z₂ n₂)) = let l : x ≡ at = omega arith in no_end k (rw l at z₂)
+    member_time g e f m x j y lt (Err (Malformed a)) k n u (within o₂) = absurd (omega (arith, u.word))
+    member_time g e f m x j y lt (Err (Forbidden a)) k n u (by_name_lem (spelled b o₂ z₂)) = let l : b ≡ at = omega arith in let l₂ = same_three k (rw l at z₂) in in_time {r = Character a} (omega arith)
+    member_time g e f m x j y lt (Err (Forbidden a)) k n u (by_name_lem (known b o₂ z₂ n₂)) = let l : x ≡ at = omega arith in three_end k (rw l at z₂)
+    member_time g e f m x j y lt (Err (Forbidden a)) k n (inl u) (within o₂) = absurd (omega arith)
+    member_time g e f m x j y lt (Err (Forbidden a)) k n (inr u) (within o₂) = in_time {r = Character a} (omega arith)
+    member_time g e f m x j y lt (Ok a) k n u whence =
         let new : GoodNames c.beside (at + 1) → InTime m x (colon_at t (value_at L t depth) at a c.after) =
         λ names. new_time a k e f m x j y lt (stands_inside n.stands i) u names (g names) whence in
         if_true (InTime m x) L.unique

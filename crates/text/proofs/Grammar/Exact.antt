@@ -3,6 +3,9 @@
 --     follow    where the text is like a word of L and what may follow it, as far as a place q, f ends where the word ends; or q is still in the word, and f
 --               answers of q or a later place; or it refuses with 3, inside the word unless q is
 -- Assumes nothing.
+use Rattle.std.specs.Prelude.{Result, Ok, Err}
+use Rattle.text.specs.declared.Fault.{Fault}
+use Rattle.text.specs.declared.Fault.TheVariants.{Malformed, Forbidden}
 use mathlib.Core.Path.{◌≡◌, refl, sym, ◌∙◌}
 use mathlib.Core.List.{List, [], ◌∷◌, ◌++◌, append_assoc}
 use mathlib.Core.Bool.{Bool, true, false, cond}
@@ -16,8 +19,6 @@ use Rattle.laws.proofs.Branches.{if_true}
 use Rattle.text.specs.Text.{byte_at}
 use Rattle.text.specs.Tokens.{run_end, then_at}
 use Rattle.text.specs.Abnf.{Byte, Seq, seq, Opt, Or, this, that, Star}
-use Rattle.text.specs.declared.Token.{Token}
-use Rattle.text.specs.declared.Token.TheVariants.{End, No2, No3}
 use Rattle.text.proofs.TokenEnds.{run_on_lem, run_end_lem}
 use Rattle.text.proofs.Grammar.Stands.{clash, by_order, BytesStand, Like, one_stands, stands_join, stands_to, stands_inside, like_none, like_more, like_join, like_tail, like_here, like_skip}
 
@@ -36,10 +37,10 @@ pub record Begun (t : List ℕ) (L : List ℕ → Type 0) (at q e : ℕ) : Type 
   pub within : e ≤ length t
 
 -- where 3 is refused, the byte at hand is still good
-abbrev pub TokenSays : List ℕ → (List ℕ → Type 0) → ℕ → Token → Type 0
-TokenSays t L at (End end) = HasWord t L at end
-TokenSays t L at (No2 q) = Begun t L at q q
-TokenSays t L at (No3 q) = Begun t L at q (q + 1)
+abbrev pub TokenSays : List ℕ → (List ℕ → Type 0) → ℕ → Result ℕ (Fault ℕ) → Type 0
+TokenSays t L at (Ok end) = HasWord t L at end
+TokenSays t L at (Err (Malformed q)) = Begun t L at q q
+TokenSays t L at (Err (Forbidden q)) = Begun t L at q (q + 1)
 
 -- the word that is expected up to `to` is not over at q, and neither is the answer of the place p
 pub record PastPlace (q to p : ℕ) : Type 0 where
@@ -47,23 +48,23 @@ pub record PastPlace (q to p : ℕ) : Type 0 where
   pub answer : q ≤ p
 
 -- a word that ends at `to` is expected, by a text that is like it as far as q
-abbrev pub TokenFollows : ℕ → ℕ → Token → Type 0
-TokenFollows q to (End end) = (end ≡ to) ⊎ PastPlace q to end
-TokenFollows q to (No2 p) = PastPlace q to p
-TokenFollows q to (No3 p) = (q ≤ to) ⊎ (p < to)
+abbrev pub TokenFollows : ℕ → ℕ → Result ℕ (Fault ℕ) → Type 0
+TokenFollows q to (Ok end) = (end ≡ to) ⊎ PastPlace q to end
+TokenFollows q to (Err (Malformed p)) = PastPlace q to p
+TokenFollows q to (Err (Forbidden p)) = (q ≤ to) ⊎ (p < to)
 
-pub record Exact (t : List ℕ) (L : List ℕ → Type 0) (Ends : ℕ → Type 0) (f : ℕ → Token) : Type 0 where
+pub record Exact (t : List ℕ) (L : List ℕ → Type 0) (Ends : ℕ → Type 0) (f : ℕ → Result ℕ (Fault ℕ)) : Type 0 where
   pub some_word : List ℕ
   pub has : L some_word
   pub told : (at : ℕ) → at ≤ length t → TokenSays t L at (f at)
   pub follow : (q at : ℕ) (w s : List ℕ) → at ≤ length t → L w → Ends (byte_at s 0) → Like t q at (w ++ s) → TokenFollows q (at + length w) (f at)
 
 -- a stricter end, and another reader that answers the same
-pub ends_exact : {t : List ℕ} {L : List ℕ → Type 0} {E : ℕ → Type 0} {f : ℕ → Token} (F : ℕ → Type 0) → ((z : ℕ) → F z → E z) → Exact t L E f → Exact t L F f
+pub ends_exact : {t : List ℕ} {L : List ℕ → Type 0} {E : ℕ → Type 0} {f : ℕ → (Result ℕ (Fault ℕ))} (F : ℕ → Type 0) → ((z : ℕ) → F z → E z) → Exact t L E f → Exact t L F f
 ends_exact F h l =
     record { some_word = l.some_word; has = l.has; told = l.told; follow = λ q at w s i c o k. l.follow q at w s i c (h (byte_at s 0) o) k }
 
-pub same_exact : {t : List ℕ} {L : List ℕ → Type 0} {E : ℕ → Type 0} {f : ℕ → Token} (g : ℕ → Token) → ((at : ℕ) → f at ≡ g at) → Exact t L E f → Exact t L E g
+pub same_exact : {t : List ℕ} {L : List ℕ → Type 0} {E : ℕ → Type 0} {f : ℕ → (Result ℕ (Fault ℕ))} (g : ℕ → Result ℕ (Fault ℕ)) → ((at : ℕ) → f at ≡ g at) → Exact t L E f → Exact t L E g
 same_exact {t} {L} g e l =
     record {
       some_word = l.some_word;
@@ -73,26 +74,26 @@ same_exact {t} {L} g e l =
     }
 
 -- what is past q stays past it
-abbrev pub token_place : Token → ℕ
-token_place (End end) = end
-token_place (No2 place) = place
-token_place (No3 place) = place
+abbrev pub token_place : Result ℕ (Fault ℕ) → ℕ
+token_place (Ok end) = end
+token_place (Err (Malformed place)) = place
+token_place (Err (Forbidden place)) = place
 
-pub goes_past : (q to : ℕ) (k : Token) → q ≤ to → q ≤ token_place k → TokenFollows q to k
-goes_past q to (End end) l h = inr (record { word = l; answer = h })
-goes_past q to (No2 place) l h = record { word = l; answer = h }
-goes_past q to (No3 place) l h = inl l
+pub goes_past : (q to : ℕ) (k : Result ℕ (Fault ℕ)) → q ≤ to → q ≤ token_place k → TokenFollows q to k
+goes_past q to (Ok end) l h = inr (record { word = l; answer = h })
+goes_past q to (Err (Malformed place)) l h = record { word = l; answer = h }
+goes_past q to (Err (Forbidden place)) l h = inl l
 
-pub said_later : (t : List ℕ) (L : List ℕ → Type 0) (at : ℕ) (k : Token) → TokenSays t L at k → at ≤ token_place k
-said_later t L at (End end) s = omega (arith, stands_to s.stands)
-said_later t L at (No2 place) s = s.later
-said_later t L at (No3 place) s = s.later
+pub said_later : (t : List ℕ) (L : List ℕ → Type 0) (at : ℕ) (k : Result ℕ (Fault ℕ)) → TokenSays t L at k → at ≤ token_place k
+said_later t L at (Ok end) s = omega (arith, stands_to s.stands)
+said_later t L at (Err (Malformed place)) s = s.later
+said_later t L at (Err (Forbidden place)) s = s.later
 
 -- another language of the same words
-said_map : (t : List ℕ) (L M : List ℕ → Type 0) (at : ℕ) → ((w : List ℕ) → L w → M w) → (k : Token) → TokenSays t L at k → TokenSays t M at k
-said_map t L M at g (End end) s = record { word = s.word; is = g s.word s.is; stands = s.stands }
-said_map t L M at g (No2 q) s = record { word = s.word; is = g s.word s.is; like = s.like; later = s.later; within = s.within }
-said_map t L M at g (No3 q) s = record { word = s.word; is = g s.word s.is; like = s.like; later = s.later; within = s.within }
+said_map : (t : List ℕ) (L M : List ℕ → Type 0) (at : ℕ) → ((w : List ℕ) → L w → M w) → (k : Result ℕ (Fault ℕ)) → TokenSays t L at k → TokenSays t M at k
+said_map t L M at g (Ok end) s = record { word = s.word; is = g s.word s.is; stands = s.stands }
+said_map t L M at g (Err (Malformed q)) s = record { word = s.word; is = g s.word s.is; like = s.like; later = s.later; within = s.within }
+said_map t L M at g (Err (Forbidden q)) s = record { word = s.word; is = g s.word s.is; like = s.like; later = s.later; within = s.within }
 
 -- a test of a byte that tells what it should
 pub record TestOf (P : ℕ → Type 0) (is : ℕ → Bool) : Type 0 where
@@ -108,19 +109,19 @@ not_past {P} {is} h = go (is 256) refl
     go false e = refl
 
 -- readers of a byte, of a run of bytes, and of one, both or either of two rules
-abbrev pub byte_of : List ℕ → (ℕ → Bool) → ℕ → Token
-byte_of t is at = cond (is (byte_at t at)) (End (at + 1)) (No2 at)
+abbrev pub byte_of : List ℕ → (ℕ → Bool) → ℕ → Result ℕ (Fault ℕ)
+byte_of t is at = cond (is (byte_at t at)) (Ok (at + 1)) (Err (Malformed at))
 
-abbrev pub run_of : List ℕ → (ℕ → Bool) → ℕ → Token
-run_of t is at = End (run_end is t at)
+abbrev pub run_of : List ℕ → (ℕ → Bool) → ℕ → Result ℕ (Fault ℕ)
+run_of t is at = Ok (run_end is t at)
 
-abbrev pub seq_of : (ℕ → Token) → (ℕ → Token) → ℕ → Token
+abbrev pub seq_of : (ℕ → Result ℕ (Fault ℕ)) → (ℕ → Result ℕ (Fault ℕ)) → ℕ → Result ℕ (Fault ℕ)
 seq_of f g at = then_at g (f at)
 
-abbrev pub opt_of : List ℕ → (ℕ → Bool) → (ℕ → Token) → ℕ → Token
-opt_of t is f at = cond (is (byte_at t at)) (f at) (End at)
+abbrev pub opt_of : List ℕ → (ℕ → Bool) → (ℕ → Result ℕ (Fault ℕ)) → ℕ → Result ℕ (Fault ℕ)
+opt_of t is f at = cond (is (byte_at t at)) (f at) (Ok at)
 
-abbrev pub or_of : List ℕ → (ℕ → Bool) → (ℕ → Token) → (ℕ → Token) → ℕ → Token
+abbrev pub or_of : List ℕ → (ℕ → Bool) → (ℕ → Result ℕ (Fault ℕ)) → (ℕ → Result ℕ (Fault ℕ)) → ℕ → Result ℕ (Fault ℕ)
 or_of t is f g at = cond (is (byte_at t at)) (f at) (g at)
 
 module _ (t : List ℕ) where
@@ -176,7 +177,7 @@ module _ (t : List ℕ) where
         record { some_word = []; has = Star.none; told = λ at i. run_stands at; follow = λ q at w s i l o k. run_follow s l o k }
 
   -- one and then another
-  module _ (L M : List ℕ → Type 0) (E F : ℕ → Type 0) (f g : ℕ → Token) (l : Exact t L E f) (m : Exact t M F g) where
+  module _ (L M : List ℕ → Type 0) (E F : ℕ → Type 0) (f g : ℕ → Result ℕ (Fault ℕ)) (l : Exact t L E f) (m : Exact t M F g) where
     seq_broken : {at q e : ℕ} → Begun t L at q e → Begun t (Seq L M) at q e
     seq_broken s =
         record { word = s.word ++ m.some_word; is = seq s.is m.has; like = like_more m.some_word s.like; later = s.later; within = s.within }
@@ -185,25 +186,25 @@ module _ (t : List ℕ) where
     seq_later s v =
         record { word = s.word ++ v.word; is = seq s.is v.is; like = like_join s.stands v.like; later = omega (arith, stands_to s.stands, v.later); within = v.within }
 
-    seq_told : (at : ℕ) → at ≤ length t → (k : Token) → TokenSays t L at k → TokenSays t (Seq L M) at (then_at g k)
-    seq_told at i (No2 q) s = seq_broken s
-    seq_told at i (No3 q) s = seq_broken s
-    seq_told at i (End end) s = go (g end) (m.told end (stands_inside s.stands i))
+    seq_told : (at : ℕ) → at ≤ length t → (k : Result ℕ (Fault ℕ)) → TokenSays t L at k → TokenSays t (Seq L M) at (then_at g k)
+    seq_told at i (Err (Malformed q)) s = seq_broken s
+    seq_told at i (Err (Forbidden q)) s = seq_broken s
+    seq_told at i (Ok end) s = go (g end) (m.told end (stands_inside s.stands i))
       where
-        go : (k : Token) → TokenSays t M end k → TokenSays t (Seq L M) at k
-        go (End to) v = record { word = s.word ++ v.word; is = seq s.is v.is; stands = stands_join s.stands v.stands }
-        go (No2 q) v = seq_later s v
-        go (No3 q) v = seq_later s v
+        go : (k : Result ℕ (Fault ℕ)) → TokenSays t M end k → TokenSays t (Seq L M) at k
+        go (Ok to) v = record { word = s.word ++ v.word; is = seq s.is v.is; stands = stands_join s.stands v.stands }
+        go (Err (Malformed q)) v = seq_later s v
+        go (Err (Forbidden q)) v = seq_later s v
 
     after_follow : (q at : ℕ) (u v s : List ℕ) → at ≤ length t → M v → F (byte_at s 0) → Like t q at (u ++ (v ++ s))
-        → (k : Token) → TokenSays t L at k → TokenFollows q (at + length u) k → TokenFollows q (at + length (u ++ v)) (then_at g k)
-    after_follow q at u v s i d o h (No2 p) c n = record { word = omega (arith, n.word, length-append u v); answer = n.answer }
-    after_follow q at u v s i d o h (No3 p) c (inl n) = inl (omega (arith, length-append u v))
-    after_follow q at u v s i d o h (No3 p) c (inr n) = inr (omega (arith, length-append u v))
-    after_follow q at u v s i d o h (End end) c (inr n) =
+        → (k : Result ℕ (Fault ℕ)) → TokenSays t L at k → TokenFollows q (at + length u) k → TokenFollows q (at + length (u ++ v)) (then_at g k)
+    after_follow q at u v s i d o h (Err (Malformed p)) c n = record { word = omega (arith, n.word, length-append u v); answer = n.answer }
+    after_follow q at u v s i d o h (Err (Forbidden p)) c (inl n) = inl (omega (arith, length-append u v))
+    after_follow q at u v s i d o h (Err (Forbidden p)) c (inr n) = inr (omega (arith, length-append u v))
+    after_follow q at u v s i d o h (Ok end) c (inr n) =
         let j = stands_inside c.stands i in
         goes_past q (at + length (u ++ v)) (g end) (omega (arith, n.word, length-append u v)) (omega (arith, n.answer, said_later t M end (g end) (m.told end j)))
-    after_follow q at u v s i d o h (End end) c (inl n) =
+    after_follow q at u v s i d o h (Ok end) c (inl n) =
         let e : at + length (u ++ v) ≡ end + length v = omega (arith, length-append u v) in
         rw e (m.follow q end v s (stands_inside c.stands i) d o (rw (← n) at (like_skip u h)))
 
@@ -224,7 +225,7 @@ module _ (t : List ℕ) where
           }
 
   -- one or none, by the byte at hand
-  module _ (is : ℕ → Bool) (L : List ℕ → Type 0) (E : ℕ → Type 0) (f : ℕ → Token) (l : Exact t L E f) (first : (w s : List ℕ) → L w → is (byte_at (w ++ s) 0) ≡ true) where
+  module _ (is : ℕ → Bool) (L : List ℕ → Type 0) (E : ℕ → Type 0) (f : ℕ → Result ℕ (Fault ℕ)) (l : Exact t L E f) (first : (w s : List ℕ) → L w → is (byte_at (w ++ s) 0) ≡ true) where
     opt_follow : {q at : ℕ} {w : List ℕ} (s : List ℕ) → at ≤ length t → Opt L w → E (byte_at s 0) × (is (byte_at s 0) ≡ false) → Like t q at (w ++ s) → TokenFollows q (at + length w) (opt_of t is f at)
     opt_follow {q} {at} s i Opt.none o h =
         if_true (TokenFollows q (at + 0)) (is (byte_at t at))
@@ -248,7 +249,7 @@ module _ (t : List ℕ) where
         }
 
   -- one or another, by the byte at hand
-  module _ (is : ℕ → Bool) (L M : List ℕ → Type 0) (E F : ℕ → Type 0) (f g : ℕ → Token) (l : Exact t L E f) (m : Exact t M F g)
+  module _ (is : ℕ → Bool) (L M : List ℕ → Type 0) (E F : ℕ → Type 0) (f g : ℕ → Result ℕ (Fault ℕ)) (l : Exact t L E f) (m : Exact t M F g)
       (first : (w s : List ℕ) → L w → is (byte_at (w ++ s) 0) ≡ true) (second : (w s : List ℕ) → M w → is (byte_at (w ++ s) 0) ≡ false) where
     or_follow : {q at : ℕ} {w : List ℕ} (s : List ℕ) → at ≤ length t → Or L M w → E (byte_at s 0) × F (byte_at s 0) → Like t q at (w ++ s) → TokenFollows q (at + length w) (or_of t is f g at)
     or_follow {q} {at} s i (this {w} c) o h =

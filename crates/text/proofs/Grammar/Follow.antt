@@ -1,6 +1,9 @@
 -- What derives from the grammar is read (`follow`): where a text is like a derived part as far as a place q, the answer is as `Meets` says. By
 -- induction on the derivation. So with q past the end of the text the grammar's texts are accepted but for what is wrong with their values, and with q
 -- just behind a refusal's place no text of the grammar goes on as the text does, but for those in which that is wrong. Assumes nothing.
+use Rattle.std.specs.Prelude.{Result, Ok, Err}
+use Rattle.text.specs.declared.Fault.{Fault}
+use Rattle.text.specs.declared.Fault.TheVariants.{Malformed, Forbidden}
 use mathlib.Core.Path.{◌≡◌, refl, sym, subst, ◌∙◌}
 use mathlib.Core.List.{List, [], ◌∷◌, ◌++◌, append_assoc}
 use mathlib.Core.Bool.{false}
@@ -18,8 +21,6 @@ use Rattle.text.specs.Tree.{Bracket, square, curly, Forest, none, leaf, node, si
 use Rattle.text.specs.Reader.{Read, good, bad, Reader, scalar_with, scalar_at, container, deep, value_with, after_item, items_from, inside_of, named, colon_at, member_with, value_at}
 use Rattle.text.specs.Grammar.{Ws, JsonString, Simple, simple_kind, IsSimple, opening, Phrase, value, item, items, Is, simple, empty, full, element, member, one, comma, tree_of, closing}
 use Rattle.text.specs.Seats.{Seat, under, behind, Sits}
-use Rattle.text.specs.declared.Token.{Token}
-use Rattle.text.specs.declared.Token.TheVariants.{End, No2, No3}
 use Rattle.text.proofs.Grammar.Stands.{by_order, Like, stands_inside, like_none, like_tail, like_skip, like_here}
 use Rattle.text.proofs.Grammar.Exact.{TokenSays, PastPlace, TokenFollows}
 use Rattle.text.proofs.Grammar.Quotes.{quoted_at, string_exact}
@@ -69,12 +70,12 @@ module _ (L : Limits) (t : List ℕ) where
         (λ m. wrong Sits.leaf_here (many (omega arith)) sixth (inr (omega (arith, simple_long k w l))))
         (λ m. rw (token_simple t k at (rw (like_here h b) (simple_opens k w s l))) (go m (simple_of t k at) refl ((simple_exact t k).follow q at w s i l o h)))
       where
-        go : c.after < L.values → (key : Token) → simple_of t k at ≡ key → TokenFollows q (at + length w) key
+        go : c.after < L.values → (key : Result ℕ (Fault ℕ)) → simple_of t k at ≡ key → TokenFollows q (at + length w) key
             → MeetsNew L t q c (leaf (simple_kind k) ns ne at (at + length w) none) (at + length w) (scalar_with (simple_kind k) ns ne at key)
-        go m (End to) e (inl u) = rw u (same (omega arith))
-        go m (End to) e (inr u) = past u.word u.answer
-        go m (No2 x) e u = past u.word u.answer
-        go m (No3 x) e u = let f = three_text t k at x e in wrong Sits.leaf_here (string f (sym (kind_text t k at f) ∙ e)) third u
+        go m (Ok to) e (inl u) = rw u (same (omega arith))
+        go m (Ok to) e (inr u) = past u.word u.answer
+        go m (Err (Malformed x)) e u = past u.word u.answer
+        go m (Err (Forbidden x)) e u = let f = three_text t k at x e in wrong Sits.leaf_here (string f (sym (kind_text t k at f) ∙ e)) third u
 
     -- ---- a container, from what is inside it ----
 
@@ -255,14 +256,14 @@ module _ (L : Limits) (t : List ℕ) where
           (λ e. past (omega (arith, e.word)) (omega (arith, e.answer))) u)
 
       member_follow : NamesSpell t c.beside → ((ns ne at : ℕ) → at ≤ length t → Like t q at (w ++ z) → MeetsNew L t q c (tree_of d ns ne at) (at + length w) (value_at L t depth ns ne at c.after))
-          → (key : Token) → quoted_at t at ≡ key → TokenSays t JsonString at key → TokenFollows q (at + length m) key
+          → (key : Result ℕ (Fault ℕ)) → quoted_at t at ≡ key → TokenSays t JsonString at key → TokenFollows q (at + length m) key
           → MeetsNew L t q c tree_of_it end_of (member_with L t (value_at L t depth) c.beside at c.after key)
       unfolding member_with
-      member_follow names g (No2 x) e k u = past (omega (arith, u.word)) u.answer
-      member_follow names g (No3 x) e k u =
+      member_follow names g (Err (Malformed x)) e k u = past (omega (arith, u.word)) u.answer
+      member_follow names g (Err (Forbidden x)) e k u =
           let f = firstly c d (at + 1) (at + length m - 1) (at + length m + length s + 1 + length r) in wrong f.there (name at f.name e) third
           (⊎_elim (λ a. inl (omega arith)) (λ a. inr (omega arith)) u)
-      member_follow names g (End end) e k u =
+      member_follow names g (Ok end) e k u =
           let P = MeetsNew L t q c tree_of_it end_of in
           let colon = colon_follow g end (stands_inside k.stands i) u in
           if_true P L.unique

@@ -1,4 +1,6 @@
 -- Where something wrong with a derived part can stand: not before the part, but for the name that a value is given (`low`). Assumes nothing.
+use Rattle.std.specs.Prelude.{Ok, Err}
+use Rattle.text.specs.declared.Fault.TheVariants.{Forbidden}
 use mathlib.Core.Path.{◌≡◌, refl}
 use mathlib.Core.List.{List}
 use mathlib.Core.Bool.{true, false}
@@ -9,7 +11,6 @@ use Rattle.text.specs.Limits.{Limits}
 use Rattle.text.specs.Tree.{Bracket, Forest, none, leaf, node}
 use Rattle.text.specs.Grammar.{simple_kind, Phrase, value, item, items, Is, simple, empty, full, element, member, one, comma, tree_of}
 use Rattle.text.specs.Seats.{Head, Seat, under, behind, Sits}
-use Rattle.text.specs.declared.Token.TheVariants.{End, No3}
 use Rattle.text.proofs.Grammar.Stands.{clash}
 use Rattle.text.proofs.Grammar.Quotes.{quoted_at, bad_later}
 use Rattle.text.proofs.Grammar.Trees.{EitherOf, first, later, in_join, in_none}
@@ -19,8 +20,8 @@ use Rattle.text.proofs.Grammar.Wrong.{Wrong, string, name, again, deep, many, no
 module _ (L : Limits) (t : List ℕ) where
   -- the name that starts at ns, after these values, is wrong
   pub data NameWrong (before : Forest) (ns : ℕ) : (number place : ℕ) → Type 0 where
-    spelled : (j : ℕ) {x : ℕ} → ns ≡ j + 1 → quoted_at t j ≡ No3 x → NameWrong before ns 3 x
-    known : {e x : ℕ} → L.unique ≡ true → ns ≡ x + 1 → quoted_at t x ≡ End e → KnownName t (x + 1) (e - 1) before → NameWrong before ns 4 x
+    spelled : (j : ℕ) {x : ℕ} → ns ≡ j + 1 → quoted_at t j ≡ Err (Forbidden x) → NameWrong before ns 3 x
+    known : {e x : ℕ} → L.unique ≡ true → ns ≡ x + 1 → quoted_at t x ≡ Ok e → KnownName t (x + 1) (e - 1) before → NameWrong before ns 4 x
 
   pub data Whence (before : Forest) (ns at : ℕ) (m x : ℕ) : Type 0 where
     by_name_lem : NameWrong before ns m x → Whence before ns at m x

@@ -1,5 +1,8 @@
 -- What is expected of an answer where the text is like a derived part as far as a place q: `Meets`. The definition reads the part with its tree; or it
 -- names what is wrong with a value of that tree; or q is still in the part, and it answers of q or a later place. Here: how answers are put together. Assumes nothing.
+use Rattle.std.specs.Prelude.{Result, Ok, Err}
+use Rattle.text.specs.declared.Fault.{Fault}
+use Rattle.text.specs.declared.Fault.TheVariants.{Malformed, Forbidden}
 use mathlib.Core.Path.{◌≡◌, refl}
 use mathlib.Core.List.{List, [], ◌∷◌, ◌++◌, append_assoc}
 use mathlib.Core.Bool.{Bool, true, false}
@@ -17,8 +20,6 @@ use Rattle.text.specs.Reader.{Read, good, bad, close_of}
 use Rattle.text.specs.Abnf.{Byte, Star}
 use Rattle.text.specs.Grammar.{Blank, Ws, quoted, Simple, nothing, falsity, truth, numeral, string, simple_kind, IsSimple, Phrase, value, Is, simple, empty, full, element, member, one, comma, tree_of, closing}
 use Rattle.text.specs.Seats.{Head, leaf_head, node_head, Seat, under, behind, Sits}
-use Rattle.text.specs.declared.Token.{Token}
-use Rattle.text.specs.declared.Token.TheVariants.{End, No2, No3}
 use Rattle.text.specs.declared.Refusal.{Refusal}
 use Rattle.text.specs.declared.Refusal.TheVariants.{TooLong, Grammar, Character, Repeated, Deep, Many, Small}
 use Rattle.text.proofs.Grammar.Words.{Behind, blank, blank_tells, simple_of, simple_first}
@@ -171,15 +172,15 @@ length_glued c v s r w = omega (arith, length-append v (s ++ c ∷ (r ++ w)), le
 
 -- ---- 3 is a string's alone ----
 
-data NoThree : Token → Type 0 where
-  ends : {to : ℕ} → NoThree (End to)
-  second : {p : ℕ} → NoThree (No2 p)
+data NoThree : Result ℕ (Fault ℕ) → Type 0 where
+  ends : {to : ℕ} → NoThree (Ok to)
+  second : {p : ℕ} → NoThree (Err (Malformed p))
 
-not_three : {A : Type 0} {k : Token} {x : ℕ} → NoThree k → k ≡ No3 x → A
+not_three : {A : Type 0} {k : (Result ℕ (Fault ℕ))} {x : ℕ} → NoThree k → k ≡ Err (Forbidden x) → A
 not_three ends e = let z : ◌≡◌ {A = ℕ} 0 1 = cc in absurd (omega arith)
 not_three second e = let z : ◌≡◌ {A = ℕ} 0 1 = cc in absurd (omega arith)
 
-then_three : {f : ℕ → Token} {k : Token} → ((to : ℕ) → NoThree (f to)) → NoThree k → NoThree (then_at f k)
+then_three : {f : ℕ → (Result ℕ (Fault ℕ))} {k : (Result ℕ (Fault ℕ))} → ((to : ℕ) → NoThree (f to)) → NoThree k → NoThree (then_at f k)
 then_three p (ends {to}) = p to
 then_three p second = second
 
@@ -211,7 +212,7 @@ module _ (t : List ℕ) where
   unfolding number_at
   number_three at = then_three exp_three (then_three frac_three (int_three (minus_end t at)))
 
-  pub three_text : (k : Simple) (at x : ℕ) → simple_of t k at ≡ No3 x → simple_kind k ≡ 5
+  pub three_text : (k : Simple) (at x : ℕ) → simple_of t k at ≡ Err (Forbidden x) → simple_kind k ≡ 5
   three_text nothing at x e = not_three (word_three _ at) e
   three_text falsity at x e = not_three (word_three _ at) e
   three_text truth at x e = not_three (word_three _ at) e

@@ -1,4 +1,7 @@
 -- RFC 8259's number is read as its grammar says (`number_exact`), and a refusal's place is the first byte that can't continue. Assumes nothing.
+use Rattle.std.specs.Prelude.{Result, Ok, Err}
+use Rattle.text.specs.declared.Fault.{Fault}
+use Rattle.text.specs.declared.Fault.TheVariants.{Malformed}
 use mathlib.Core.Path.{◌≡◌, refl}
 use mathlib.Core.List.{List, ◌++◌}
 use mathlib.Core.Bool.{Bool, true, false, cond}
@@ -11,8 +14,6 @@ use Rattle.text.specs.Text.{byte_at}
 use Rattle.text.specs.Tokens.{is_digit, then_at, digits_at, minus_end, int_at, frac_at, sign_end, exp_at, number_at}
 use Rattle.text.specs.Abnf.{Byte, Between, Just, Seq, seq, Opt, this, that, Star}
 use Rattle.text.specs.Grammar.{Digit, Digits, Int, Frac, E, Sign, Exp, Number}
-use Rattle.text.specs.declared.Token.{Token}
-use Rattle.text.specs.declared.Token.TheVariants.{End, No2}
 use Rattle.text.proofs.Grammar.Stands.{clash}
 use Rattle.text.proofs.Grammar.Exact.{Exact, TestOf, byte_of, run_of, seq_of, opt_of, or_of, ends_exact, same_exact, byte_exact, run_exact, seq_exact, opt_exact, or_exact}
 
@@ -101,17 +102,17 @@ pub record AfterNumber (z : ℕ) : Type 0 where
 module _ (t : List ℕ) where
   -- ---- the readers, as they are put together ----
 
-  minus_of : ℕ → Token
-  minus_of i = End (minus_end t i)
+  minus_of : ℕ → Result ℕ (Fault ℕ)
+  minus_of i = Ok (minus_end t i)
 
-  sign_of : ℕ → Token
-  sign_of i = End (sign_end t i)
+  sign_of : ℕ → Result ℕ (Fault ℕ)
+  sign_of i = Ok (sign_end t i)
 
   same_digits : (at : ℕ) → seq_of (byte_of t is_digit) (run_of t is_digit) at ≡ digits_at t at
   unfolding digits_at
   same_digits at = go (is_digit (byte_at t at))
     where
-      go : (c : Bool) → then_at (run_of t is_digit) (cond c (End (at + 1)) (No2 at)) ≡ cond c (run_of t is_digit (at + 1)) (No2 at)
+      go : (c : Bool) → then_at (run_of t is_digit) (cond c (Ok (at + 1)) (Err (Malformed at))) ≡ cond c (run_of t is_digit (at + 1)) (Err (Malformed at))
       go true = refl
       go false = refl
 
@@ -119,7 +120,7 @@ module _ (t : List ℕ) where
   unfolding minus_of minus_end
   same_minus at = go (eqb (byte_at t at) 45)
     where
-      go : (c : Bool) → cond c (cond c (End (at + 1)) (No2 at)) (End at) ≡ End (cond c (at + 1) at)
+      go : (c : Bool) → cond c (cond c (Ok (at + 1)) (Err (Malformed at))) (Ok at) ≡ Ok (cond c (at + 1) at)
       go true = refl
       go false = refl
 
@@ -127,7 +128,7 @@ module _ (t : List ℕ) where
   unfolding sign_of sign_end
   same_sign at = go (eqb (byte_at t at) 45) (eqb (byte_at t at) 43)
     where
-      go : (c d : Bool) → cond (cond c true d) (cond (cond c true d) (End (at + 1)) (No2 at)) (End at) ≡ End (cond c (at + 1) (cond d (at + 1) at))
+      go : (c d : Bool) → cond (cond c true d) (cond (cond c true d) (Ok (at + 1)) (Err (Malformed at))) (Ok at) ≡ Ok (cond c (at + 1) (cond d (at + 1) at))
       go true d = refl
       go false true = refl
       go false false = refl
@@ -142,13 +143,13 @@ module _ (t : List ℕ) where
   unfolding int_at digits_at
   same_int at = go (eqb (byte_at t at) 48) refl
     where
-      rest : (c : Bool) → then_at (run_of t is_digit) (cond c (End (at + 1)) (No2 at)) ≡ cond c (run_of t is_digit (at + 1)) (No2 at)
+      rest : (c : Bool) → then_at (run_of t is_digit) (cond c (Ok (at + 1)) (Err (Malformed at))) ≡ cond c (run_of t is_digit (at + 1)) (Err (Malformed at))
       rest true = refl
       rest false = refl
 
       go : (c : Bool) → eqb (byte_at t at) 48 ≡ c
-          → cond c (cond c (End (at + 1)) (No2 at)) (then_at (run_of t is_digit) (cond (is_between 49 58 (byte_at t at)) (End (at + 1)) (No2 at)))
-          ≡ cond c (End (at + 1)) (cond (is_digit (byte_at t at)) (run_of t is_digit (at + 1)) (No2 at))
+          → cond c (cond c (Ok (at + 1)) (Err (Malformed at))) (then_at (run_of t is_digit) (cond (is_between 49 58 (byte_at t at)) (Ok (at + 1)) (Err (Malformed at))))
+          ≡ cond c (Ok (at + 1)) (cond (is_digit (byte_at t at)) (run_of t is_digit (at + 1)) (Err (Malformed at)))
       go true e = refl
       go false e = rw (first_digit (byte_at t at) (eqb-false (byte_at t at) 48 e)) (rest (is_digit (byte_at t at)))
 
@@ -156,7 +157,7 @@ module _ (t : List ℕ) where
   unfolding frac_at
   same_frac at = go (eqb (byte_at t at) 46)
     where
-      go : (c : Bool) → cond c (then_at (digits_at t) (cond c (End (at + 1)) (No2 at))) (End at) ≡ cond c (digits_at t (at + 1)) (End at)
+      go : (c : Bool) → cond c (then_at (digits_at t) (cond c (Ok (at + 1)) (Err (Malformed at)))) (Ok at) ≡ cond c (digits_at t (at + 1)) (Ok at)
       go true = refl
       go false = refl
 
@@ -164,10 +165,10 @@ module _ (t : List ℕ) where
   unfolding exp_at sign_of
   same_exp at = go (eqb (byte_at t at) 101) (eqb (byte_at t at) 69)
     where
-      all : ℕ → Token
+      all : ℕ → Result ℕ (Fault ℕ)
       all i = digits_at t (sign_end t i)
 
-      go : (c d : Bool) → cond (cond c true d) (then_at all (cond (cond c true d) (End (at + 1)) (No2 at))) (End at) ≡ cond c (all (at + 1)) (cond d (all (at + 1)) (End at))
+      go : (c d : Bool) → cond (cond c true d) (then_at all (cond (cond c true d) (Ok (at + 1)) (Err (Malformed at)))) (Ok at) ≡ cond c (all (at + 1)) (cond d (all (at + 1)) (Ok at))
       go true d = refl
       go false true = refl
       go false false = refl

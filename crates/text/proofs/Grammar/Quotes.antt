@@ -1,5 +1,8 @@
 -- RFC 8259's string is read as its grammar says (`string_exact`). What the reading of a string answers is known by the rules of spelling
 -- (proofs/Spelling/Ends.antt); here they meet the grammar, in which a byte of 128 or more is a character by itself. Assumes nothing.
+use Rattle.std.specs.Prelude.{Result, Ok, Err}
+use Rattle.text.specs.declared.Fault.{Fault}
+use Rattle.text.specs.declared.Fault.TheVariants.{Malformed, Forbidden}
 use mathlib.Core.Path.{◌≡◌, refl, sym, ◌∙◌}
 use mathlib.Core.List.{List, [], ◌∷◌, ◌++◌, append_assoc}
 use mathlib.Core.Bool.{cond}
@@ -20,8 +23,6 @@ use Rattle.text.specs.Spelling.{Bare, HexDigit, Short, FourDigits, four, Spell, 
 use Rattle.text.specs.Broken.{HexDigits, Cut, control, ended, letter, digit, Aims, high, escape}
 use Rattle.text.specs.Abnf.{Star}
 use Rattle.text.specs.Grammar.{Unescaped, JsonChar, JsonString, quoted}
-use Rattle.text.specs.declared.Token.{Token}
-use Rattle.text.specs.declared.Token.TheVariants.{End, No2, No3}
 use Rattle.text.proofs.Spelling.Codes.{by_utf8}
 use Rattle.text.proofs.Spelling.Through.{SpellsTo}
 use Rattle.text.proofs.Spelling.Ends.{ClosedString, Refused2, StringAnswer, answers, no3_ill}
@@ -29,8 +30,8 @@ use Rattle.text.proofs.Grammar.Stands.{by_order, BytesStand, Like, stands_join, 
 use Rattle.text.proofs.Grammar.Exact.{HasWord, Begun, TokenSays, TokenFollows, Exact}
 
 -- a string with its quotation marks
-abbrev pub quoted_at : List ℕ → ℕ → Token
-quoted_at t at = cond (eqb (byte_at t at) 34) (string_end t (at + 1)) (No2 at)
+abbrev pub quoted_at : List ℕ → ℕ → Result ℕ (Fault ℕ)
+quoted_at t at = cond (eqb (byte_at t at) 34) (string_end t (at + 1)) (Err (Malformed at))
 
 -- ---- the rules of spelling and those of the grammar ----
 
@@ -192,10 +193,10 @@ module _ (t : List ℕ) where
         let o : e - 1 + 1 ≡ e = omega arith in
         record { word = 34 ∷ part_of t (at + 1) (e - 1) ++ 34 ∷ []; is = quoted (spells_chars a.spelled); stands = BytesStand.next q here (stands_join (closed_stands a) (rw o at z)) }
 
-    told_string : (k : Token) → StringAnswer t (at + 1) k → TokenSays t JsonString at k
-    told_string (End e) a = closed_string a
-    told_string (No2 p) a = cut_begun a
-    told_string (No3 p) a = aim_begun a.spells a.ill.aims refl
+    told_string : (k : Result ℕ (Fault ℕ)) → StringAnswer t (at + 1) k → TokenSays t JsonString at k
+    told_string (Ok e) a = closed_string a
+    told_string (Err (Malformed p)) a = cut_begun a
+    told_string (Err (Forbidden p)) a = aim_begun a.spells a.ill.aims refl
 
   quoted_told : (at : ℕ) → at ≤ length t → TokenSays t JsonString at (quoted_at t at)
   quoted_told at i =
@@ -351,15 +352,15 @@ string_follow t q at w s (quoted {w = v} d) l =
         let n = stands_to b in
         at_cut c.cut b k (over_spells a.spells.spelled (spelled_stands t a.spells) (λ j h. k j (omega arith)) rest)
 
-    go : (k : Token) → StringAnswer t (at + 1) k → TokenFollows q (at + suc (length (v ++ 34 ∷ []))) k
-    go (End e) a =
+    go : (k : Result ℕ (Fault ℕ)) → StringAnswer t (at + 1) k → TokenFollows q (at + suc (length (v ++ 34 ∷ []))) k
+    go (Ok e) a =
         by_order (at + 1 + length v) q
         (λ k. inl (omega (arith, size, closed e a (λ j h m. omega arith) (λ m. omega arith))))
         (λ k. by_order (e - 1) q (λ h. inl (omega (arith, size, closed e a (λ j m n. omega arith) (λ m. h)))) (λ h. inr (record { word = omega (arith, size); answer = omega arith })))
-    go (No2 p) a =
+    go (Err (Malformed p)) a =
         by_order (at + 1 + length v) q (λ k. absurd (no_cut p a (λ j h m. omega arith)))
         (λ k. by_order p q (λ h. absurd (no_cut p a (λ j m n. omega arith))) (λ h. record { word = omega (arith, size); answer = h }))
-    go (No3 p) a =
+    go (Err (Forbidden p)) a =
         by_order (at + 1 + length v) q
         (λ k. let r = over_spells a.spells.spelled (spelled_stands t a.spells) (λ j h m. omega arith) rest in inr (omega (arith, size, r.size)))
         (λ k. inl (omega (arith, size)))
@@ -369,9 +370,9 @@ string_exact t =
     record { some_word = 34 ∷ 34 ∷ []; has = quoted Star.none; told = λ at i. quoted_told t at i; follow = λ q at w s i d o l. string_follow t q at w s d l }
 
 -- a refusal with 3 stands behind the opening quote
-pub bad_later : (t : List ℕ) (at x : ℕ) → quoted_at t at ≡ No3 x → at < x
+pub bad_later : (t : List ℕ) (at x : ℕ) → quoted_at t at ≡ Err (Forbidden x) → at < x
 bad_later t at x =
-    if_equal (λ (k : Token). k ≡ No3 x → at < x) (byte_at t at) 34
+    if_equal (λ (k : Result ℕ (Fault ℕ)). k ≡ Err (Forbidden x) → at < x) (byte_at t at) 34
     (λ b e. omega (arith, (no3_ill t (at + 1) x e).spells.place))
     (λ b e. let z : ◌≡◌ {A = ℕ} 0 1 = cc in absurd (omega arith))
 

@@ -3,6 +3,9 @@
 --     wrong-breaks, breaks-wrong    a value has something wrong exactly if it breaks a rule
 --     sane-string, sane-name, sane-new     a value that is read has a string and a name that spell, and a new name
 -- Assumes nothing.
+use Rattle.std.specs.Prelude.{Result, Ok, Err}
+use Rattle.text.specs.declared.Fault.{Fault}
+use Rattle.text.specs.declared.Fault.TheVariants.{Malformed, Forbidden}
 use mathlib.Core.Path.{◌≡◌, sym, subst}
 use mathlib.Core.List.{List}
 use mathlib.Core.Bool.{true}
@@ -19,8 +22,6 @@ use Rattle.text.specs.Broken.{Aims, Ill}
 use Rattle.text.specs.Placed.{Quoted}
 use Rattle.text.specs.Seats.{Head, Seat, Named}
 use Rattle.text.specs.Fault.{StringAt, ValueBreaks}
-use Rattle.text.specs.declared.Token.{Token}
-use Rattle.text.specs.declared.Token.TheVariants.{End, No2, No3}
 use Rattle.text.proofs.TokenBytes.{string_quoted}
 use Rattle.text.proofs.Spelling.Ends.{part_spells, spells_part, spells_ended, no3_ill, ill_no3}
 use Rattle.text.proofs.Grammar.Stands.{clash}
@@ -32,31 +33,31 @@ use Rattle.text.proofs.Grammar.Wrong.{Wrong, string, name, again, deep, many, Sa
 
 module _ (t : List ℕ) (j : ℕ) where
   -- a string that ends, or is refused with 3, has its opening quote
-  record Open (k : Token) : Type 0 where
+  record Open (k : Result ℕ (Fault ℕ)) : Type 0 where
     quote : byte_at t j ≡ 34
     answer : string_end t (j + 1) ≡ k
 
-  open_quote : (k : Token) → ((p : ℕ) → No2 p ≡ k → ⊥) → quoted_at t j ≡ k → Open k
+  open_quote : (k : Result ℕ (Fault ℕ)) → ((p : ℕ) → Err (Malformed p) ≡ k → ⊥) → quoted_at t j ≡ k → Open k
   open_quote k n =
-      if_equal (λ (a : Token). a ≡ k → Open k) (byte_at t j) 34 (λ b e. record { quote = b; answer = e }) (λ b e. absurd (n j e))
+      if_equal (λ (a : Result ℕ (Fault ℕ)). a ≡ k → Open k) (byte_at t j) 34 (λ b e. record { quote = b; answer = e }) (λ b e. absurd (n j e))
 
-  quoted_open : (k : Token) → byte_at t j ≡ 34 → string_end t (j + 1) ≡ k → quoted_at t j ≡ k
+  quoted_open : (k : Result ℕ (Fault ℕ)) → byte_at t j ≡ 34 → string_end t (j + 1) ≡ k → quoted_at t j ≡ k
   quoted_open k b e = rw b e
 
-  open_end : {e : ℕ} → quoted_at t j ≡ End e → Open (End e)
-  open_end {e} = open_quote (End e) (λ p z. let o : ◌≡◌ {A = ℕ} 0 1 = cc in omega arith)
+  open_end : {e : ℕ} → quoted_at t j ≡ Ok e → Open (Ok e)
+  open_end {e} = open_quote (Ok e) (λ p z. let o : ◌≡◌ {A = ℕ} 0 1 = cc in omega arith)
 
-  open_three : {x : ℕ} → quoted_at t j ≡ No3 x → Open (No3 x)
-  open_three {x} = open_quote (No3 x) (λ p z. let o : ◌≡◌ {A = ℕ} 0 1 = cc in omega arith)
+  open_three : {x : ℕ} → quoted_at t j ≡ Err (Forbidden x) → Open (Err (Forbidden x))
+  open_three {x} = open_quote (Err (Forbidden x)) (λ p z. let o : ◌≡◌ {A = ℕ} 0 1 = cc in omega arith)
 
-  pub end_quoted : {e : ℕ} → quoted_at t j ≡ End e → Quoted t (j + 1) (e - 1)
+  pub end_quoted : {e : ℕ} → quoted_at t j ≡ Ok e → Quoted t (j + 1) (e - 1)
   end_quoted {e} z = let o = open_end z in string_quoted t j e o.quote o.answer
 
-  pub quoted_end : {e : ℕ} → Quoted t (j + 1) e → quoted_at t j ≡ End (e + 1)
+  pub quoted_end : {e : ℕ} → Quoted t (j + 1) e → quoted_at t j ≡ Ok (e + 1)
   quoted_end {e} g =
       let b : j + 1 - 1 ≡ j = omega arith in
       let last : e + 1 - 1 ≡ e = omega arith in
-      quoted_open (End (e + 1)) (rw b at g.opens)
+      quoted_open (Ok (e + 1)) (rw b at g.opens)
       (spells_ended t (j + 1) (e + 1) (record {
         after = omega (arith, g.ordered);
         within_text = omega (arith, g.inside);
@@ -76,7 +77,7 @@ ill_inside t p i = omega (arith, some_bytes i.aims, length-drop p t)
 -- ---- one value ----
 
 module _ (L : Limits) (t : List ℕ) where
-  three_breaks : {d : Seat} {h : Head} {j x : ℕ} → StringAt h j → quoted_at t j ≡ No3 x → ValueBreaks L t d h 3 x
+  three_breaks : {d : Seat} {h : Head} {j x : ℕ} → StringAt h j → quoted_at t j ≡ Err (Forbidden x) → ValueBreaks L t d h 3 x
   three_breaks {j} {x} o z =
       let k = open_three t j z in
       let r = no3_ill t (j + 1) x k.answer in
@@ -90,14 +91,14 @@ module _ (L : Limits) (t : List ℕ) where
   wrong_breaks (deep o k) = ValueBreaks.deep o k
   wrong_breaks (many k) = ValueBreaks.many k
 
-  opening_wrong : {d : Seat} {h : Head} {j x : ℕ} → StringAt h j → quoted_at t j ≡ No3 x → Wrong L t d h 3 x
+  opening_wrong : {d : Seat} {h : Head} {j x : ℕ} → StringAt h j → quoted_at t j ≡ Err (Forbidden x) → Wrong L t d h 3 x
   opening_wrong (StringAt.value k) z = string k z
   opening_wrong (StringAt.name {j} k) z = name j k z
 
   pub breaks_wrong : {d : Seat} {h : Head} {m x : ℕ} → ValueBreaks L t d h m x → Wrong L t d h m x
   breaks_wrong (ValueBreaks.character {j} {p} o b l s i) =
       let n = ill_inside t p i in
-      opening_wrong o (quoted_open t j (No3 p) b (ill_no3 t (j + 1) p (record { spells = spells_part t (j + 1) p (omega arith) (omega arith) s; ill = i })))
+      opening_wrong o (quoted_open t j (Err (Forbidden p)) b (ill_no3 t (j + 1) p (record { spells = spells_part t (j + 1) p (omega arith) (omega arith) s; ill = i })))
   breaks_wrong {d} (ValueBreaks.repeated {p} {e} {codes} u k g s n) =
       let last : e + 1 - 1 ≡ e = omega arith in
       again u k (quoted_end t p g) (rw last (record { codes = codes; spells = s; there = n }))

@@ -2,6 +2,9 @@
 --     value-told, item-told           what is read of a value and of an item
 --     item-names                      the name of an item that is read spells
 -- Assumes nothing.
+use Rattle.std.specs.Prelude.{Result, Ok, Err}
+use Rattle.text.specs.declared.Fault.{Fault}
+use Rattle.text.specs.declared.Fault.TheVariants.{Malformed, Forbidden}
 use mathlib.Core.Path.{◌≡◌, refl, sym, ap, ap₂, subst, ◌∙◌}
 use mathlib.Core.List.{List, [], ◌∷◌, ◌++◌, append_assoc}
 use mathlib.Core.Bool.{Bool, true, false, cond}
@@ -24,8 +27,6 @@ use Rattle.text.specs.Reader.{Read, good, bad, Reader, ItemReader, scalar_with, 
 use Rattle.text.specs.Abnf.{Star}
 use Rattle.text.specs.Grammar.{Ws, JsonString, Simple, simple_kind, IsSimple, value, item, Is, simple, empty, full, element, member, tree_of}
 use Rattle.text.specs.Seats.{Seat, Sits}
-use Rattle.text.specs.declared.Token.{Token}
-use Rattle.text.specs.declared.Token.TheVariants.{End, No2, No3}
 use Rattle.text.specs.declared.Refusal.TheVariants.{Grammar}
 use Rattle.text.proofs.Grammar.Stands.{clash, BytesStand, Like, stands_join, stands_to, stands_inside, like_none, like_stands, like_more, like_join, like_less}
 use Rattle.text.proofs.Grammar.Exact.{HasWord, Begun, TokenSays}
@@ -41,17 +42,17 @@ abbrev pub item_at : Limits → List ℕ → ℕ → Bracket → ItemReader
 item_at L t depth square = λ done. value_at L t depth 0 0
 item_at L t depth curly = member_of L t (value_at L t depth)
 
-pub no_two : {A : Type 0} {k : Token} {p x : ℕ} → k ≡ No2 p → k ≡ No3 x → A
-no_two {A} {k} {p} {x} e f = let z : No2 p ≡ No3 x = sym e ∙ f in let o : ◌≡◌ {A = ℕ} 0 1 = cc in absurd (omega arith)
+pub no_two : {A : Type 0} {k : (Result ℕ (Fault ℕ))} {p x : ℕ} → k ≡ Err (Malformed p) → k ≡ Err (Forbidden x) → A
+no_two {A} {k} {p} {x} e f = let z : Err (Malformed p) ≡ Err (Forbidden x) = sym e ∙ f in let o : ◌≡◌ {A = ℕ} 0 1 = cc in absurd (omega arith)
 
-pub no_end : {A : Type 0} {k : Token} {p x : ℕ} → k ≡ No2 p → k ≡ End x → A
-no_end {A} {k} {p} {x} e f = let z : No2 p ≡ End x = sym e ∙ f in let o : ◌≡◌ {A = ℕ} 0 1 = cc in absurd (omega arith)
+pub no_end : {A : Type 0} {k : (Result ℕ (Fault ℕ))} {p x : ℕ} → k ≡ Err (Malformed p) → k ≡ Ok x → A
+no_end {A} {k} {p} {x} e f = let z : Err (Malformed p) ≡ Ok x = sym e ∙ f in let o : ◌≡◌ {A = ℕ} 0 1 = cc in absurd (omega arith)
 
-pub three_end : {A : Type 0} {k : Token} {p x : ℕ} → k ≡ No3 p → k ≡ End x → A
-three_end {A} {k} {p} {x} e f = let z : No3 p ≡ End x = sym e ∙ f in let o : ◌≡◌ {A = ℕ} 0 1 = cc in absurd (omega arith)
+pub three_end : {A : Type 0} {k : (Result ℕ (Fault ℕ))} {p x : ℕ} → k ≡ Err (Forbidden p) → k ≡ Ok x → A
+three_end {A} {k} {p} {x} e f = let z : Err (Forbidden p) ≡ Ok x = sym e ∙ f in let o : ◌≡◌ {A = ℕ} 0 1 = cc in absurd (omega arith)
 
-pub same_three : {k : Token} {p x : ℕ} → k ≡ No3 p → k ≡ No3 x → p ≡ x
-same_three {k} {p} {x} e f = let z : No3 p ≡ No3 x = sym e ∙ f in cc
+pub same_three : {k : (Result ℕ (Fault ℕ))} {p x : ℕ} → k ≡ Err (Forbidden p) → k ≡ Err (Forbidden x) → p ≡ x
+same_three {k} {p} {x} e f = let z : Err (Forbidden p) ≡ Err (Forbidden x) = sym e ∙ f in cc
 
 module _ (L : Limits) (t : List ℕ) where
   -- ---- a value that holds no others ----
@@ -70,9 +71,9 @@ module _ (L : Limits) (t : List ℕ) where
       })
       (λ m. rw (token_simple t k at (lead_opens k (byte_at t at) w d)) (go m (simple_of t k at) refl ((simple_exact t k).told at i)))
     where
-      go : c.after < L.values → (key : Token) → simple_of t k at ≡ key → TokenSays t (IsSimple k) at key
+      go : c.after < L.values → (key : Result ℕ (Fault ℕ)) → simple_of t k at ≡ key → TokenSays t (IsSimple k) at key
           → Told (Parsed L t value depth c ns ne at) (Viable L t value at) (scalar_with (simple_kind k) ns ne at key)
-      go m (End to) e s =
+      go m (Ok to) e s =
           record {
             word = s.word;
             is = simple k s.is;
@@ -80,7 +81,7 @@ module _ (L : Limits) (t : List ℕ) where
             trees = rw (stands_to s.stands);
             kept = kept_leaf L t g m (λ o. sym (kind_text t k at o) ∙ e);
           }
-      go m (No2 q) e s =
+      go m (Err (Malformed q)) e s =
           record {
             word = s.word;
             is = simple k s.is;
@@ -88,7 +89,7 @@ module _ (L : Limits) (t : List ℕ) where
             later = s.later;
             within = s.within;
           }
-      go m (No3 q) e s =
+      go m (Err (Forbidden q)) e s =
           record {
             word = s.word;
             is = simple k s.is;
@@ -163,7 +164,7 @@ module _ (L : Limits) (t : List ℕ) where
             kept = h.kept;
           }
 
-    colon_told : (read : Reader) → quoted_at t at ≡ End end → (L.unique ≡ true → named t (name_of t (at + 1) (end - 1)) c.beside ≡ false)
+    colon_told : (read : Reader) → quoted_at t at ≡ Ok end → (L.unique ≡ true → named t (name_of t (at + 1) (end - 1)) c.beside ≡ false)
         → ((at : ℕ) (ns ne : ℕ) → GoodName L t c.beside ns ne → at ≤ length t → Told (Parsed L t value depth c ns ne at) (Viable L t value at) (read ns ne at c.after))
         → Told (Parsed L t (item curly) depth c 0 0 at) (Viable L t (item curly) at) (colon_at t read at end c.after)
     unfolding colon_at tree_of
@@ -185,12 +186,12 @@ module _ (L : Limits) (t : List ℕ) where
 
   member_told : (read : Reader) (depth : ℕ) (c : Seat) (at : ℕ) → at ≤ length t
       → ((at : ℕ) (ns ne : ℕ) → GoodName L t c.beside ns ne → at ≤ length t → Told (Parsed L t value depth c ns ne at) (Viable L t value at) (read ns ne at c.after))
-      → (key : Token) → quoted_at t at ≡ key → TokenSays t JsonString at key
+      → (key : Result ℕ (Fault ℕ)) → quoted_at t at ≡ key → TokenSays t JsonString at key
       → Told (Parsed L t (item curly) depth c 0 0 at) (Viable L t (item curly) at) (member_with L t read c.beside at c.after key)
   unfolding member_with
-  member_told read depth c at i told (No2 q) e b = name_begun b
-  member_told read depth c at i told (No3 q) e b = name_begun b
-  member_told read depth c at i told (End end) e m =
+  member_told read depth c at i told (Err (Malformed q)) e b = name_begun b
+  member_told read depth c at i told (Err (Forbidden q)) e b = name_begun b
+  member_told read depth c at i told (Ok end) e m =
       let P = Told (Parsed L t (item curly) depth c 0 0 at) (Viable L t (item curly) at) in
       let l = stands_to m.stands in
       let n = string_long m.is in
@@ -211,7 +212,7 @@ module _ (L : Limits) (t : List ℕ) where
   unfolding member_of member_with
   quote_first read before at n = go (eqb (byte_at t at) 34)
     where
-      go : (c : Bool) → cond c (member_with L t read before at n (string_end t (at + 1))) (bad (Grammar at)) ≡ member_with L t read before at n (cond c (string_end t (at + 1)) (No2 at))
+      go : (c : Bool) → cond c (member_with L t read before at n (string_end t (at + 1))) (bad (Grammar at)) ≡ member_with L t read before at n (cond c (string_end t (at + 1)) (Err (Malformed at)))
       go true = refl
       go false = refl
 

@@ -1,5 +1,8 @@
 -- Where an answer's place is: not before the place that is asked, and inside the text. The name that a value is given does not matter to it.
 -- Assumes nothing.
+use Rattle.std.specs.Prelude.{Result, Ok, Err}
+use Rattle.text.specs.declared.Fault.{Fault}
+use Rattle.text.specs.declared.Fault.TheVariants.{Malformed, Forbidden}
 use mathlib.Core.Path.{◌≡◌, refl}
 use mathlib.Core.List.{List}
 use mathlib.Core.Bool.{Bool, true, false, cond}
@@ -14,8 +17,6 @@ use Rattle.text.specs.Tree.{Bracket, square, curly, Forest, none}
 use Rattle.text.specs.Grammar.{closing, value, item, items}
 use Rattle.text.specs.Reader.{Read, good, bad, Reader, scalar_with, scalar_at, close_of, container, deep, value_with, items_from, value_at}
 use Rattle.text.specs.Seats.{Seat}
-use Rattle.text.specs.declared.Token.{Token}
-use Rattle.text.specs.declared.Token.TheVariants.{End, No2, No3}
 use Rattle.text.specs.declared.Refusal.TheVariants.{Grammar, Many}
 use Rattle.text.proofs.Grammar.Stands.{stands_to, stands_inside}
 use Rattle.text.proofs.Grammar.Sound.{place_of, told_place, items_told, Parsed, Viable, ItemsStand}
@@ -36,11 +37,11 @@ module _ (L : Limits) (t : List ℕ) where
   unfolding Anonymous scalar_at scalar_with
   scalar_anonymous kind ns ne at n = go (leb L.values n) (token_at t kind at)
     where
-      go : (c : Bool) (k : Token) → place_of (cond c (bad (Many at)) (scalar_with kind ns ne at k)) ≡ place_of (cond c (bad (Many at)) (scalar_with kind 0 0 at k))
+      go : (c : Bool) (k : Result ℕ (Fault ℕ)) → place_of (cond c (bad (Many at)) (scalar_with kind ns ne at k)) ≡ place_of (cond c (bad (Many at)) (scalar_with kind 0 0 at k))
       go true k = refl
-      go false (End to) = refl
-      go false (No2 p) = refl
-      go false (No3 p) = refl
+      go false (Ok to) = refl
+      go false (Err (Malformed p)) = refl
+      go false (Err (Forbidden p)) = refl
 
   container_anonymous : (b : Bracket) (inside : ℕ → ℕ → Read) → Anonymous (container L b inside)
   unfolding Anonymous container close_of

@@ -4,6 +4,9 @@
 --     lead                         what a value's first byte begins
 --     simple-first                 the first byte of a value that holds no others
 -- Assumes nothing.
+use Rattle.std.specs.Prelude.{Result, Ok, Err}
+use Rattle.text.specs.declared.Fault.{Fault}
+use Rattle.text.specs.declared.Fault.TheVariants.{Malformed, Forbidden}
 use mathlib.Core.Path.{◌≡◌, refl, sym}
 use mathlib.Core.List.{List, [], ◌∷◌, ◌++◌}
 use mathlib.Core.Bool.{Bool, true, false, cond}
@@ -20,8 +23,6 @@ use Rattle.text.specs.Tokens.{is_space, skip, is_digit, word_at, number_at, kind
 use Rattle.text.specs.Tree.{Bracket, square, curly, bracket_kind}
 use Rattle.text.specs.Abnf.{Byte, Between, Exactly, exactly, seq, Opt, this, that, Star}
 use Rattle.text.specs.Grammar.{Blank, Ws, Number, JsonString, quoted, Simple, nothing, falsity, truth, numeral, string, simple_kind, IsSimple, opening, closing}
-use Rattle.text.specs.declared.Token.{Token}
-use Rattle.text.specs.declared.Token.TheVariants.{End, No2, No3}
 use Rattle.text.proofs.Grammar.Stands.{BytesStand, Like, stands_to, stands_inside, one_stands, stands_join, like_none, like_tail, like_stuck}
 use Rattle.text.proofs.Grammar.Exact.{HasWord, TokenSays, PastPlace, TokenFollows, Exact, TestOf, ends_exact, run_stands, run_exact}
 use Rattle.text.proofs.Grammar.Number.{AfterNumber, between, digit_tells, number_exact}
@@ -101,10 +102,10 @@ module _ (t : List ℕ) where
       (λ e. longer e (word_at t w (at + 1)) (word_told w b.1 (at + 1) (stands_inside (one_stands {t = t} e b.0) i)))
       (λ e. record { word = x ∷ w; is = exactly; like = like_none (x ∷ w) (le_refl at); later = le_refl at; within = i })
     where
-      longer : byte_at t at ≡ x → (k : Token) → TokenSays t (Exactly w) (at + 1) k → TokenSays t (Exactly (x ∷ w)) at k
-      longer e (End to) s = record { word = x ∷ s.word; is = rw (the_word s.is) exactly; stands = stands_join (one_stands e b.0) s.stands }
-      longer e (No2 q) s = record { word = x ∷ s.word; is = rw (the_word s.is) exactly; like = Like.next (λ l. e) s.like; later = omega (arith, s.later); within = s.within }
-      longer e (No3 q) s = record { word = x ∷ s.word; is = rw (the_word s.is) exactly; like = Like.next (λ l. e) s.like; later = omega (arith, s.later); within = s.within }
+      longer : byte_at t at ≡ x → (k : Result ℕ (Fault ℕ)) → TokenSays t (Exactly w) (at + 1) k → TokenSays t (Exactly (x ∷ w)) at k
+      longer e (Ok to) s = record { word = x ∷ s.word; is = rw (the_word s.is) exactly; stands = stands_join (one_stands e b.0) s.stands }
+      longer e (Err (Malformed q)) s = record { word = x ∷ s.word; is = rw (the_word s.is) exactly; like = Like.next (λ l. e) s.like; later = omega (arith, s.later); within = s.within }
+      longer e (Err (Forbidden q)) s = record { word = x ∷ s.word; is = rw (the_word s.is) exactly; like = Like.next (λ l. e) s.like; later = omega (arith, s.later); within = s.within }
 
   word_follow : (v : List ℕ) (q at : ℕ) (s : List ℕ) → Like t q at (v ++ s) → TokenFollows q (at + length v) (word_at t v at)
   unfolding word_at
@@ -122,7 +123,7 @@ module _ (t : List ℕ) where
 -- ---- the values that hold no others ----
 
 -- the reader of one
-abbrev pub simple_of : List ℕ → Simple → ℕ → Token
+abbrev pub simple_of : List ℕ → Simple → ℕ → Result ℕ (Fault ℕ)
 simple_of t nothing = word_at t (bytes "null")
 simple_of t falsity = word_at t (bytes "false")
 simple_of t truth = word_at t (bytes "true")

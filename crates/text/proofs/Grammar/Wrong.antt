@@ -2,6 +2,8 @@
 -- before it in its object spells, a container too deep, a value too many; and which of two wrongs comes first (`rank`).
 --     kept-leaf, kept-node, kept-join, kept-none     how values that are read are put together
 -- Assumes nothing.
+use Rattle.std.specs.Prelude.{Ok, Err}
+use Rattle.text.specs.declared.Fault.TheVariants.{Forbidden}
 use mathlib.Core.Path.{◌≡◌}
 use mathlib.Core.List.{List}
 use mathlib.Core.Bool.{true, false}
@@ -13,7 +15,6 @@ use Rattle.text.specs.Tree.{Bracket, square, curly, bracket_kind, Forest, none, 
 use Rattle.text.specs.Reader.{named}
 use Rattle.text.specs.Grammar.{depth_of}
 use Rattle.text.specs.Seats.{Head, Seat, under, behind, Sits}
-use Rattle.text.specs.declared.Token.TheVariants.{End, No3}
 use Rattle.text.proofs.Grammar.Quotes.{quoted_at}
 use Rattle.text.proofs.Grammar.Trees.{size_join, depth_join, EitherOf, first, later, in_join, in_none}
 use Rattle.text.proofs.Grammar.Names.{KnownName}
@@ -29,20 +30,20 @@ no_string curly e = omega arith
 module _ (L : Limits) (t : List ℕ) where
   -- the value h, which stands at d, breaks the rule of that number at that place
   pub data Wrong (d : Seat) (h : Head) : (number place : ℕ) → Type 0 where
-    string : {x : ℕ} → h.kind ≡ 5 → quoted_at t h.from ≡ No3 x → Wrong d h 3 x
-    name : (j : ℕ) {x : ℕ} → h.ns ≡ j + 1 → quoted_at t j ≡ No3 x → Wrong d h 3 x
-    again : {e x : ℕ} → L.unique ≡ true → h.ns ≡ x + 1 → quoted_at t x ≡ End e → KnownName t (x + 1) (e - 1) d.beside → Wrong d h 4 x
+    string : {x : ℕ} → h.kind ≡ 5 → quoted_at t h.from ≡ Err (Forbidden x) → Wrong d h 3 x
+    name : (j : ℕ) {x : ℕ} → h.ns ≡ j + 1 → quoted_at t j ≡ Err (Forbidden x) → Wrong d h 3 x
+    again : {e x : ℕ} → L.unique ≡ true → h.ns ≡ x + 1 → quoted_at t x ≡ Ok e → KnownName t (x + 1) (e - 1) d.beside → Wrong d h 4 x
     deep : h.holds ≡ true → d.inside ≡ L.depth → Wrong d h 5 h.from
     many : d.after ≡ L.values → Wrong d h 6 h.from
 
   -- a name that is read, after these values
   pub record GoodName (before : Forest) (ns ne : ℕ) : Type 0 where
-    pub closed : (j : ℕ) → ns ≡ j + 1 → quoted_at t j ≡ End (ne + 1)
+    pub closed : (j : ℕ) → ns ≡ j + 1 → quoted_at t j ≡ Ok (ne + 1)
     pub new : L.unique ≡ true → (j : ℕ) → ns ≡ j + 1 → named t (name_of t ns ne) before ≡ false
 
   -- a value that is read
   pub record Sane (d : Seat) (h : Head) : Type 0 where
-    pub closed : h.kind ≡ 5 → quoted_at t h.from ≡ End h.to
+    pub closed : h.kind ≡ 5 → quoted_at t h.from ≡ Ok h.to
     pub names : GoodName d.beside h.ns h.ne
 
   -- values that are read, where so many containers may be opened and the first stands at c
@@ -63,7 +64,7 @@ module _ (L : Limits) (t : List ℕ) where
       go d h (first i) = k.sane d h i
       go d h (later i) = l.sane d h i
 
-  pub kept_leaf : {depth : ℕ} {c : Seat} {kind ns ne at to : ℕ} → GoodName c.beside ns ne → c.after < L.values → (kind ≡ 5 → quoted_at t at ≡ End to)
+  pub kept_leaf : {depth : ℕ} {c : Seat} {kind ns ne at to : ℕ} → GoodName c.beside ns ne → c.after < L.values → (kind ≡ 5 → quoted_at t at ≡ Ok to)
       → Kept depth c (leaf kind ns ne at to none)
   unfolding depth_of size
   kept_leaf {depth} {c} {kind} {ns} {ne} {at} {to} g l s = record { shallow = omega arith; few = omega arith; sane = go }

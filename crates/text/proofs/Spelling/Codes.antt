@@ -5,6 +5,9 @@
 --     joined2, joined3, joined4    a code point is put together again from its bytes
 --     shown2, shown3, shown4       a good code point that was put together from bytes has them for its UTF-8
 -- Assumes nothing.
+use Rattle.std.specs.Prelude.{Option, Some, Result, Ok, Err}
+use Rattle.text.specs.declared.Fault.{Fault}
+use Rattle.text.specs.declared.Fault.TheVariants.{Forbidden}
 use mathlib.Core.Path.{◌≡◌, refl, ◌∙◌}
 use mathlib.Core.List.{List, [], ◌∷◌}
 use mathlib.Core.Logic.{◌⊎◌, inl, inr, ⊎_elim}
@@ -17,8 +20,6 @@ use Rattle.laws.proofs.Branches.{if_less}
 use Rattle.text.specs.Chars.{checked_at, tail_of, seq2, seq3, seq4}
 use Rattle.text.specs.Utf8.{Utf8, conts, utf8}
 use Rattle.text.specs.Spelling.{Noncharacter, block, last_two, Good}
-use Rattle.text.specs.declared.Step.{Step}
-use Rattle.text.specs.declared.Step.TheVariants.{Char, Bad3}
 use Rattle.text.proofs.Sequences.{by_seq2, by_seq3, by_seq4}
 use Rattle.text.proofs.Laws.{two, three, four}
 
@@ -59,12 +60,12 @@ large_bad c h g = let k = g.scalar.within_range in omega arith
 
 ruleset goodness = (low_good, middle_good, high_good, surrogate_bad, block_bad, plane_bad, large_bad)
 
-pub by_checked : (P : Step → Type 0) (i c n : ℕ) → (Good c → P (Char c n)) → ((Good c → ⊥) → P (Bad3 i)) → P (checked_at i c n)
+pub by_checked : (P : Result (Option (ℕ × ℕ)) (Fault ℕ) → Type 0) (i c n : ℕ) → (Good c → P (Ok (Some (c, n)))) → ((Good c → ⊥) → P (Err (Forbidden i))) → P (checked_at i c n)
 unfolding checked_at
 by_checked P i c n good bad = search (if_less P, goodness) depth 9
 
-pub good_checked : (i c n : ℕ) → Good c → checked_at i c n ≡ Char c n
-good_checked i c n g = by_checked (λ s. s ≡ Char c n) i c n (λ h. refl) (λ h. absurd (h g))
+pub good_checked : (i c n : ℕ) → Good c → checked_at i c n ≡ Ok (Some (c, n))
+good_checked i c n g = by_checked (λ s. s ≡ Ok (Some (c, n))) i c n (λ h. refl) (λ h. absurd (h g))
 
 pub ascii_good : (c : ℕ) → c < 128 → Good c
 ascii_good c h = low_good c (omega arith)

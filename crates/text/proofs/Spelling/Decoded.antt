@@ -4,6 +4,7 @@
 --     decode-spelled       bytes that spell decode to the UTF-8 of their code points: all of it, so decoding never stops early
 --     name-decoded         so does the inside of every string that ends
 -- Assumes nothing.
+use Rattle.std.specs.Prelude.{Some, Ok}
 use mathlib.Core.Path.{◌≡◌, refl, sym, ap, ap₂, ◌∙◌}
 use mathlib.Core.List.{List, [], ◌∷◌, ◌++◌, append_assoc, append-nil}
 use Prim.Native.Nat.{ℕ, ◌+◌, ◌-◌, ◌≤◌, ◌<◌}
@@ -17,8 +18,6 @@ use Rattle.text.specs.Chars.{escape_at}
 use Rattle.text.specs.Strings.{string_end, stop, piece, piece_by, decode_from, decode, name_of}
 use Rattle.text.specs.Utf8.{utf8}
 use Rattle.text.specs.Spelling.{Bare, Spell, raw, short, unit, pair, Spells, none, more, utf8s}
-use Rattle.text.specs.declared.Step.TheVariants.{Char}
-use Rattle.text.specs.declared.Token.TheVariants.{End}
 use Rattle.text.proofs.Walks.{decode_at, past_piece}
 use Rattle.text.proofs.Spelling.Codes.{by_utf8}
 use Rattle.text.proofs.Spelling.Taken.{backslash_step, spelled_step}
@@ -49,7 +48,7 @@ utf8_handed c u = let n = u.no_backslash in let m = u.no_quote in by_utf8 Handed
 -- any walk that hands on bytes other than quote and backslash, and that gives the UTF-8 of an escape
 module _ (t : List ℕ) (walk : ℕ → List ℕ)
     (byte : (i b : ℕ) → byte_at t i ≡ b → (b ≡ 34 → ⊥) → (b ≡ 92 → ⊥) → (b ≡ 256 → ⊥) → walk i ≡ b ∷ walk (i + 1))
-    (escape : (i c n : ℕ) → byte_at t i ≡ 92 → escape_at t i ≡ Char c n → walk i ≡ utf8 c ++ walk (i + n)) where
+    (escape : (i c n : ℕ) → byte_at t i ≡ 92 → escape_at t i ≡ Ok (Some (c, n)) → walk i ≡ utf8 c ++ walk (i + n)) where
   handed_on : (i : ℕ) (w r : List ℕ) → Handed w → drop i t ≡ w ++ r → walk i ≡ w ++ walk (i + length w)
   handed_on i [] r h e = ap walk (sym (add-zero i))
   handed_on i (b ∷ w) r h e =
@@ -82,7 +81,7 @@ decode_byte : (t : List ℕ) (i b : ℕ) → byte_at t i ≡ b → (b ≡ 92 →
 unfolding piece_by
 decode_byte t i b e s z = decode_at t i (piece (b ∷ []) 1) (simp (e, ne_eqb b 256 z, ne_eqb b 92 s))
 
-decode_escape : (t : List ℕ) (i c n : ℕ) → byte_at t i ≡ 92 → escape_at t i ≡ Char c n → decode_from t i ≡ utf8 c ++ decode_from t (i + n)
+decode_escape : (t : List ℕ) (i c n : ℕ) → byte_at t i ≡ 92 → escape_at t i ≡ Ok (Some (c, n)) → decode_from t i ≡ utf8 c ++ decode_from t (i + n)
 unfolding piece_by
 decode_escape t i c n e q = decode_at t i (piece (utf8 c) n) (rw (e, q))
 
@@ -94,5 +93,5 @@ decode_spelled {w} {cs} s =
     let l : length w ≤ 0 + length w = omega arith in
     decoded_through w 0 s [] (sym (append-nil w)) ∙ ap (λ (bs : List ℕ). utf8s cs ++ bs) (decode_at w (0 + length w) stop (past_piece w (0 + length w) l)) ∙ append-nil (utf8s cs)
 
-pub name_decoded : (t : List ℕ) (i e : ℕ) (q : string_end t i ≡ End e) → name_of t i (e - 1) ≡ utf8s (ended_spells t i e q).codes
+pub name_decoded : (t : List ℕ) (i e : ℕ) (q : string_end t i ≡ Ok e) → name_of t i (e - 1) ≡ utf8s (ended_spells t i e q).codes
 name_decoded t i e q = decode_spelled (ended_spells t i e q).spelled

@@ -3,6 +3,7 @@
 --     digit_value, is_digit        `digit_of` knows exactly the hexadecimal digits
 --     four-value, hex-at           `hex4_at` reads exactly four of them, and else says where the first lacks
 -- Assumes nothing.
+use Rattle.std.specs.Prelude.{Result, Ok, Err}
 use mathlib.Core.Path.{◌≡◌, refl, sym, subst, ◌∙◌}
 use mathlib.Core.List.{List, [], ◌∷◌, ◌++◌}
 use mathlib.Core.Bool.{cond}
@@ -19,8 +20,6 @@ use Rattle.text.specs.Chars.{letter_of, digit_of, hex4_of, digit_at, hex4_at}
 use Rattle.text.specs.Spelling.{HexDigit, decimal, capital, small, FourDigits, Short, quote, backslash, slash, backspace, form_feed, line_feed, carriage_return, tab}
 use Rattle.text.specs.Spelling as Rules
 use Rattle.text.specs.Broken.{HexDigits, none, more}
-use Rattle.text.specs.declared.Hex.{Hex}
-use Rattle.text.specs.declared.Hex.TheVariants.{Unit, Bad}
 
 -- ---- the letters of short escapes ----
 
@@ -117,7 +116,7 @@ no_digit b e v d = let h = digit_bounds d in let k = digit_value d in omega arit
 
 -- ---- four digits ----
 
-pub four_value : (t : List ℕ) (j : ℕ) {w : List ℕ} {u : ℕ} → FourDigits w u → (r : List ℕ) → drop j t ≡ w ++ r → hex4_at t j ≡ Unit u
+pub four_value : (t : List ℕ) (j : ℕ) {w : List ℕ} {u : ℕ} → FourDigits w u → (r : List ℕ) → drop j t ≡ w ++ r → hex4_at t j ≡ Ok u
 unfolding hex4_at hex4_of digit_at
 four_value t j (Rules.four {a} {b} {c} {d} {w} {x} {y} {z} p q m n) r e =
     let first : byte_at t j ≡ a = first_there t j a (b ∷ c ∷ d ∷ r) e 256 in
@@ -165,9 +164,9 @@ pub record FewAt (t : List ℕ) (j p : ℕ) : Type 0 where
   pub are : HexDigits digits
   pub lacks : (v : ℕ) → HexDigit (byte_at t p) v → ⊥
 
-abbrev pub HexAt : List ℕ → ℕ → Hex → Type 0
-HexAt t j (Unit u) = FourAt t j u
-HexAt t j (Bad p) = FewAt t j p
+abbrev pub HexAt : List ℕ → ℕ → Result ℕ ℕ → Type 0
+HexAt t j (Ok u) = FourAt t j u
+HexAt t j (Err p) = FewAt t j p
 
 -- the text from j on begins with these bytes
 pub next_byte : (t : List ℕ) (j k b : ℕ) (r : List ℕ) → byte_at t j ≡ b → b < 256 → j + 1 ≡ k → drop k t ≡ r → drop j t ≡ b ∷ r

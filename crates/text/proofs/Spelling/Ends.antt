@@ -4,6 +4,9 @@
 --     no3-ill, ill-no3               3 at p: bytes that spell up to p, and there bytes that aim at a character and begin with none
 -- No bound on the elements of the text is asked: what is no byte is taken as the end.
 -- Assumes nothing.
+use Rattle.std.specs.Prelude.{Option, Some, None, Result, Ok, Err}
+use Rattle.text.specs.declared.Fault.{Fault}
+use Rattle.text.specs.declared.Fault.TheVariants.{Malformed, Forbidden}
 use mathlib.Core.Path.{◌≡◌, ap, subst, ◌∙◌}
 use mathlib.Core.List.{List}
 use Prim.Native.Nat.{ℕ, ◌+◌, ◌-◌, ◌≤◌, ◌<◌}
@@ -17,10 +20,6 @@ use Rattle.text.specs.Chars.{step_at}
 use Rattle.text.specs.Strings.{on_step, string_end}
 use Rattle.text.specs.Spelling.{Spells}
 use Rattle.text.specs.Broken.{Ill}
-use Rattle.text.specs.declared.Step.{Step}
-use Rattle.text.specs.declared.Step.TheVariants.{Close, Char, Bad2, Bad3}
-use Rattle.text.specs.declared.Token.{Token}
-use Rattle.text.specs.declared.Token.TheVariants.{End, No2, No3}
 use Rattle.text.proofs.Walks.{end_at_lem}
 use Rattle.text.proofs.Spelling.Steps.{CutAt, StandsAt, stands_at}
 use Rattle.text.proofs.Spelling.Refused.{cut_step, step_cut, ill_step, step_ill, step_place}
@@ -47,10 +46,10 @@ pub record Refused3 (t : List ℕ) (i p : ℕ) : Type 0 where
   pub spells : SpellsTo t i p
   pub ill : Ill (drop p t)
 
-abbrev pub StringAnswer : List ℕ → ℕ → Token → Type 0
-StringAnswer t i (End e) = ClosedString t i e
-StringAnswer t i (No2 p) = Refused2 t i p
-StringAnswer t i (No3 p) = Refused3 t i p
+abbrev pub StringAnswer : List ℕ → ℕ → Result ℕ (Fault ℕ) → Type 0
+StringAnswer t i (Ok e) = ClosedString t i e
+StringAnswer t i (Err (Malformed p)) = Refused2 t i p
+StringAnswer t i (Err (Forbidden p)) = Refused3 t i p
 
 -- ---- bytes that spell, as a part of the text ----
 
@@ -75,11 +74,11 @@ module _ (t : List ℕ) (i : ℕ) where
       let last : q + 1 - 1 ≡ q = omega arith in
       record { after = omega arith; within_text = omega arith; quote = rw last h; codes = s.codes; spelled = rw last (part_spells t i q (omega arith) s) }
 
-  stopped : (at : ℕ) → SpellsTo t i at → (s : Step) → step_at t at ≡ s → NoChar s → StringAnswer t i (on_step (string_end t) at s)
-  stopped at s Close e n = closed_part at s (subst (StandsAt t at) e (stands_at t at))
-  stopped at s (Char c m) e n = absurd n
-  stopped at s (Bad2 p) e n = record { from = at; spells = s; cut = step_cut t at p e }
-  stopped at s (Bad3 p) e n = rw (step_place t at p e) (record { spells = s; ill = step_ill t at p e })
+  stopped : (at : ℕ) → SpellsTo t i at → (s : Result (Option (ℕ × ℕ)) (Fault ℕ)) → step_at t at ≡ s → NoChar s → StringAnswer t i (on_step (string_end t) at s)
+  stopped at s (Ok None) e n = closed_part at s (subst (StandsAt t at) e (stands_at t at))
+  stopped at s (Ok (Some (c, m))) e n = absurd n
+  stopped at s (Err (Malformed p)) e n = record { from = at; spells = s; cut = step_cut t at p e }
+  stopped at s (Err (Forbidden p)) e n = rw (step_place t at p e) (record { spells = s; ill = step_ill t at p e })
 
   pub answers : StringAnswer t i (string_end t i)
   answers = let s = stops t i in rw s.answer (stopped s.at s.spells s.step s.here s.no_char)
@@ -88,25 +87,25 @@ module _ (t : List ℕ) (i : ℕ) where
   up_to : (q : ℕ) → SpellsTo t i q → string_end t i ≡ string_end t q
   up_to q s = through t i s.spelled s.rest s.split ∙ ap (string_end t) s.place
 
-  pub answered : (k : Token) → StringAnswer t i k → string_end t i ≡ k
-  answered (End e) a =
+  pub answered : (k : Result ℕ (Fault ℕ)) → StringAnswer t i k → string_end t i ≡ k
+  answered (Ok e) a =
       let h = a.after in
       let l = a.within_text in
       let last : e - 1 + 1 ≡ e = omega arith in
-      up_to (e - 1) (spells_part t i (e - 1) (omega arith) (omega arith) a.spelled) ∙ quote_ends t (e - 1) a.quote ∙ ap End last
-  answered (No2 p) a = up_to a.from a.spells ∙ end_at_lem t a.from (Bad2 p) (cut_step t a.from p a.cut)
-  answered (No3 p) a = up_to p a.spells ∙ end_at_lem t p (Bad3 p) (ill_step t p a.ill)
+      up_to (e - 1) (spells_part t i (e - 1) (omega arith) (omega arith) a.spelled) ∙ quote_ends t (e - 1) a.quote ∙ ap Ok last
+  answered (Err (Malformed p)) a = up_to a.from a.spells ∙ end_at_lem t a.from (Err (Malformed p)) (cut_step t a.from p a.cut)
+  answered (Err (Forbidden p)) a = up_to p a.spells ∙ end_at_lem t p (Err (Forbidden p)) (ill_step t p a.ill)
 
   -- ---- the same for each answer ----
 
-  pub ended_spells : (e : ℕ) → string_end t i ≡ End e → ClosedString t i e
+  pub ended_spells : (e : ℕ) → string_end t i ≡ Ok e → ClosedString t i e
   ended_spells e q = subst (StringAnswer t i) q answers
 
-  pub spells_ended : (e : ℕ) → ClosedString t i e → string_end t i ≡ End e
-  spells_ended e = answered (End e)
+  pub spells_ended : (e : ℕ) → ClosedString t i e → string_end t i ≡ Ok e
+  spells_ended e = answered (Ok e)
 
-  pub no3_ill : (p : ℕ) → string_end t i ≡ No3 p → Refused3 t i p
+  pub no3_ill : (p : ℕ) → string_end t i ≡ Err (Forbidden p) → Refused3 t i p
   no3_ill p q = subst (StringAnswer t i) q answers
 
-  pub ill_no3 : (p : ℕ) → Refused3 t i p → string_end t i ≡ No3 p
-  ill_no3 p = answered (No3 p)
+  pub ill_no3 : (p : ℕ) → Refused3 t i p → string_end t i ≡ Err (Forbidden p)
+  ill_no3 p = answered (Err (Forbidden p))

@@ -2,6 +2,9 @@
 --     stands_at        a quote; a spelled character; the beginning of a character that a byte can't continue; bytes that aim at a character
 -- No bound on the elements of the text is asked: what is no byte is taken as the end.
 -- Assumes nothing.
+use Rattle.std.specs.Prelude.{Option, Some, None, Result, Ok, Err}
+use Rattle.text.specs.declared.Fault.{Fault}
+use Rattle.text.specs.declared.Fault.TheVariants.{Malformed, Forbidden}
 use mathlib.Core.Path.{◌≡◌, refl, sym, subst, ◌∙◌}
 use mathlib.Core.List.{List, [], ◌∷◌, ◌++◌, append_assoc}
 use Prim.Native.Nat.{ℕ, ◌+◌, ◌-◌, ◌*◌, ◌%◌, ◌≤◌, ◌<◌}
@@ -13,10 +16,6 @@ use Rattle.text.specs.Text.{byte_at}
 use Rattle.text.specs.Chars.{tail_of, seq2, seq3, seq4, tail_at, raw_at, low_at, pair_at, unit_at, on_hex, escape_at, step_by, step_at, letter_of, hex4_at}
 use Rattle.text.specs.Spelling.{Good, FourDigits, Spell, raw, short, unit, pair}
 use Rattle.text.specs.Broken.{Cut, control, ended, letter, digit, Aims, high, escape}
-use Rattle.text.specs.declared.Hex.{Hex}
-use Rattle.text.specs.declared.Hex.TheVariants.{Unit, Bad}
-use Rattle.text.specs.declared.Step.{Step}
-use Rattle.text.specs.declared.Step.TheVariants.{Close, Char, Bad2, Bad3}
 use Rattle.text.proofs.Spelling.Codes.{by_checked, ascii_good, one_byte, Shown, shown2, shown3, shown4}
 use Rattle.text.proofs.Spelling.Digits.{short_letter, short_some, letter_short, four_length, next_byte, FourAt, FewAt, HexAt, hex_at}
 
@@ -43,11 +42,11 @@ pub record AimAt (t : List ℕ) (i p : ℕ) : Type 0 where
   pub here : p ≡ i
   pub aims : Aims (drop i t)
 
-abbrev pub StandsAt : List ℕ → ℕ → Step → Type 0
-StandsAt t i Close = byte_at t i ≡ 34
-StandsAt t i (Char c n) = CharAt t i c n
-StandsAt t i (Bad2 p) = CutAt t i p
-StandsAt t i (Bad3 p) = AimAt t i p
+abbrev pub StandsAt : List ℕ → ℕ → Result (Option (ℕ × ℕ)) (Fault ℕ) → Type 0
+StandsAt t i (Ok None) = byte_at t i ≡ 34
+StandsAt t i (Ok (Some (c, n))) = CharAt t i c n
+StandsAt t i (Err (Malformed p)) = CutAt t i p
+StandsAt t i (Err (Forbidden p)) = AimAt t i p
 
 -- ---- raw characters ----
 
@@ -143,10 +142,10 @@ module _ (t : List ℕ) (i : ℕ) (e : drop i t ≡ 92 ∷ 117 ∷ drop (i + 2) 
           spelled = pair_spelled d.digits low lo hi lo1 hi1 d.value g;
         }
 
-    low_at_lem : 0xD800 ≤ u → u < 0xDC00 → byte_at t (i + 6) ≡ 92 → byte_at t (i + 7) ≡ 117 → (h : Hex) → HexAt t (i + 8) h → StandsAt t i (low_at i u h)
+    low_at_lem : 0xD800 ≤ u → u < 0xDC00 → byte_at t (i + 6) ≡ 92 → byte_at t (i + 7) ≡ 117 → (h : Result ℕ ℕ) → HexAt t (i + 8) h → StandsAt t i (low_at i u h)
     unfolding low_at
-    low_at_lem lo hi p6 p7 (Bad p) d = aim
-    low_at_lem lo hi p6 p7 (Unit low) d =
+    low_at_lem lo hi p6 p7 (Err p) d = aim
+    low_at_lem lo hi p6 p7 (Ok low) d =
         if_less (StandsAt t i) low 0xDC00 (λ h. aim)
         (λ h. if_less (StandsAt t i) low 0xE000 (λ k. by_checked (StandsAt t i) i (65536 + u % 1024 * 1024 + low % 1024) 12 (pair_char low lo hi h k p6 p7 d) (λ n. aim)) (λ k. aim))
 
@@ -160,10 +159,10 @@ module _ (t : List ℕ) (i : ℕ) (e : drop i t ≡ 92 ∷ 117 ∷ drop (i + 2) 
         (λ p6. if_equal (StandsAt t i) (byte_at t (i + 7)) 117 (λ p7. low_at_lem h k p6 p7 (hex4_at t (i + 8)) (hex_at t (i + 8))) (λ n. aim)) (λ n. aim))
         (λ k. checked))
 
-  on_hex_lem : (h : Hex) → HexAt t (i + 2) h → StandsAt t i (on_hex t i h)
+  on_hex_lem : (h : Result ℕ ℕ) → HexAt t (i + 2) h → StandsAt t i (on_hex t i h)
   unfolding on_hex
-  on_hex_lem (Unit u) f = unit_at_lem u f
-  on_hex_lem (Bad p) f = cut_digits p f
+  on_hex_lem (Ok u) f = unit_at_lem u f
+  on_hex_lem (Err p) f = cut_digits p f
 
 module _ (t : List ℕ) (i : ℕ) where
   escape_at_lem : byte_at t i ≡ 92 → StandsAt t i (escape_at t i)

@@ -7,9 +7,9 @@ pub returns : goal.returns
 returns c =
     λ f s.
     let a = c.args in
-    let text = a.text.now in
+    let text = a.on.now.text.now in
     let o = seek_in text a.name.now f in
     let find = c.find-found in
-    c.is_string_at.ensures (content_in o) (content_row text a.table.now find.result o
-    (row_of text a.table.now a.end a.name.now f find.result (find.ensures f s)))
+    c.is_string_at.ensures (content_in o) (content_row text a.on.now.table.now find.result o
+    (row_of text a.on.now.table.now a.end a.name.now f find.result (find.ensures f s)))
     ∙ content_string a.content.now o

@@ -11,14 +11,14 @@ unfolding is_string
 returns-then-kind-ne-STRING c =
     λ f v.
     let a = c.args in
-    rw (← value_kind a.text.now f v, ← c.kind.ensures, ne_eqb c.kind.result 5 c.if-kind-ne-STRING.true)
+    rw (← value_kind a.on.now.text.now f v, ← c.kind.ensures, ne_eqb c.kind.result 5 c.if-kind-ne-STRING.true)
 
 pub returns : goal.returns
 unfolding is_string
 returns c =
     λ f v.
     let a = c.args in
-    let text = a.text.now in
+    let text = a.on.now.text.now in
     let kind = c.kind in
     let if1 = c.if-kind-ne-STRING in
     let five : c.kind.result ≡ 5 = if1.false in

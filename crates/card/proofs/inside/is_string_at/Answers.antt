@@ -7,15 +7,15 @@ use Rattle.contact.specs.Rules.{is_this_string}
 use Rattle.card.proofs.Judging.Values.{itself, by_found, by_nothing}
 use Rattle.card.proofs.inside.is_string_at.Goals as goal
 
-pub returns-in-Row : goal.returns-in-Row
-returns-in-Row c =
+pub returns-in-Some : goal.returns-in-Some
+returns-in-Some c =
     λ o s.
     let a = c.args in
-    by_found itself a.text.now a.table.now o s (λ (x : Option Doc). c.is_string.result ≡ is_this_string a.content.now x) c.in-Row.is
+    by_found itself a.on.now.text.now a.on.now.table.now o s (λ (x : Option Doc). c.is_string.result ≡ is_this_string a.content.now x) c.in-Some.is
     (λ d g v e. rw e (c.is_string.ensures g v))
 
-pub returns-in-Nothing : goal.returns-in-Nothing
-returns-in-Nothing c =
+pub returns-in-None : goal.returns-in-None
+returns-in-None c =
     λ o s.
     let a = c.args in
-    by_nothing itself a.text.now a.table.now o s (λ (x : Option Doc). false ≡ is_this_string a.content.now x) c.in-Nothing.is refl
+    by_nothing itself a.on.now.text.now a.on.now.table.now o s (λ (x : Option Doc). false ≡ is_this_string a.content.now x) c.in-None.is refl

@@ -1,20 +1,19 @@
 -- `card::judge::fault_of` meets its contract. Assumes nothing.
-use Rattle.laws.proofs.Picks.{picks}
 use Rattle.contact.specs.Verdict.{fault_of}
 use Rattle.card.proofs.judge.fault_of.Goals as goal
 
-pub returns-then-number-eq11 : goal.returns-then-number-eq11
+pub returns-in-Kind : goal.returns-in-Kind
 unfolding fault_of
-returns-then-number-eq11 c = search picks
+returns-in-Kind c = rw c.in-Kind.is
 
-pub returns-then-number-eq12 : goal.returns-then-number-eq12
+pub returns-in-Missing : goal.returns-in-Missing
 unfolding fault_of
-returns-then-number-eq12 c = search picks
+returns-in-Missing c = rw c.in-Missing.is
 
-pub returns-then-number-eq13 : goal.returns-then-number-eq13
+pub returns-in-Value : goal.returns-in-Value
 unfolding fault_of
-returns-then-number-eq13 c = search picks
+returns-in-Value c = rw c.in-Value.is
 
-pub returns : goal.returns
+pub returns-in-Rule : goal.returns-in-Rule
 unfolding fault_of
-returns c = search picks
+returns-in-Rule c = rw c.in-Rule.is

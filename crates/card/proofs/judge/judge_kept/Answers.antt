@@ -2,11 +2,6 @@
 use Rattle.text.specs.Limits.{base}
 use Rattle.card.proofs.judge.judge_kept.Goals as goal
 
-pub judge_read-requires : goal.judge_read-requires
-judge_read-requires c =
-    let read = c.read_rows-read in
-    (base, c.args.table.now, record { long = read.auto.table; reads = read.ensures })
-
 pub returns : goal.returns
 returns c =
     let read = c.read_rows-read in

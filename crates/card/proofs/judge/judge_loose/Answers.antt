@@ -4,11 +4,6 @@ use Rattle.text.specs.Limits.{base, loose}
 use Rattle.card.proofs.Judging.Verdict.{rows_fit}
 use Rattle.card.proofs.judge.judge_loose.Goals as goal
 
-pub judge_read-v-requires : goal.judge_read-v-requires
-judge_read-v-requires c =
-    let read = c.read_loose-read in
-    (loose base, c.args.table.now, record { long = read.auto.table; reads = read.ensures })
-
 pub clear_behind-requires : goal.clear_behind-requires
 clear_behind-requires c =
     let a = c.args in

@@ -6,19 +6,19 @@ pub judge_rows-requires : goal.judge_rows-requires
 judge_rows-requires c =
     let a = c.args in
     let (L, lent, was) = c.requires in
-    let (f, h, is) = read_into L a.text.now lent a.table.now c.in-Rows.n was.long (rw c.in-Rows.is at was.reads) in
+    let (f, h, is) = read_into L a.text.now lent a.table.now c.in-Ok.n was.long (rw c.in-Ok.is at was.reads) in
     (L, f, h)
 
-pub returns-in-Refused : goal.returns-in-Refused
-returns-in-Refused c =
+pub returns-in-Err : goal.returns-in-Err
+returns-in-Err c =
     λ L lent was.
     let a = c.args in
-    text_refused L a.text.now lent a.table.now c.in-Refused.r (rw c.in-Refused.is at was.reads)
+    text_refused L a.text.now lent a.table.now c.in-Err.r (rw c.in-Err.is at was.reads)
 
-pub returns-in-Rows : goal.returns-in-Rows
-returns-in-Rows c =
+pub returns-in-Ok : goal.returns-in-Ok
+returns-in-Ok c =
     λ L lent was.
     let a = c.args in
     let k = c.judge_rows in
-    let (f, h, is) = read_into L a.text.now lent a.table.now c.in-Rows.n was.long (rw c.in-Rows.is at was.reads) in
-    rows_judged L a.text.now lent a.table.now k.new.table c.in-Rows.n f k.result was.long h is (k.ensures L f h)
+    let (f, h, is) = read_into L a.text.now lent a.table.now c.in-Ok.n was.long (rw c.in-Ok.is at was.reads) in
+    rows_judged L a.text.now lent a.table.now k.new.table c.in-Ok.n f k.result was.long h is (k.ensures L f h)

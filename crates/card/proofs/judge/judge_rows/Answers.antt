@@ -1,9 +1,9 @@
 -- `card::judge::judge_rows` meets its contract. Assumes nothing.
+use Rattle.std.specs.Prelude.{Err}
 use mathlib.Core.Path.{refl, sym, ap, ◌∙◌}
 use Rattle.contact.specs.Verdict.{fault_of}
 use Rattle.contact.specs.declared.CardRefusal.TheVariants.{Card}
-use Rattle.contact.specs.declared.Verdict.TheVariants.{Failed}
-use Rattle.card.specs.Walk.{found_of}
+use Rattle.card.specs.Walk.{sheet_number, found_of}
 use Rattle.card.proofs.Judging.Verdict.{card_value, card_kinds, card_place}
 use Rattle.card.proofs.judge.judge_rows.Goals as goal
 
@@ -12,18 +12,17 @@ card_breach-requires c =
     let (L, f, card) = c.requires in
     (f, card_value card, card_kinds card)
 
-pub returns-in-Nothing : goal.returns-in-Nothing
-returns-in-Nothing c = λ L f h. rw (sym (c.card_breach.ensures f (card_value h) (card_kinds h)) ∙ ap found_of c.in-Nothing.is) (refl, refl)
+pub returns-in-None : goal.returns-in-None
+returns-in-None c = λ L f h. rw (sym (c.card_breach.ensures f (card_value h) (card_kinds h)) ∙ ap found_of c.in-None.is) (refl, refl)
 
-pub returns-in-At : goal.returns-in-At
-returns-in-At c =
+pub returns-in-Some : goal.returns-in-Some
+returns-in-Some c =
     λ L f h.
     let card-breach = c.card_breach in
     let value_start = c.value_start-place in
-    let clear-words = c.clear_words in
-    let e = (sym (card-breach.ensures f (card_value h) (card_kinds h)) ∙ ap found_of c.in-At.is) in
+    let e = (sym (card-breach.ensures f (card_value h) (card_kinds h)) ∙ ap found_of c.in-Some.is) in
     rw e (
-      ap (λ x. Failed (Card x)) (c.fault_of.ensures
-          ∙ ap (fault_of c.in-At.number) (value_start.ensures ∙ sym (card_place h c.in-At.row c.in-At.number e))),
-      clear-words.ensures,
+      ap (λ x. Err (Card x)) (c.fault_of.ensures
+          ∙ ap (fault_of (sheet_number c.in-Some.broken)) (value_start.ensures ∙ sym (card_place h c.in-Some.row (sheet_number c.in-Some.broken) e))),
+      c.fill.ensures.after (λ y e. e),
     )

@@ -10,8 +10,8 @@ use Rattle.card.proofs.rules.any_of.Given as goal
 
 abbrev pub invariant-loop-j : goal.invariant-loop-j
 invariant-loop-j l =
-    (f : Forest) → MembersAt l.table l.object f
-    → any_counted l.object.of (members_of l.text f) (drop l.j (rule_words (rule_at l.i))) ≡ any_counted l.object.of (members_of l.text f) (drop l.from (rule_words (rule_at l.i)))
+    (f : Forest) → MembersAt l.on.table.now l.object f
+    → any_counted l.object.of (members_of l.on.text.now f) (drop l.j (rule_words (rule_at l.i))) ≡ any_counted l.object.of (members_of l.on.text.now f) (drop l.from (rule_words (rule_at l.i)))
 
 abbrev pub decreases-loop-j : goal.decreases-loop-j
 decreases-loop-j l = each - l.j

@@ -11,7 +11,7 @@ use Rattle.card.proofs.rules.breaks.Given as goal
 
 abbrev pub invariant-loop-i : goal.invariant-loop-i
 invariant-loop-i l =
-    (f : Forest) → MembersAt l.table l.object f → Left (breaks_one l.object.of (members_of l.text f)) (λ _. true) false all_rules (rules_of l.object.of) no_rule l.initial.i l.last l.i
+    (f : Forest) → MembersAt l.on.table.now l.object f → Left (breaks_one l.object.of (members_of l.on.text.now f)) (λ _. true) false all_rules (rules_of l.object.of) no_rule l.initial.i l.i-end l.i
 
 abbrev pub decreases-loop-i : goal.decreases-loop-i
-decreases-loop-i l = l.last - l.i
+decreases-loop-i l = l.i-end - l.i

@@ -1,20 +1,13 @@
 -- `card::rules::breaks_shape` meets its contract: each shape by its number. Assumes nothing.
 use mathlib.Core.Path.{ap, ◌∙◌}
 use mathlib.Core.Bool.{not}
-use native.Mathlib.Omega.{arith}
-use borrow.Author.Tests.{eq-eqb, ne_eqb, not-true, not-false}
+use borrow.Author.Tests.{eq-eqb, ne_eqb}
 use Rattle.card.specs.RuleTable.{by_shape}
 use Rattle.card.proofs.rules.breaks_shape.Goals as goal
-
-pub any_of-requires : goal.any_of-requires
-any_of-requires c = c.requires
 
 pub returns-then-shape-eq-ONE_OF : goal.returns-then-shape-eq-ONE_OF
 unfolding by_shape
 returns-then-shape-eq-ONE_OF c = λ f s. ap not (c.any_of.ensures f s) ∙ rw (eq-eqb c.args.shape 0 c.if-shape-eq-ONE_OF.true)
-
-pub breaks_separators-requires : goal.breaks_separators-requires
-breaks_separators-requires c = c.requires
 
 pub returns-then-shape-eq-SEPARATORS : goal.returns-then-shape-eq-SEPARATORS
 unfolding by_shape
@@ -22,12 +15,6 @@ returns-then-shape-eq-SEPARATORS c =
     λ f s.
     let a = c.args in
     c.breaks_separators.ensures f s ∙ rw (ne_eqb a.shape 0 c.if-shape-eq-ONE_OF.false, eq-eqb a.shape 4 c.if-shape-eq-SEPARATORS.true)
-
-pub rule_word-first-requires : goal.rule_word-first-requires
-rule_word-first-requires c = let p = c.requires in (p.on.0, p.rule, omega arith)
-
-pub counts-requires : goal.counts-requires
-counts-requires c = c.requires.on.0
 
 pub returns-then-not-counts : goal.returns-then-not-counts
 unfolding by_shape
@@ -41,9 +28,6 @@ returns-then-not-counts c =
       ← c.counts.ensures f s,
       c.if-not-counts.true,
     )
-
-pub breaks_then-requires : goal.breaks_then-requires
-breaks_then-requires c = c.requires
 
 pub returns : goal.returns
 unfolding by_shape

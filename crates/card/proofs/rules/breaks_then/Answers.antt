@@ -1,7 +1,6 @@
 -- `card::rules::breaks_then` meets its contract: each shape by its number. Assumes nothing.
 use mathlib.Core.Path.{◌≡◌, sym, ap, ◌∙◌}
 use mathlib.Core.Bool.{not}
-use native.Mathlib.Omega.{arith}
 use Rattle.laws.specs.Tests.{all_marks}
 use Rattle.laws.proofs.Picks.{picks}
 use Rattle.text.specs.Doc.{members_of}
@@ -10,30 +9,6 @@ use Rattle.card.specs.Catalog.{rule_at, rule_words}
 use Rattle.card.specs.RuleTable.{present_word, then_broken}
 use Rattle.card.proofs.Judging.Separators.{told_all}
 use Rattle.card.proofs.rules.breaks_then.Goals as goal
-
-pub any_of-requires : goal.any_of-requires
-any_of-requires c = c.requires
-
-pub rule_word-second-requires : goal.rule_word-second-requires
-rule_word-second-requires c = let p = c.requires in (p.on.0, p.rule, omega arith)
-
-pub rule_word-third-requires : goal.rule_word-third-requires
-rule_word-third-requires c = let p = c.requires in (p.on.0, p.rule, omega arith)
-
-pub is_this_string-requires : goal.is_this_string-requires
-is_this_string-requires c = c.requires.on.0
-
-pub rule_word-second-requires-in-3 : goal.rule_word-second-requires-in-3
-rule_word-second-requires-in-3 c = let p = c.requires in (p.on.0, p.rule, omega arith)
-
-pub is_true-requires : goal.is_true-requires
-is_true-requires c = c.requires.on.0
-
-pub rule_word-first-requires : goal.rule_word-first-requires
-rule_word-first-requires c = let p = c.requires in (p.on.0, p.rule, omega arith)
-
-pub tally_in-m-requires : goal.tally_in-m-requires
-tally_in-m-requires c = c.requires.on
 
 pub returns-in-1 : goal.returns-in-1
 unfolding then_broken
@@ -52,8 +27,8 @@ unfolding then_broken
 returns-in_default c =
     λ f s.
     let a = c.args in
-    let ss = marks (present a.object.of c.rule_word-first.result.now (members_of a.text.now f)) in
+    let ss = marks (present a.object.of c.rule_word-first.result.now (members_of a.on.now.text.now f)) in
     let told = rw c.rule_word-first.ensures at (told_all c.tally_in-m.result ss (c.tally_in-m.ensures f s)) in
-    let last : all_marks (marks (present_word c.args.object.of (members_of c.args.text.now f) (rule_words (rule_at c.args.i)) 0))
-    ≡ then_broken c.args.object.of (members_of c.args.text.now f) c.args.shape (rule_words (rule_at c.args.i)) = search picks in
+    let last : all_marks (marks (present_word c.args.object.of (members_of c.args.on.now.text.now f) (rule_words (rule_at c.args.i)) 0))
+    ≡ then_broken c.args.object.of (members_of c.args.on.now.text.now f) c.args.shape (rule_words (rule_at c.args.i)) = search picks in
     sym told ∙ last

@@ -3,7 +3,6 @@ use native.Mathlib.Omega.{arith}
 use borrow.Author.Tests.{eq-eqb, ne_eqb}
 use Rattle.text.specs.Firsts.{inside_at}
 use Rattle.contact.specs.Rules.{is_separator}
-use Rattle.json_reader.proofs.Seeking.{row_inside}
 use Rattle.card.proofs.Judging.Values.{value_kind, value_members, value_below, value_room}
 use Rattle.card.proofs.rules.is_separator.Goals as goal
 
@@ -12,21 +11,15 @@ unfolding is_separator
 returns-then-kind-ne-OBJECT c =
     λ f v.
     let a = c.args in
-    rw (← value_kind a.text.now f v, ← c.kind.ensures, ne_eqb c.kind.result 7 c.if-kind-ne-OBJECT.true)
+    rw (← value_kind a.on.now.text.now f v, ← c.kind.ensures, ne_eqb c.kind.result 7 c.if-kind-ne-OBJECT.true)
 
 -- an object is one of the table
-pub overflow_add-k : goal.overflow_add-k
-overflow_add-k c =
-    let a = c.args in
-    let kind = c.kind in
-    omega (arith, row_inside a.table.now a.k (omega (arith, kind.ensures, c.if-kind-ne-OBJECT.false)))
-
 pub returns : goal.returns
 unfolding is_separator
 returns c =
     λ f v.
     let a = c.args in
-    let text = a.text.now in
+    let text = a.on.now.text.now in
     let kind = c.kind in
     let if1 = c.if-kind-ne-OBJECT in
     let next_row = c.next_row-end in

@@ -8,18 +8,18 @@ use Rattle.contact.specs.Rules.{present, is_true}
 use Rattle.card.proofs.Judging.Values.{value_kind, by_found, by_nothing, itself}
 use Rattle.card.proofs.rules.is_true.Goals as goal
 
-pub returns-in-Row : goal.returns-in-Row
-returns-in-Row c =
+pub returns-in-Some : goal.returns-in-Some
+returns-in-Some c =
     λ f s.
     let a = c.args in
-    let text = a.text.now in
-    by_found itself text a.table.now (present a.object.of a.name.now (members_of text f)) (c.present.ensures f s)
-    (λ (x : Option Doc). eqb c.kind.result 3 ≡ is_true x) c.in-Row.is (λ d g v e. rw (e, ← value_kind text g v, ← c.kind.ensures))
+    let text = a.on.now.text.now in
+    by_found itself text a.on.now.table.now (present a.object.of a.name.now (members_of text f)) (c.present.ensures f s)
+    (λ (x : Option Doc). eqb c.kind.result 3 ≡ is_true x) c.in-Some.is (λ d g v e. rw (e, ← value_kind text g v, ← c.kind.ensures))
 
-pub returns-in-Nothing : goal.returns-in-Nothing
-returns-in-Nothing c =
+pub returns-in-None : goal.returns-in-None
+returns-in-None c =
     λ f s.
     let a = c.args in
-    let text = a.text.now in
-    by_nothing itself text a.table.now (present a.object.of a.name.now (members_of text f)) (c.present.ensures f s)
-    (λ (x : Option Doc). false ≡ is_true x) c.in-Nothing.is refl
+    let text = a.on.now.text.now in
+    by_nothing itself text a.on.now.table.now (present a.object.of a.name.now (members_of text f)) (c.present.ensures f s)
+    (λ (x : Option Doc). false ≡ is_true x) c.in-None.is refl

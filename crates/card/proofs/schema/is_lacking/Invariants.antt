@@ -10,7 +10,7 @@ use Rattle.card.proofs.schema.is_lacking.Given as goal
 
 abbrev pub invariant-loop-i : goal.invariant-loop-i
 invariant-loop-i l =
-    (f : Forest) → MembersAt l.table l.object f → Left (is_missing (members_of l.text f)) (λ _. true) false lines (properties l.object.of) no_line l.initial.i l.last l.i
+    (f : Forest) → MembersAt l.on.table.now l.object f → Left (is_missing (members_of l.on.text.now f)) (λ _. true) false lines (properties l.object.of) no_line l.initial.i l.i-end l.i
 
 abbrev pub decreases-loop-i : goal.decreases-loop-i
-decreases-loop-i l = l.last - l.i
+decreases-loop-i l = l.i-end - l.i

@@ -9,21 +9,18 @@ use Rattle.text.specs.Doc.{Name, members_of, seek, is_there}
 use Rattle.card.proofs.Known.Columns.{lent_spelled, lent_short, lent_length}
 use Rattle.card.proofs.schema.is_missing.Goals as goal
 
-pub offset_bounds-numbers-i : goal.offset_bounds-numbers-i
-offset_bounds-numbers-i c = omega (arith, c.requires.0.numbers_are.long, c.requires.1)
+pub offset_bounds-on-i : goal.offset_bounds-on-i
+offset_bounds-on-i c = omega (arith, c.requires.0.numbers_are.long, c.requires.1)
 
-pub bounds-numbers-i : goal.bounds-numbers-i
-bounds-numbers-i c = omega (arith, c.requires.0.numbers_are.long, c.requires.1)
+pub bounds-on-i : goal.bounds-on-i
+bounds-on-i c = omega (arith, c.requires.0.numbers_are.long, c.requires.1)
 
 pub returns-then-code-ne1 : goal.returns-then-code-ne1
 returns-then-code-ne1 c =
     λ f s.
     let a = c.args in
     let p = c.requires in
-    rw (← (p.0.numbers_are.code a.i p.1).must, ne_eqb (get_or a.numbers.now a.i 0 / 32768 % 2) 1 c.if-code-ne1.true)
-
-pub overflow_cast-size : goal.overflow_cast-size
-overflow_cast-size c = omega (arith, lent_short c.requires.0 c.args.i c.requires.1)
+    rw (← (p.0.numbers_are.code a.i p.1).must, ne_eqb (get_or a.on.now.numbers.now a.i 0 / 32768 % 2) 1 c.if-code-ne1.true)
 
 pub sized_word-requires : goal.sized_word-requires
 sized_word-requires c = omega (arith, lent_length c.requires.0, c.requires.1, lent_short c.requires.0 c.args.i c.requires.1)
@@ -33,5 +30,5 @@ returns c =
     λ f s.
     let a = c.args in
     let p = c.requires in
-    rw (← (p.0.numbers_are.code a.i p.1).must, eq-eqb (get_or a.numbers.now a.i 0 / 32768 % 2) 1 c.if-code-ne1.false)
-    (ap not (c.has.ensures f s ∙ ap (λ (n : Name). is_there (seek n (members_of a.text.now f))) (c.sized_word.ensures ∙ lent_spelled p.0 a.i p.1)))
+    rw (← (p.0.numbers_are.code a.i p.1).must, eq-eqb (get_or a.on.now.numbers.now a.i 0 / 32768 % 2) 1 c.if-code-ne1.false)
+    (ap not (c.has.ensures f s ∙ ap (λ (n : Name). is_there (seek n (members_of a.on.now.text.now f))) (c.sized_word.ensures ∙ lent_spelled p.0 a.i p.1)))

@@ -14,10 +14,7 @@ returns-then-not-may_be c =
     let a = c.args in
     let p = c.requires in
     let told = rw p.1 at c.may_be.ensures in
-    lent_apart p.0.0 a.i p.0.1 a.text.now a.s a.e (sym told ∙ c.if-not-may_be.true)
-
-pub overflow_cast-size : goal.overflow_cast-size
-overflow_cast-size c = let p = c.requires in omega (arith, lent_short p.0.0 c.args.i p.0.1)
+    lent_apart p.0.0 a.i p.0.1 a.on.now.text.now a.s a.e (sym told ∙ c.if-not-may_be.true)
 
 pub sized_word-requires : goal.sized_word-requires
 sized_word-requires c =
@@ -27,4 +24,4 @@ pub returns : goal.returns
 returns c =
     let a = c.args in
     let p = c.requires in
-    c.name_is.ensures ∙ ap (same (name_of a.text.now a.s a.e)) (c.sized_word.ensures ∙ lent_spelled p.0.0 a.i p.0.1)
+    c.name_is.ensures ∙ ap (same (name_of a.on.now.text.now a.s a.e)) (c.sized_word.ensures ∙ lent_spelled p.0.0 a.i p.0.1)

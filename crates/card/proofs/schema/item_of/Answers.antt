@@ -1,5 +1,4 @@
 -- `card::schema::item_of` meets its contract. Assumes nothing.
-use borrow.Author.Rules.{rules}
 use Rattle.laws.proofs.Picks.{picks}
 use Rattle.card.specs.Types.{item_at}
 use Rattle.card.proofs.schema.item_of.Goals as goal
@@ -15,10 +14,6 @@ returns-then-n-ge-NAME_OF c = search picks
 pub returns-then-n-ge-OBJECT_OF : goal.returns-then-n-ge-OBJECT_OF
 unfolding item_at
 returns-then-n-ge-OBJECT_OF c = search picks
-
-pub bounded-requires : goal.bounded-requires
-unfolding item_at
-bounded-requires c = search rules
 
 pub returns-then-n-ge-BOUNDED : goal.returns-then-n-ge-BOUNDED
 unfolding item_at

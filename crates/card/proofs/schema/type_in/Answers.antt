@@ -24,29 +24,25 @@ pub is_property-requires : goal.is_property-requires
 is_property-requires c = ((c.requires, inside c), c.peek-first.ensures.value)
 
 -- the line at hand is one of the catalog
-inside_2 : (c : goal.Then-is_property) → c.loop-i.i < count
-inside_2 c = omega (arith, c.lines_of-own.ensures.within, lines_length, c.loop-i-test.true)
+found : (c : goal.Then-is_property) → c.loop-i.i < count
+found c = omega (arith, c.lines_of-own.ensures.within, lines_length, c.loop-i-test.true)
 
-pub offset_bounds-numbers-i : goal.offset_bounds-numbers-i
-offset_bounds-numbers-i c = omega (arith, inside_2 c, c.requires.numbers_are.long)
+pub offset_bounds-on-i : goal.offset_bounds-on-i
+offset_bounds-on-i c = omega (arith, found c, c.requires.numbers_are.long)
 
--- the line at hand is one of the catalog
-inside_3 : (c : goal.After-shared_slice_known-then-is_property-1-unread) → c.loop-i.i < count
-inside_3 c = omega (arith, c.lines_of-own.ensures.within, lines_length, c.loop-i-test.true)
-
-pub bounds-numbers-i : goal.bounds-numbers-i
-bounds-numbers-i c = omega (arith, inside_3 c, c.requires.numbers_are.long)
+pub bounds-on-i : goal.bounds-on-i
+bounds-on-i c = omega (arith, found c, c.requires.numbers_are.long)
 
 -- the line at hand is one of the catalog
-inside_4 : (c : goal.After-shared_slice_known-then-is_property-1) → c.loop-i.i < count
-inside_4 c = omega (arith, c.lines_of-own.ensures.within, lines_length, c.loop-i-test.true)
+read : (c : goal.After-result-1) → c.loop-i.i < count
+read c = omega (arith, c.lines_of-own.ensures.within, lines_length, c.loop-i-test.true)
 
 pub returns-then-is_property : goal.returns-then-is_property
 returns-then-is_property c =
     let a = c.args in
-    (c.requires.numbers_are.code c.loop-i.i (inside_4 c)).type
+    (c.requires.numbers_are.code c.loop-i.i (read c)).type
     ∙ left_hit _ _ _ _ _ _ _ _ c.lines_of-own.ensures c.loop-i.invariant c.loop-i-test.true (sym c.is_property.ensures ∙ c.if-is_property.true)
-    ∙ type_first (name_of a.text.now a.s a.e) (properties a.o)
+    ∙ type_first (name_of a.on.now.text.now a.s a.e) (properties a.o)
 
 pub loop-i-preserved : goal.loop-i-preserved
 loop-i-preserved c = left_on _ _ _ _ _ _ _ _ c.lines_of-own.ensures c.loop-i.invariant c.loop-i-test.true (sym c.is_property.ensures ∙ c.if-is_property.false)
@@ -54,4 +50,4 @@ loop-i-preserved c = left_on _ _ _ _ _ _ _ _ c.lines_of-own.ensures c.loop-i.inv
 pub returns : goal.returns
 returns c =
     let a = c.args in
-    any_code ∙ left_end _ _ _ _ _ _ _ _ c.lines_of-own.ensures c.loop-i.invariant c.loop-i-test.false ∙ type_first (name_of a.text.now a.s a.e) (properties a.o)
+    any_code ∙ left_end _ _ _ _ _ _ _ _ c.lines_of-own.ensures c.loop-i.invariant c.loop-i-test.false ∙ type_first (name_of a.on.now.text.now a.s a.e) (properties a.o)

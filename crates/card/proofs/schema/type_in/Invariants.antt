@@ -7,7 +7,7 @@ use Rattle.card.proofs.Known.Search.{Left, named}
 use Rattle.card.proofs.schema.type_in.Given as goal
 
 abbrev pub invariant-loop-i : goal.invariant-loop-i
-invariant-loop-i l = Left (named (name_of l.text l.s l.e)) (λ k. k.type) any lines (properties l.o) no_line l.initial.i l.last l.i
+invariant-loop-i l = Left (named (name_of l.on.text.now l.s l.e)) (λ k. k.type) any lines (properties l.o) no_line l.initial.i l.i-end l.i
 
 abbrev pub decreases-loop-i : goal.decreases-loop-i
-decreases-loop-i l = l.last - l.i
+decreases-loop-i l = l.i-end - l.i

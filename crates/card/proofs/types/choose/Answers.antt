@@ -1,10 +1,8 @@
 -- `card::types::choose` meets its contract: only a choice of two looks at the value. Assumes nothing.
 use mathlib.Core.Path.{◌≡◌, ◌∙◌}
-use Rattle.text.specs.Doc.{doc_of}
 use Rattle.contact.specs.Schema.{by_type}
 use Rattle.card.specs.Types.{type_at}
 use Rattle.card.proofs.Known.Codes.{choice_small}
-use Rattle.card.proofs.Judging.Roles.{itself_chosen}
 use Rattle.card.proofs.types.choose.Goals as goal
 
 -- a choice of two stands there
@@ -31,9 +29,6 @@ chosen_of_3 c = rw (c.in-Between.is, c.type_of.ensures) at c.role_of.ensures
 pub object_of-requires-in-Between : goal.object_of-requires-in-Between
 object_of-requires-in-Between c = (choice_small _ _ _ (chosen_of_3 c)).0
 
-pub returns-in-As : goal.returns-in-As
-returns-in-As c = λ f v. let is = rw (c.in-As.is, c.type_of.ensures) at c.role_of.ensures in rw is
-
 -- a choice of two stands there
 chosen_of_4 : (c : goal.After-object_of-in-Between)
     → type_at c.args.code ≡ by_type c.in-Between.usual c.in-Between.special
@@ -41,9 +36,3 @@ chosen_of_4 c = rw (c.in-Between.is, c.type_of.ensures) at c.role_of.ensures
 
 pub returns-else-is_of : goal.returns-else-is_of
 returns-else-is_of c = λ f v. c.object_of-in-Between.ensures ∙ rw (chosen_of_4 c, ← c.is_of.ensures f v, c.if-is_of.false)
-
-pub returns-in-Other : goal.returns-in-Other
-returns-in-Other c =
-    λ f v.
-    let a = c.args in
-    itself_chosen (type_at a.code) (doc_of a.text.now f) (rw (c.in-Other.is, c.type_of.ensures) at c.role_of.ensures)

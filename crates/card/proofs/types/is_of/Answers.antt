@@ -7,7 +7,6 @@ use Rattle.text.specs.Firsts.{inside_at}
 use Rattle.text.specs.Doc.{Name, members_of, seek}
 use Rattle.contact.specs.Rules.{has_kind}
 use Rattle.contact.specs.Judge.{is_of}
-use Rattle.json_reader.proofs.Seeking.{row_inside}
 use Rattle.card.proofs.Judging.Values.{value_kind, value_members, value_below, value_room}
 use Rattle.card.proofs.types.is_of.Goals as goal
 
@@ -16,21 +15,15 @@ unfolding is_of
 returns-then-kind-ne-OBJECT c =
     λ f v.
     let a = c.args in
-    rw (← value_kind a.text.now f v, ← c.kind.ensures, ne_eqb c.kind.result 7 c.if-kind-ne-OBJECT.true)
+    rw (← value_kind a.on.now.text.now f v, ← c.kind.ensures, ne_eqb c.kind.result 7 c.if-kind-ne-OBJECT.true)
 
 -- an object is one of the table
-pub overflow_add-k : goal.overflow_add-k
-overflow_add-k c =
-    let a = c.args in
-    let kind = c.kind in
-    omega (arith, row_inside a.table.now a.k (omega (arith, kind.ensures, c.if-kind-ne-OBJECT.false)))
-
 pub returns : goal.returns
 unfolding is_of
 returns c =
     λ f v.
     let a = c.args in
-    let text = a.text.now in
+    let text = a.on.now.text.now in
     let kind = c.kind in
     rw (← value_kind text f v, ← kind.ensures, eq-eqb kind.result 7 c.if-kind-ne-OBJECT.false, value_below text f)
     (c.has_string.ensures (inside_at f) (value_members text f v c.next_row-end.ensures (omega (arith, value_room text f v)))

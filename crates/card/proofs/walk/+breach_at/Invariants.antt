@@ -6,10 +6,10 @@ use Rattle.card.proofs.Judging.Walk.{Judging}
 use Rattle.card.proofs.walk.+breach_at.Given as goal
 
 abbrev pub decreases-breach_at : goal.decreases-breach_at
-decreases-breach_at l = length l.table.now - l.row
+decreases-breach_at l = length l.on.now.table.now - l.row
 
 abbrev pub invariant-loop-at : goal.invariant-loop-at
-invariant-loop-at l = (Judging l.text l.table (type_at l.code) l.key l.row l.end l.at) × (l.row < l.at)
+invariant-loop-at l = (Judging l.on.text.now l.on.table.now (type_at l.code) l.key l.row l.end l.at) × (l.row < l.at)
 
 abbrev pub decreases-loop-at : goal.decreases-loop-at
 decreases-loop-at l = l.end - l.at

@@ -1,9 +1,10 @@
--- Each piece goes on in the text. Assumes nothing.
-use Rattle.std.proofs.Common.{length, ◌-◌, ◌≤◌}
+-- The place is where the pieces go on. Assumes nothing.
+use Rattle.std.proofs.Common.{length, ◌+◌, ◌≡◌}
+use Rattle.std.specs.Slice.Iter.{chunks_rest}
 use Rattle.cases_run.proofs.feeding.feed.Given as goal
 
-abbrev pub invariant-loop-at : goal.invariant-loop-at
-invariant-loop-at l = l.at ≤ length l.text
-
-abbrev pub decreases-loop-at : goal.decreases-loop-at
-decreases-loop-at l = length l.text - l.at
+abbrev pub invariant-loop-piece : goal.invariant-loop-piece
+invariant-loop-piece l =
+    goal.iterator-loop-piece.can_next l.piece-iterator
+    × goal.iterator-loop-piece.is_finite l.piece-iterator
+    × (l.at + length (chunks_rest l.piece-iterator) ≡ length l.text)

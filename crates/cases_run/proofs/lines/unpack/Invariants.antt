@@ -1,9 +1,11 @@
--- The length stays inside the text, and each turn goes on in the line. Assumes nothing.
-use Rattle.std.proofs.Common.{length, ◌-◌, ◌≡◌, ◌≤◌}
+-- The text fits into its buffer, and keeps it. Assumes nothing.
+use Rattle.std.proofs.Common.{length}
+use Rattle.std.specs.Slice.Iter.{iter_rest}
+use Rattle.cases_run.specs.Counts.{Fits, Keeps}
 use Rattle.cases_run.proofs.lines.unpack.Given as goal
 
-abbrev pub invariant-loop-at : goal.invariant-loop-at
-invariant-loop-at l = (length l.out ≡ length l.initial.out) × (l.size ≤ length l.out)
+abbrev pub invariant-loop-byte : goal.invariant-loop-byte
+invariant-loop-byte l = Fits l.text × Keeps l.initial.text l.text
 
-abbrev pub decreases-loop-at : goal.decreases-loop-at
-decreases-loop-at l = length l.line - l.at
+abbrev pub decreases-loop-byte : goal.decreases-loop-byte
+decreases-loop-byte l = length (iter_rest l.bytes)

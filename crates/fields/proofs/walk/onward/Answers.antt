@@ -3,14 +3,14 @@ use Rattle.laws.proofs.Picks.{picks}
 use Rattle.fields.specs.Survey.{onward_at}
 use Rattle.fields.proofs.walk.onward.Goals as goal
 
-pub returns-then-tag-eq-OBJECT : goal.returns-then-tag-eq-OBJECT
+pub returns-in-7 : goal.returns-in-7
 unfolding onward_at
-returns-then-tag-eq-OBJECT c = rw (← c.peek-tag.ensures.value) (search picks)
+returns-in-7 c = rw (← c.peek.ensures.value) (search picks)
 
-pub returns-then-tag-eq-ARRAY : goal.returns-then-tag-eq-ARRAY
+pub returns-in_default : goal.returns-in_default
 unfolding onward_at
-returns-then-tag-eq-ARRAY c = rw (← c.peek-tag.ensures.value) (search picks)
+returns-in_default c = rw (← c.peek.ensures.value) (search picks)
 
-pub returns : goal.returns
+pub returns-in_default-2 : goal.returns-in_default-2
 unfolding onward_at
-returns c = rw (← c.peek-tag.ensures.value) (search picks)
+returns-in_default-2 c = rw (← c.peek.ensures.value) (search picks)

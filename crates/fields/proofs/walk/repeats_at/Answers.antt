@@ -8,6 +8,6 @@ unfolding repeats_at
 returns-then-peek-eq-OBJECT c =
     rw (← c.peek.ensures.value, eq-eqb _ _ c.if-peek-eq-OBJECT.true, ← c.requires.ends) c.repeats_in.ensures
 
-pub returns : goal.returns
+pub returns-else-peek-eq-OBJECT : goal.returns-else-peek-eq-OBJECT
 unfolding repeats_at
-returns c = rw (← c.peek.ensures.value, ne_eqb _ _ c.if-peek-eq-OBJECT.false)
+returns-else-peek-eq-OBJECT c = rw (← c.peek.ensures.value, ne_eqb _ _ c.if-peek-eq-OBJECT.false)

@@ -12,15 +12,15 @@ walked : (p : List ℕ) → length p ≤ longest → survey_from p 0 0 ≡ surve
 unfolding survey_of
 walked p h = rw (le-ltb longest (length p) h)
 
-pub returns-then-n-gt-LONGEST : goal.returns-then-n-gt-LONGEST
+pub returns-then-packed-gt-LONGEST : goal.returns-then-packed-gt-LONGEST
 unfolding survey_of
-returns-then-n-gt-LONGEST c = rw (lt-ltb longest (length c.args.packed.now) c.if-n-gt-LONGEST.true)
+returns-then-packed-gt-LONGEST c = rw (lt-ltb longest (length c.args.packed.now) c.if-packed-gt-LONGEST.true)
 
-pub returns-then-n : goal.returns-then-n
-returns-then-n c = c.survey_few.ensures ∙ walked c.args.packed.now (omega arith)
+pub returns-in-0-to-64 : goal.returns-in-0-to-64
+returns-in-0-to-64 c = c.survey_in.ensures ∙ walked c.args.packed.now (omega arith)
 
-pub returns-then-n-2 : goal.returns-then-n-2
-returns-then-n-2 c = c.survey_some.ensures ∙ walked c.args.packed.now (omega arith)
+pub returns-in-0-to-1024 : goal.returns-in-0-to-1024
+returns-in-0-to-1024 c = c.survey_in-in-0-to-1024.ensures ∙ walked c.args.packed.now (omega arith)
 
-pub returns : goal.returns
-returns c = c.survey_most.ensures ∙ walked c.args.packed.now (omega arith)
+pub returns-in_default : goal.returns-in_default
+returns-in_default c = c.survey_in-in_default.ensures ∙ walked c.args.packed.now (omega arith)

@@ -7,6 +7,6 @@ pub returns-then-peek-eq-NAME : goal.returns-then-peek-eq-NAME
 unfolding values_at
 returns-then-peek-eq-NAME c = rw (← c.peek.ensures.value) (search picks)
 
-pub returns : goal.returns
+pub returns-else-peek-eq-NAME : goal.returns-else-peek-eq-NAME
 unfolding values_at
-returns c = rw (← c.peek.ensures.value) (search picks)
+returns-else-peek-eq-NAME c = rw (← c.peek.ensures.value) (search picks)

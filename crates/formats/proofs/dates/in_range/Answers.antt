@@ -1,6 +1,6 @@
 -- `formats::dates::in_range` meets its contract: the numbers are those of the definition, tested in its order. Assumes nothing.
 use native.Mathlib.Omega.{arith}
-use borrow.Author.Tests.{not-true, not-false, lt-ltb, le-ltb}
+use borrow.Author.Tests.{lt-ltb, le-ltb}
 use Rattle.contact.specs.Dates.{in_range}
 use Rattle.formats.proofs.dates.in_range.Goals as goal
 

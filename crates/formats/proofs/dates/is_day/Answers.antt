@@ -3,10 +3,10 @@ use Rattle.laws.proofs.Picks.{picks}
 use Rattle.contact.specs.Dates.{is_day}
 use Rattle.formats.proofs.dates.is_day.Goals as goal
 
-pub returns-then-day-lt1 : goal.returns-then-day-lt1
+pub returns-else-day-ge1 : goal.returns-else-day-ge1
 unfolding is_day
-returns-then-day-lt1 c = search picks
+returns-else-day-ge1 c = search picks
 
-pub returns : goal.returns
+pub returns-then-day-ge1 : goal.returns-then-day-ge1
 unfolding is_day
-returns c = rw (← c.days_of.ensures) (search picks)
+returns-then-day-ge1 c = rw (← c.days_of.ensures) (search picks)

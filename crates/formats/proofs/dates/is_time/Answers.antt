@@ -1,7 +1,6 @@
 -- `formats::dates::is_time` meets its contract: nineteen bytes by their shape, and then the rest. The measure is the bytes to come of the nineteen.
 -- Assumes nothing.
 use mathlib.Core.Path.{refl, sym, ◌∙◌}
-use borrow.Author.Tests.{not-true, not-false}
 use Rattle.text.specs.Utf8.{conts}
 use Rattle.json_reader.proofs.Unread.{byte_left, none_left}
 use Rattle.formats.proofs.Laws.Times.{begun, begun_over, begun_other, begun_on, begun_done}
@@ -22,13 +21,9 @@ returns-in_default c =
 pub slice_bounds-in_range-end : goal.slice_bounds-in_range-end
 slice_bounds-in_range-end c = sym c.loop-i.invariant.full
 
-pub returns : goal.returns
-returns c =
-    let loop = c.loop-i in
-    let loop-test = c.loop-i-test in
-    let within_range = c.in_range in
-    c.time_ends.ensures
-    ∙ sym (begun_done loop.invariant loop-test.false ∙ rw (← within_range.ensures, c.if-not-in_range.false))
+pub returns-then-in_range : goal.returns-then-in_range
+returns-then-in_range c =
+    c.time_ends.ensures ∙ sym (begun_done c.loop-i.invariant c.loop-i-test.false ∙ rw (← c.in_range.ensures, c.if-in_range.true))
 
 pub returns-then-not-suits : goal.returns-then-not-suits
 returns-then-not-suits c =
@@ -36,7 +31,7 @@ returns-then-not-suits c =
     let loop = c.loop-i in
     let loop-test = c.loop-i-test in
     let next_byte = c.next_byte in
-    sym (begun_other loop.invariant loop-test.true (byte_left a.content.now loop.at next_byte.ensures.result_value c.in-Byte.is)
+    sym (begun_other loop.invariant loop-test.true (byte_left a.content.now loop.at next_byte.ensures.result_value c.in-Some.is)
     (sym c.suits.ensures ∙ c.if-not-suits.true))
 
 pub loop-i-preserved : goal.loop-i-preserved
@@ -45,11 +40,9 @@ loop-i-preserved c =
     let loop = c.loop-i in
     let loop-test = c.loop-i-test in
     let next_byte = c.next_byte in
-    begun_on loop.invariant loop-test.true (byte_left a.content.now loop.at next_byte.ensures.result_value c.in-Byte.is)
+    begun_on loop.invariant loop-test.true (byte_left a.content.now loop.at next_byte.ensures.result_value c.in-Some.is)
     (sym c.suits.ensures ∙ c.if-not-suits.false)
 
-pub returns-then-not-in_range : goal.returns-then-not-in_range
-returns-then-not-in_range c =
-    let loop = c.loop-i in
-    let loop-test = c.loop-i-test in
-    sym (begun_done loop.invariant loop-test.false ∙ rw (← c.in_range.ensures, c.if-not-in_range.true))
+pub returns-else-in_range : goal.returns-else-in_range
+returns-else-in_range c =
+    rw c.if-in_range.false (sym (begun_done c.loop-i.invariant c.loop-i-test.false ∙ rw (← c.in_range.ensures, c.if-in_range.false)))

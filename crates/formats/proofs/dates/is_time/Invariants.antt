@@ -1,6 +1,5 @@
--- `formats::dates::is_time` meets its contract: nineteen bytes by their shape, and then the rest. The measure is the bytes to come of the nineteen.
+-- `formats::dates::is_time` meets its contract: nineteen bytes by their shape, and then the rest.
 -- Assumes nothing.
-use Prim.Native.Nat.{◌-◌}
 use Rattle.text.specs.Strings.{decode}
 use Rattle.json_reader.specs.Cursors.{rest}
 use Rattle.formats.proofs.Laws.Times.{Begun}
@@ -8,6 +7,3 @@ use Rattle.formats.proofs.dates.is_time.Given as goal
 
 abbrev pub invariant-loop-i : goal.invariant-loop-i
 invariant-loop-i l = Begun (decode l.content) l.head (rest l.content l.at) l.i
-
-abbrev pub decreases-loop-i : goal.decreases-loop-i
-decreases-loop-i l = 19 - l.i

@@ -1,7 +1,7 @@
 -- `formats::ids::id_byte` meets its contract: the tests of the code are those of the definition. Assumes nothing.
-use borrow.Author.Rules.{rules}
 use Rattle.laws.proofs.Picks.{picks}
 use Rattle.contact.specs.Values.{id_byte}
+use Rattle.formats.proofs.Laws.Counts.{ascii_digit}
 use Rattle.formats.proofs.ids.id_byte.Goals as goal
 
 pub returns-then-b-eq45 : goal.returns-then-b-eq45
@@ -12,18 +12,10 @@ pub returns-then-b-eq95 : goal.returns-then-b-eq95
 unfolding id_byte
 returns-then-b-eq95 c = search picks
 
-pub is_digit-requires : goal.is_digit-requires
+pub returns-then-is_ascii_digit : goal.returns-then-is_ascii_digit
 unfolding id_byte
-is_digit-requires c = search rules
-
-pub returns-then-is_digit : goal.returns-then-is_digit
-unfolding id_byte
-returns-then-is_digit c = rw (← c.is_digit.ensures, c.if-is_digit.true) (search picks)
-
-pub is_letter-requires : goal.is_letter-requires
-unfolding id_byte
-is_letter-requires c = search rules
+returns-then-is_ascii_digit c = rw (ascii_digit c.args.b c.is_ascii_digit.ensures.value, c.if-is_ascii_digit.true) (search picks)
 
 pub returns : goal.returns
 unfolding id_byte
-returns c = rw (← c.is_digit.ensures, c.if-is_digit.false, ← c.is_letter.ensures) (search picks)
+returns c = rw (ascii_digit c.args.b c.is_ascii_digit.ensures.value, c.if-is_ascii_digit.false, ← c.is_letter.ensures) (search picks)

@@ -4,24 +4,24 @@ use Rattle.text.specs.Chars.{escape_at, on_hex}
 use Rattle.laws.proofs.Picks.{picks}
 use Rattle.json_reader.proofs.chars.escape.Goals as goal
 
-pub returns-in-Unit : goal.returns-in-Unit
+pub returns-in-Ok : goal.returns-in-Ok
 unfolding escape_at on_hex
-returns-in-Unit c =
+returns-in-Ok c =
     rw (
       ← c.peek-b.ensures.value,
       ← c.hex4.ensures,
-      c.in-Unit.is,
+      c.in-Ok.is,
       ← c.unit.ensures,
     )
     (search picks)
 
-pub returns-in-Bad : goal.returns-in-Bad
+pub returns-in-Err : goal.returns-in-Err
 unfolding escape_at on_hex
-returns-in-Bad c =
+returns-in-Err c =
     rw (
       ← c.peek-b.ensures.value,
       ← c.hex4.ensures,
-      c.in-Bad.is,
+      c.in-Err.is,
     )
     (search picks)
 

@@ -30,7 +30,7 @@ returns-then-low-lt56320 c =
       ← c.peek.ensures.value,
       ← c.peek-2.ensures.value,
       ← c.hex4.ensures,
-      c.in-Unit.is,
+      c.in-Ok.is,
     )
     (search picks)
 
@@ -41,7 +41,7 @@ returns-then-low-lt57344 c =
       ← c.peek.ensures.value,
       ← c.peek-2.ensures.value,
       ← c.hex4.ensures,
-      c.in-Unit.is,
+      c.in-Ok.is,
       ← c.checked.ensures,
     )
     (search picks)
@@ -53,6 +53,6 @@ returns c =
       ← c.peek.ensures.value,
       ← c.peek-2.ensures.value,
       ← c.hex4.ensures,
-      c.in-Unit.is,
+      c.in-Ok.is,
     )
     (search picks)

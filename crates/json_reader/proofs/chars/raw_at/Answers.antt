@@ -1,15 +1,16 @@
 -- `json_reader::chars::raw_at` meets its contract: a byte below 256 lies inside the text, as `raw` requires. Assumes nothing.
+use Rattle.std.specs.Prelude.{Err}
+use Rattle.text.specs.declared.Fault.TheVariants.{Forbidden}
 use mathlib.Core.Path.{◌≡◌, refl, sym, ap, ◌∙◌}
 use mathlib.Core.List.{List}
 use Prim.Native.Nat.{ℕ}
 use native.Mathlib.Omega.{arith}
 use Rattle.text.specs.Chars.{raw_at}
-use Rattle.text.specs.declared.Step.TheVariants.{Bad3}
 use Rattle.laws.proofs.Places.{inside}
 use Rattle.json_reader.proofs.chars.raw_at.Goals as goal
 
 -- past the end no character stands
-over : (t : List ℕ) (i : ℕ) → raw_at t i 256 ≡ Bad3 i
+over : (t : List ℕ) (i : ℕ) → raw_at t i 256 ≡ Err (Forbidden i)
 unfolding raw_at
 over t i = refl
 

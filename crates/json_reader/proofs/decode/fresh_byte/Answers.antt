@@ -1,10 +1,10 @@
 -- `json_reader::decode::fresh_byte` meets its contract: one step of the walk `decode_from` (`decode_step`); the tests and what the callees ensure say
 -- which piece stands at the place. Assumes nothing.
-use mathlib.Core.Path.{◌≡◌, sym, ◌∙◌}
+use Rattle.std.specs.Prelude.{Some, Ok}
+use mathlib.Core.Path.{◌≡◌, sym, ◌∙◌, ap}
 use Prim.Native.Nat.{◌<◌}
 use native.Mathlib.Omega.{arith}
 use lib.ListN.{length}
-use Rattle.text.specs.declared.Step.TheVariants.{Char}
 use Rattle.text.specs.Strings.{piece_by}
 use Rattle.text.specs.Utf8.{conts}
 use Rattle.text.specs.Chars.{escape_at}
@@ -32,67 +32,52 @@ returns-then-b-ne-BACKSLASH c =
 
 pub overflow_add-at : goal.overflow_add-at
 overflow_add-at c =
-    let s : escape_at c.args.name.now c.args.at ≡ (Char c.in-Char.code c.in-Char.len) = sym c.escape.ensures ∙ c.in-Char.is in
+    let s : escape_at c.args.name.now c.args.at ≡ (Ok (Some (c.in-Ok-Some.code, c.in-Ok-Some.len))) = sym c.escape.ensures ∙ (c.in-Ok-Some.is ∙ ap Ok c.in-Ok-Some.field-0-is) in
     let n = escape_char c.args.name.now c.args.at s in
     let i : c.args.at < length c.args.name.now = inside c.args.name.now c.args.at (omega arith) in
     omega arith
 
-pub returns-in-Char : goal.returns-in-Char
+pub returns-in-Ok-Some : goal.returns-in-Ok-Some
 unfolding piece_by fresh_of
-returns-in-Char c =
+returns-in-Ok-Some c =
     record {
       result_value =
           rw (
             decode_step c.args.name.now c.args.at,
             ← c.peek-b.ensures.value,
             ← c.escape.ensures,
-            c.in-Char.is,
+            (c.in-Ok-Some.is ∙ ap Ok c.in-Ok-Some.field-0-is),
           )
           (search (picks, c.first_byte.ensures.by_index c.args.name.now));
-      is = rw (← c.peek-b.ensures.value, ← c.escape.ensures, c.in-Char.is) (search (picks, c.first_byte.ensures.is));
+      is = rw (← c.peek-b.ensures.value, ← c.escape.ensures, (c.in-Ok-Some.is ∙ ap Ok c.in-Ok-Some.field-0-is)) (search (picks, c.first_byte.ensures.is));
     }
 
-pub returns-in-Close : goal.returns-in-Close
+pub returns-in-Ok-None : goal.returns-in-Ok-None
 unfolding piece_by fresh_of
-returns-in-Close c =
+returns-in-Ok-None c =
     record {
       result_value =
           rw (
             decode_step c.args.name.now c.args.at,
             ← c.peek-b.ensures.value,
             ← c.escape.ensures,
-            c.in-Close.is,
+            (c.in-Ok-None.is ∙ ap Ok c.in-Ok-None.field-0-is),
           )
           (search picks);
-      is = rw (← c.peek-b.ensures.value, ← c.escape.ensures, c.in-Close.is) (search picks);
+      is = rw (← c.peek-b.ensures.value, ← c.escape.ensures, (c.in-Ok-None.is ∙ ap Ok c.in-Ok-None.field-0-is)) (search picks);
     }
 
-pub returns-in-Bad2 : goal.returns-in-Bad2
+pub returns-in-Err : goal.returns-in-Err
 unfolding piece_by fresh_of
-returns-in-Bad2 c =
+returns-in-Err c =
     record {
       result_value =
           rw (
             decode_step c.args.name.now c.args.at,
             ← c.peek-b.ensures.value,
             ← c.escape.ensures,
-            c.in-Bad2.is,
+            c.in-Err.is,
           )
           (search picks);
-      is = rw (← c.peek-b.ensures.value, ← c.escape.ensures, c.in-Bad2.is) (search picks);
-    }
-
-pub returns-in-Bad3 : goal.returns-in-Bad3
-unfolding piece_by fresh_of
-returns-in-Bad3 c =
-    record {
-      result_value =
-          rw (
-            decode_step c.args.name.now c.args.at,
-            ← c.peek-b.ensures.value,
-            ← c.escape.ensures,
-            c.in-Bad3.is,
-          )
-          (search picks);
-      is = rw (← c.peek-b.ensures.value, ← c.escape.ensures, c.in-Bad3.is) (search picks);
+      is = rw (← c.peek-b.ensures.value, ← c.escape.ensures, c.in-Err.is) (search picks);
     }

@@ -24,9 +24,9 @@ pub returns : goal.returns
 unfolding row_after
 returns c = rw (← c.below.ensures) (search picks)
 
-pub returns-then-at-eq-LAST : goal.returns-then-at-eq-LAST
+pub returns-then-at-eq18446744073709551615 : goal.returns-then-at-eq18446744073709551615
 unfolding row_after
-returns-then-at-eq-LAST c = search picks
+returns-then-at-eq18446744073709551615 c = search picks
 
 pub overflow_add-result : goal.overflow_add-result
 unfolding row_after

@@ -1,13 +1,13 @@
 -- `json_reader::members::read_key` meets its contract: one law of `member_of` for each return, and the name is in the store once it is closed. Assumes nothing.
+use Rattle.std.specs.Prelude.{Ok, Err}
 use Prim.Native.Nat.{ℕ, ◌+◌}
-use mathlib.Core.Path.{◌≡◌, sym, ◌∙◌}
+use mathlib.Core.Path.{◌≡◌, sym, ◌∙◌, ap}
 use mathlib.Core.List.{List, []}
 use native.Mathlib.Omega.{arith}
 use Rattle.text.specs.Text.{byte_at}
 use Rattle.text.specs.Strings.{string_end}
 use Rattle.text.specs.Tree.{curly}
 use Rattle.text.specs.Reader.{value_at}
-use Rattle.text.specs.declared.Token.TheVariants.{End}
 use Rattle.text.specs.declared.Refusal.{Refusal}
 use Rattle.text.proofs.Laws.{EndInside, end_inside}
 use Rattle.repeats.specs.Closed.{aside_name}
@@ -25,7 +25,7 @@ module _ (t names : List ℕ) (end at : ℕ) (asks : NameAsks t names end at) wh
   unclosed r e is = record { inside = tt; is = is; added = rw e (added_none end names asks.room.upto) }
 
   -- a name is closed, and what follows it
-  closed : (to last : ℕ) (names' : List ℕ) (r : ItemStart) → byte_at t at ≡ 34 → string_end t (at + 1) ≡ End to → Put names end at names' last
+  closed : (to last : ℕ) (names' : List ℕ) (r : ItemStart) → byte_at t at ≡ 34 → string_end t (at + 1) ≡ Ok to → Put names end at names' last
       → Coloned t (at + 1) to last r → ItemRead Object t end at names names' r
   closed to last names' (At ns ne from top) h e q p =
       let i = end_inside t (at + 1) to e in
@@ -58,41 +58,41 @@ returns-then-peek-ne-QUOTE c =
     unclosed a.text.now a.names.now a.end a.at s.requires _ (own_none (limits_in a.names.now) a.text.now a.at h)
     (λ L depth n done. member_none L a.text.now (value_at L a.text.now depth) done a.at n h)
 
-pub returns-in-No2 : goal.returns-in-No2
-returns-in-No2 c =
+pub returns-in-Err-Malformed : goal.returns-in-Err-Malformed
+returns-in-Err-Malformed c =
     let s = c in
     let a = s.args in
     let h : byte_at a.text.now a.at ≡ 34 = omega arith in
-    let p = c.in-No2.p in
-    let e = sym c.string_end.ensures ∙ c.in-No2.is in
+    let p = c.in-Err-Malformed.p in
+    let e = sym c.string_end.ensures ∙ (c.in-Err-Malformed.is ∙ ap Err c.in-Err-Malformed.field-0-is) in
     unclosed a.text.now a.names.now a.end a.at s.requires _ (own_no2 (limits_in a.names.now) a.text.now a.at h p e)
     (λ L depth n done. member_no2 L a.text.now (value_at L a.text.now depth) done a.at n h p e)
 
-pub returns-in-No3 : goal.returns-in-No3
-returns-in-No3 c =
+pub returns-in-Err-Forbidden : goal.returns-in-Err-Forbidden
+returns-in-Err-Forbidden c =
     let s = c in
     let a = s.args in
     let h : byte_at a.text.now a.at ≡ 34 = omega arith in
-    let p = c.in-No3.p in
-    let e = sym c.string_end.ensures ∙ c.in-No3.is in
+    let p = c.in-Err-Forbidden.p in
+    let e = sym c.string_end.ensures ∙ (c.in-Err-Forbidden.is ∙ ap Err c.in-Err-Forbidden.field-0-is) in
     unclosed a.text.now a.names.now a.end a.at s.requires _ (own_no3 (limits_in a.names.now) a.text.now a.at h p e)
     (λ L depth n done. member_no3 L a.text.now (value_at L a.text.now depth) done a.at n h p e)
 
 -- the place where a name has ended
-ended : (c : goal.After-slice_known-in-End-1) → EndInside c.args.text.now (c.args.at + 1) c.in-End.to
+ended : (c : goal.After-slice_known-in-Ok-1) → EndInside c.args.text.now (c.args.at + 1) c.in-Ok.to
 ended c =
-    end_inside c.args.text.now (c.args.at + 1) c.in-End.to
-    (sym c.string_end.ensures ∙ c.in-End.is)
+    end_inside c.args.text.now (c.args.at + 1) c.in-Ok.to
+    (sym c.string_end.ensures ∙ c.in-Ok.is)
 
 pub colon-requires : goal.colon-requires
 colon-requires c = omega (arith, ended c)
 
-pub returns-in-End : goal.returns-in-End
-returns-in-End c =
+pub returns-in-Ok : goal.returns-in-Ok
+returns-in-Ok c =
     let s = c in
     let a = s.args in
     let e = c in
     let k = c.put_name-last in
     let h : byte_at a.text.now a.at ≡ 34 = omega arith in
-    closed a.text.now a.names.now a.end a.at s.requires e.in-End.to k.result k.new.names c.colon.result h
-    (sym e.string_end.ensures ∙ e.in-End.is) k.ensures c.colon.ensures
+    closed a.text.now a.names.now a.end a.at s.requires e.in-Ok.to k.result k.new.names c.colon.result h
+    (sym e.string_end.ensures ∙ e.in-Ok.is) k.ensures c.colon.ensures

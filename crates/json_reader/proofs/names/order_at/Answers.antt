@@ -1,24 +1,20 @@
--- `json_reader::names::order_at` meets its contract: the tests pick the case of `order_at`. Assumes nothing.
+-- `json_reader::names::order_at` meets its contract: the arms are the cases of `order_at`. Assumes nothing.
 use Rattle.laws.proofs.Picks.{picks}
 use Rattle.json_reader.specs.Names.{order_at}
 use Rattle.json_reader.proofs.names.order_at.Goals as goal
 
-pub returns-then-p-q : goal.returns-then-p-q
+pub returns-in-256-eq256 : goal.returns-in-256-eq256
 unfolding order_at
-returns-then-p-q c = search picks
+returns-in-256-eq256 c = search picks
 
-pub returns-then-p-eq-OVER : goal.returns-then-p-eq-OVER
+pub returns-in-256-default : goal.returns-in-256-default
 unfolding order_at
-returns-then-p-eq-OVER c = search picks
+returns-in-256-default c = search picks
 
-pub returns-then-q-eq-OVER : goal.returns-then-q-eq-OVER
+pub returns-in_default-eq256 : goal.returns-in_default-eq256
 unfolding order_at
-returns-then-q-eq-OVER c = search picks
+returns-in_default-eq256 c = search picks
 
-pub returns-then-p-q-2 : goal.returns-then-p-q-2
+pub returns-in_default : goal.returns-in_default
 unfolding order_at
-returns-then-p-q-2 c = search picks
-
-pub returns-else-p-q-2 : goal.returns-else-p-q-2
-unfolding order_at
-returns-else-p-q-2 c = search picks
+returns-in_default c = search picks

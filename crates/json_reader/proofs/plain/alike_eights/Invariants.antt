@@ -2,11 +2,11 @@
 -- of the text behind so many bytes. Assumes nothing.
 use Prim.Native.Nat.{◌-◌}
 use lib.ListN.{length}
-use Rattle.json_reader.specs.Plain.{Class, AlikeTo}
+use Rattle.json_reader.specs.Plain.{AlikeTo}
 use Rattle.json_reader.proofs.plain.alike_eights.Given as goal
 
 abbrev pub invariant-loop-k : goal.invariant-loop-k
-invariant-loop-k l = AlikeTo (Class l.own) l.text l.a l.other l.b l.k
+invariant-loop-k g l = AlikeTo g.C.Class.holds l.text l.a l.other l.b l.k
 
 abbrev pub decreases-loop-k : goal.decreases-loop-k
-decreases-loop-k l = length l.text - l.k
+decreases-loop-k g l = length l.text - l.k

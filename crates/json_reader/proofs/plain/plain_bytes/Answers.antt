@@ -3,11 +3,8 @@ use native.Mathlib.Omega.{arith}
 use Rattle.json_reader.proofs.Marks.{few, counted}
 use Rattle.json_reader.proofs.plain.plain_bytes.Goals as goal
 
-pub plain_marks-requires : goal.plain_marks-requires
-plain_marks-requires c = tt
-
 pub overflow_cast-result : goal.overflow_cast-result
-overflow_cast-result c = omega (arith, few c.plain_marks.result)
+overflow_cast-result c = omega (arith, few c.marks.result)
 
 pub returns : goal.returns
-returns c = let m = c.plain_marks in (few m.result, m.ensures _ (few m.result) (counted m.result))
+returns c = let m = c.marks in (few m.result, m.ensures _ (few m.result) (counted m.result))

@@ -10,29 +10,11 @@ use Rattle.json_reader.proofs.Comparing.{quoted_told}
 use Rattle.json_reader.proofs.Eights.{common_plain}
 use Rattle.json_reader.proofs.quoted.order_eights.Goals as goal
 
-pub alike_eights-k-requires : goal.alike_eights-k-requires
-alike_eights-k-requires c = tt
-
 pub overflow_add-x : goal.overflow_add-x
 overflow_add-x c = omega (arith, c.alike_eights-k.ensures.first)
 
 pub overflow_add-y : goal.overflow_add-y
 overflow_add-y c = omega (arith, c.alike_eights-k.ensures.second)
-
-pub peek-p-requires : goal.peek-p-requires
-peek-p-requires c = tt
-
-pub peek-q-requires : goal.peek-q-requires
-peek-q-requires c = tt
-
-pub ended-first-requires : goal.ended-first-requires
-ended-first-requires c = tt
-
-pub ended-second-requires : goal.ended-second-requires
-ended-second-requires c = tt
-
-pub order_at-requires : goal.order_at-requires
-order_at-requires c = tt
 
 -- what the names have in common
 common : (c : goal.After-order_at) → let a = c.args in CommonFrom a.text.now a.a a.b c.alike_eights-k.result
@@ -53,9 +35,6 @@ told c both =
 
 pub returns-then-first-second : goal.returns-then-first-second
 returns-then-first-second c = c.order_at.ensures ∙ told c (λ e. absurd (c.if-first-second.true e))
-
-pub order_along-requires : goal.order_along-requires
-order_along-requires c = tt
 
 -- what the names have in common
 common_2 : (c : goal.After-order_along) → let a = c.args in CommonFrom a.text.now a.a a.b c.alike_eights-k.result

@@ -1,5 +1,6 @@
 -- `json_reader::read::read_whole` meets its contract: one law of a text for each return. Assumes nothing.
 use native.Mathlib.Omega.{arith}
+use Rattle.std.proofs.lemmas.Result.{err_from_is_err_and}
 use Rattle.text.specs.Limits.{base}
 use Rattle.text.specs.Tokens.{skip}
 use Rattle.text.specs.Reader.{value_at}
@@ -8,13 +9,11 @@ use Rattle.json_reader.specs.Readers.{limits_in, Gone}
 use Rattle.json_reader.proofs.Endings.{text_stop, text_more, text_good}
 use Rattle.json_reader.proofs.read.read_whole.Goals as goal
 
-pub read_value-v-requires : goal.read_value-v-requires
-read_value-v-requires c =
-    let s = c in
-    let p = s.requires in
-    let k = skip_span s.args.text.now 0 (omega arith) in
+pub read_value-requires : goal.read_value-requires
+read_value-requires c =
+    let k = skip_span c.args.text.now 0 (omega arith) in
     record {
-      store = p.0;
+      store = c.requires.0;
       places = record { starts = omega arith; ends = omega arith };
       inside = omega (arith, c.skip-from.ensures, k.inside);
       few = omega arith;
@@ -23,46 +22,28 @@ read_value-v-requires c =
       spread = omega arith;
     }
 
--- where a value was read, what its reader ensures says so
-gone : (c : goal.Then-end-text)
-    → let a = c.args in
-    let R = value_at (limits_in a.names.now) a.text.now base.depth 0 0 (skip a.text.now 0) 0 in
-    Gone 0 R a.text.now (skip a.text.now 0) 0 a.table.now c.read_value-v.new.table c.in-Next.to c.in-Next.count
-gone c = rw (c.in-Next.is, c.skip-from.ensures) at c.read_value-v.ensures.0
-
 pub returns-then-end-text : goal.returns-then-end-text
 returns-then-end-text c =
-    let v = c in
-    let s = c in
-    let a = s.args in
-    let g = gone c in
-    text_more (limits_in a.names.now) a.text.now s.requires.1 g.trees v.in-Next.to c.skip-end.result g.is c.skip-end.ensures c.if-end-text.true
+    let a = c.args in
+    let g = rw c.skip-from.ensures at c.in_ok-to.ensures.0 in
+    text_more (limits_in a.names.now) a.text.now c.requires.1 g.trees c.in_ok-to.to c.skip-end.result g.is c.skip-end.ensures c.if-end-text.true
 
--- where a value was read, what its reader ensures says so
-gone_2 : (c : goal.Else-end-text)
-    → let a = c.args in
-    let R = value_at (limits_in a.names.now) a.text.now base.depth 0 0 (skip a.text.now 0) 0 in
-    Gone 0 R a.text.now (skip a.text.now 0) 0 a.table.now c.read_value-v.new.table c.in-Next.to c.in-Next.count
-gone_2 c = rw (c.in-Next.is, c.skip-from.ensures) at c.read_value-v.ensures.0
-
-pub returns-else-end-text : goal.returns-else-end-text
-returns-else-end-text c =
-    let v = c in
-    let s = c in
-    let a = s.args in
-    let g = gone_2 c in (
+pub returns : goal.returns
+returns c =
+    let a = c.args in
+    let g = rw c.skip-from.ensures at c.in_ok-to.ensures.0 in (
       record {
         trees = g.trees;
         to = c.skip-end.result;
-        is = text_good (limits_in a.names.now) a.text.now s.requires.1 g.trees v.in-Next.to c.skip-end.result g.is c.skip-end.ensures c.if-end-text.false;
+        is = text_good (limits_in a.names.now) a.text.now c.requires.1 g.trees c.in_ok-to.to c.skip-end.result g.is c.skip-end.ensures c.if-end-text.false;
         count = omega (arith, g.count);
         table = g.table;
       },
       g.few,
     )
 
-pub returns-in-Stop : goal.returns-in-Stop
-returns-in-Stop c =
-    let s = c in
-    let a = s.args in
-    text_stop (limits_in a.names.now) a.text.now s.requires.1 c.in-Stop.r (rw (c.in-Stop.is, c.skip-from.ensures) at c.read_value-v.ensures.0)
+pub returns-in_err-to : goal.returns-in_err-to
+returns-in_err-to c =
+    let a = c.args in
+    let p = err_from_is_err_and c.from_residual.result c.from_residual.ensures.1 in
+    rw (p.1, p.2) (text_stop (limits_in a.names.now) a.text.now c.requires.1 _ (rw c.skip-from.ensures at c.in_err-to.ensures.0))

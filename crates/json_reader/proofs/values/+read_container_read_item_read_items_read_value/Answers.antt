@@ -1,4 +1,5 @@
 -- The readers of a value, a container, its items and an item meet their contracts. Assumes nothing.
+use Rattle.std.specs.Prelude.{Result, Ok, Err}
 use native.Mathlib.Omega.{arith}
 use Prim.Native.Nat.{ℕ, ◌+◌, ◌-◌}
 use mathlib.Core.Path.{◌≡◌, refl, sym, ◌∙◌}
@@ -24,8 +25,6 @@ use Rattle.json_reader.specs.Readers.{limits_in, Added, Took, Gone, ItemTook, It
 use Rattle.json_reader.specs.declared.containers.Container.{Container}
 use Rattle.json_reader.specs.declared.members.ItemStart.TheVariants.{At}
 use Rattle.json_reader.specs.declared.values.Gathered.{Gathered}
-use Rattle.json_reader.specs.declared.values.Progress.{Progress}
-use Rattle.json_reader.specs.declared.values.Progress.TheVariants.{Next, Stop}
 use Rattle.json_reader.proofs.Ways.{scalar_alike, kind_inside, value_none, value_container, value_scalar, value_one, item_one, container_deep, container_open}
 use Rattle.json_reader.proofs.Closing.{kind_fits, closable, closed, took_settles, took_from, took_further, took_next, took_stop, further_next}
 use Rattle.json_reader.proofs.Store.{under_on, store_kept, added_kept}
@@ -46,7 +45,7 @@ module _ (at n : ℕ) {of : Container} {t : List ℕ} {depth top : ℕ} {old new
   abbrev settled_inside : Read
   settled_inside = settle (first_repeat (tail_at t 1) aside) within
 
-  settles : {names'' : List ℕ} {read : Progress} → Settles t top r names' names'' read → Took n settled_inside t (at + 1) (n + 1) old new read
+  settles : {names'' : List ℕ} {read : (Result (ℕ × ℕ) Refusal)} → Settles t top r names' names'' read → Took n settled_inside t (at + 1) (n + 1) old new read
   settles {names''} {read} s =
       let own : n + 1 - 1 ≡ n = omega arith in
       took_settles n t (slice top r.end names') aside within (at + 1) (n + 1) old new r.read read s.is g.added.is (rw own at g.took)
@@ -165,10 +164,10 @@ module _ {of : Container} {t : List ℕ} {depth end at n : ℕ} {old new names n
   added = rw e at g.added
 
   -- by the case that was matched
-  gone : (done : Forest) {to after : ℕ} → r.read ≡ Next to after → Gone 0 (item_of (limits_in start) of t depth done at n) t at n old new to after
+  gone : (done : Forest) {to after : ℕ} → r.read ≡ Ok (to, after) → Gone 0 (item_of (limits_in start) of t depth done at n) t at n old new to after
   gone done is = took_next (item_of (limits_in start) of t depth done at n) t at n old new (took done) is
 
-  refused : (done : Forest) {x : Refusal} → r.read ≡ Stop x → item_of (limits_in start) of t depth done at n ≡ bad x
+  refused : (done : Forest) {x : Refusal} → r.read ≡ Err x → item_of (limits_in start) of t depth done at n ≡ bad x
   refused done is = took_stop (item_of (limits_in start) of t depth done at n) t at n old new (took done) is
 
 pub read_items-returns-then-b-z : goal.read_items-returns-then-b-z
@@ -231,7 +230,7 @@ read_items-returns-then-b-z-2 t c =
     let u = l.invariant in
     let g = c.read_item-item.ensures in
     let o = opening c.skip-start.ensures c.peek-b.ensures.value c.closing-z.ensures c.if-b-z.false in
-    let k = gone g a.names.now u.added.long u.done c.in-Next.is in
+    let k = gone g a.names.now u.added.long u.done c.in-Ok.is in
     let x = c.skip-x in
     let last = sym c.peek-b-in-loop-to.ensures.value ∙ c.if-b-z-2.true ∙ c.closing-z.ensures in
     let alone = item_one (limits_in a.names.now) a.of a.text.now a.depth u.done l.at l.count in
@@ -247,7 +246,7 @@ read_items-returns-then-b-ne-COMMA t c =
     let u = c.loop-to.invariant in
     let g = c.read_item-item.ensures in
     let o = opening c.skip-start.ensures c.peek-b.ensures.value c.closing-z.ensures c.if-b-z.false in
-    let k = gone g a.names.now u.added.long u.done c.in-Next.is in
+    let k = gone g a.names.now u.added.long u.done c.in-Ok.is in
     let x = c.skip-x in
     let b = c.peek-b-in-loop-to.ensures.value in
     let no_end : byte_at a.text.now x.result ≡ closing (bracket_of a.of) → ⊥ = λ q. c.if-b-z-2.false (b ∙ q ∙ sym c.closing-z.ensures) in
@@ -261,7 +260,7 @@ read_items-returns-then-b-ne-COMMA t c =
 pub read_items-link-requires-in-loop-to : goal.read_items-link-requires-in-loop-to
 read_items-link-requires-in-loop-to t c =
     let u = c.loop-to.invariant in
-    let k = gone c.read_item-item.ensures c.args.names.now u.added.long u.done c.in-Next.is in
+    let k = gone c.read_item-item.ensures c.args.names.now u.added.long u.done c.in-Ok.is in
     omega (arith, u.few, c.requires.few, k.few)
 
 -- a comma stands after an item
@@ -269,7 +268,7 @@ pub read_items-loop-to-smaller : goal.read_items-loop-to-smaller
 read_items-loop-to-smaller t c =
     let a = c.args in
     let u = c.loop-to.invariant in
-    let k = gone c.read_item-item.ensures a.names.now u.added.long u.done c.in-Next.is in
+    let k = gone c.read_item-item.ensures a.names.now u.added.long u.done c.in-Ok.is in
     let x = c.skip-x in
     let b = c.peek-b-in-loop-to.ensures.value in
     let no_end : byte_at a.text.now x.result ≡ closing (bracket_of a.of) → ⊥ = λ q. c.if-b-z-2.false (b ∙ q ∙ sym c.closing-z.ensures) in
@@ -284,14 +283,14 @@ read_items-loop-to-preserved t c =
     let u = l.invariant in
     let r = c.read_item-item in
     let g = r.ensures in
-    let k = gone g a.names.now u.added.long u.done c.in-Next.is in
+    let k = gone g a.names.now u.added.long u.done c.in-Ok.is in
     let x = c.skip-x in
     let b = c.peek-b-in-loop-to.ensures.value in
     let no_end : byte_at a.text.now x.result ≡ closing (bracket_of a.of) → ⊥ = λ q. c.if-b-z-2.false (b ∙ q ∙ sym c.closing-z.ensures) in
     let there : byte_at a.text.now x.result ≡ 44 = omega (arith, c.if-b-ne-COMMA.false, b) in
     let alone = item_one (limits_in a.names.now) a.of a.text.now a.depth u.done l.at l.count in
     upto_more u k x.result x.ensures no_end there c.skip-at.result c.skip-at.ensures alone c.link-in-loop-to.ensures (added g a.names.now u.added.long)
-    (further_next r.result.end g.further c.in-Next.is)
+    (further_next r.result.end g.further c.in-Ok.is)
 
 -- ---- a value
 

@@ -1,20 +1,20 @@
 -- `json_reader::values::close` meets its contract, by the cases of what was read inside. Assumes nothing.
+use Rattle.std.specs.Prelude.{Ok}
 use mathlib.Core.Path.{refl}
 use native.Mathlib.Omega.{arith}
+use Rattle.std.proofs.lemmas.Result.{err_from_is_err_and}
 use Rattle.json_reader.specs.Readers.{Closable}
-use Rattle.json_reader.specs.declared.values.Progress.TheVariants.{Next}
 use Rattle.json_reader.proofs.values.close.Goals as goal
 
 -- where the inside was read, what is required says so
-opened : (c : goal.After-put_row-arg-1)
-    → Closable c.args.count (Next c.in-Next.to c.in-Next.after)
-opened c = rw c.in-Next.is at c.requires.0
+opened : (c : goal.After-put_row-arg-1) → Closable c.args.count (Ok (c.in_ok-to.to, c.in_ok-to.after))
+opened c = rw c.in_ok-to.was at c.requires.0
 
 pub overflow_sub-after : goal.overflow_sub-after
 overflow_sub-after c = omega (arith, opened c)
 
-pub overflow_sub-after-in-Next : goal.overflow_sub-after-in-Next
-overflow_sub-after-in-Next c = omega (arith, opened c)
+pub overflow_sub-after-2 : goal.overflow_sub-after-2
+overflow_sub-after-2 c = omega (arith, opened c)
 
 pub put_row-requires : goal.put_row-requires
 put_row-requires c =
@@ -30,8 +30,10 @@ put_row-requires c =
       below_fits = omega arith;
     }
 
-pub returns-in-Next : goal.returns-in-Next
-returns-in-Next c = rw c.in-Next.is (refl, c.put_row.ensures)
+pub returns : goal.returns
+returns c = rw c.in_ok-to.was (refl, c.put_row.ensures)
 
-pub returns-in-Stop : goal.returns-in-Stop
-returns-in-Stop c = rw c.in-Stop.is refl
+pub returns-in_err-to : goal.returns-in_err-to
+returns-in_err-to c =
+    let p = err_from_is_err_and c.from_residual.result c.from_residual.ensures.1 in
+    rw (p.1, p.2, c.in_err-to.was) refl

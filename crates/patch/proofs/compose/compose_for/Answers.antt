@@ -15,20 +15,20 @@ returns-in_default-child_row c =
     let child-row = c.child_row in
     let child-row2 = c.child_row-2 in
     let a = c.args in
-    for_nothing a.language.now child-row.ensures c.in-Row.is child-row2.result child-row2.ensures _ c.in_default-child_row.is
+    for_nothing a.language.now child-row.ensures c.in-Some.is child-row2.result child-row2.ensures _ c.in_default-child_row.is
 
 pub returns-then-kind-ne-OBJECT : goal.returns-then-kind-ne-OBJECT
 returns-then-kind-ne-OBJECT c =
     let child-row = c.child_row in
     let child-row2 = c.child_row-2 in
     let a = c.args in
-    for_other a.language.now child-row.ensures c.in-Row.is child-row2.result child-row2.ensures c.in-Row-child_row.is _
+    for_other a.language.now child-row.ensures c.in-Some.is child-row2.result child-row2.ensures c.in-Some-child_row.is _
     (λ e. c.if-kind-ne-OBJECT.true (c.kind.ensures ∙ e))
 
 pub compose-requires : goal.compose-requires
 compose-requires c =
     let a = c.args in
-    omega (arith, row_inside a.table.now c.in-Row-child_row.patch (omega (arith, c.kind.ensures, c.if-kind-ne-OBJECT.false)))
+    omega (arith, row_inside a.table.now c.in-Some-child_row.patch (omega (arith, c.kind.ensures, c.if-kind-ne-OBJECT.false)))
 
 pub returns : goal.returns
 returns c =
@@ -38,5 +38,5 @@ returns c =
     let if1 = c.if-kind-ne-OBJECT in
     let compose = c.compose in
     let a = c.args in
-    for_object a.language.now child-row.ensures c.in-Row.is child-row2.result child-row2.ensures c.in-Row-child_row.is _ _
+    for_object a.language.now child-row.ensures c.in-Some.is child-row2.result child-row2.ensures c.in-Some-child_row.is _ _
     compose.result (sym kind.ensures ∙ if1.false) compose.ensures

@@ -1,6 +1,6 @@
 -- `patch::conditions::one_condition` meets its contract: by the row that is named. Assumes nothing.
+use Rattle.std.specs.Prelude.{Err}
 use mathlib.Core.Path.{ap}
-use Rattle.patch.specs.declared.conditions.Condition.TheVariants.{Broken}
 use Rattle.patch.proofs.conditions.one_condition.Goals as goal
 
 pub returns-in_default : goal.returns-in_default
@@ -8,4 +8,4 @@ returns-in_default c = rw (← c.least.ensures, c.in_default.is)
 
 pub returns : goal.returns
 returns c =
-    rw (← c.least.ensures, c.in-Row.is, ← c.quote_at.ensures) (ap Broken c.refusal.ensures)
+    rw (← c.least.ensures, c.in-Some.is, ← c.quote_at.ensures) (ap Err c.refusal.ensures)

@@ -2,15 +2,15 @@
 use Rattle.patch.proofs.Listing.Marks.{next_goes, next_ends}
 use Rattle.patch.proofs.marks.next_cue.Goals as goal
 
-pub returns-in-Nothing : goal.returns-in-Nothing
-returns-in-Nothing c =
+pub returns-in-None : goal.returns-in-None
+returns-in-None c =
     let a = c.args in
-    next_ends a.key.now a.at (rw c.in-Nothing.is at c.after_part.ensures.goes_at)
+    next_ends a.key.now a.at (rw c.in-None.is at c.after_part.ensures.goes_at)
 
-pub returns-in-At : goal.returns-in-At
-returns-in-At c =
+pub returns-in-Some : goal.returns-in-Some
+returns-in-Some c =
     let a = c.args in
-    next_goes a.key.now a.at (rw c.in-At.is at c.after_part.ensures.goes_at) c.place_word.ensures
+    next_goes a.key.now a.at (rw c.in-Some.is at c.after_part.ensures.goes_at) c.place_word.ensures
 
 pub after_part-requires : goal.after_part-requires
 after_part-requires c = tt

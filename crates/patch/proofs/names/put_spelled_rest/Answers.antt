@@ -15,35 +15,23 @@ use Rattle.patch.proofs.names.put_spelled_rest.Goals as goal
 pub loop-b-init : goal.loop-b-init
 loop-b-init c = left_all
 
-pub shape_of-out-in_default : goal.shape_of-out-in_default
-shape_of-out-in_default c = c.put_byte.auto.out ∙ left_length c.loop-b.invariant
-
-pub returns-in_default : goal.returns-in_default
-returns-in_default c =
+pub returns : goal.returns
+returns c =
     let none = over c.args.key.now c.loop-b.c c.part_byte.ensures.result_value c.in_default.is in
     left_last (34 ∷ []) (left_as (ap spelled_rest none) c.loop-b.invariant) c.put_byte.ensures
 
 -- the byte that is handed out, and those after it
-handed : (c : goal.After-slice_known-in-loop-b-1) → let key = c.args.key.now in
-    part_left (rest key c.loop-b.c) ≡ c.in-Byte.b ∷ part_left (rest key c.in-Byte.on)
+handed : (c : goal.After-slice_known-in-Some-1) → let key = c.args.key.now in
+    part_left (rest key c.loop-b.c) ≡ c.in-Some.b ∷ part_left (rest key c.in-Some.on)
 handed c =
-    taken c.args.key.now c.loop-b.c c.part_byte.ensures.result_value c.in-Byte.is
+    taken c.args.key.now c.loop-b.c c.part_byte.ensures.result_value c.in-Some.is
 
 pub loop-b-smaller : goal.loop-b-smaller
 loop-b-smaller c = omega (arith, ap length (handed c))
 
 pub loop-b-preserved : goal.loop-b-preserved
 loop-b-preserved c =
-    let n = part_left (rest c.args.key.now c.in-Byte.on) in
-    left_on (spelled_byte c.in-Byte.b) (spelled_rest n)
-    (left_as (ap spelled_rest (handed c) ∙ append_assoc (spelled_byte c.in-Byte.b) (spelled_bytes n) (34 ∷ [])) c.loop-b.invariant)
+    let n = part_left (rest c.args.key.now c.in-Some.on) in
+    left_on (spelled_byte c.in-Some.b) (spelled_rest n)
+    (left_as (ap spelled_rest (handed c) ∙ append_assoc (spelled_byte c.in-Some.b) (spelled_bytes n) (34 ∷ [])) c.loop-b.invariant)
     c.put_spelled_byte-p.ensures
-
-pub part_byte-requires : goal.part_byte-requires
-part_byte-requires c = tt
-
-pub put_byte-requires : goal.put_byte-requires
-put_byte-requires c = tt
-
-pub put_spelled_byte-p-requires : goal.put_spelled_byte-p-requires
-put_spelled_byte-p-requires c = tt

@@ -2,20 +2,17 @@
 use native.Mathlib.Omega.{arith}
 use Rattle.patch.proofs.runs.probe.Goals as goal
 
-pub at_most-away-requires : goal.at_most-away-requires
-at_most-away-requires c = tt
-
 pub overflow_add-result : goal.overflow_add-result
-overflow_add-result c = omega (arith, c.at_most-away.ensures)
+overflow_add-result c = omega (arith, c.min-away.ensures)
 
 pub returns-then-near-a : goal.returns-then-near-a
-returns-then-near-a c = (omega (arith, c.at_most-away.ensures), omega (arith, c.at_most-away.ensures))
+returns-then-near-a c = (omega (arith, c.min-away.ensures), omega (arith, c.min-away.ensures))
 
 pub overflow_sub-result-then-b-near : goal.overflow_sub-result-then-b-near
-overflow_sub-result-then-b-near c = omega (arith, c.at_most-away.ensures)
+overflow_sub-result-then-b-near c = omega (arith, c.min-away.ensures)
 
 pub returns-then-b-near : goal.returns-then-b-near
-returns-then-b-near c = (omega (arith, c.at_most-away.ensures), omega (arith, c.at_most-away.ensures))
+returns-then-b-near c = (omega (arith, c.min-away.ensures), omega (arith, c.min-away.ensures))
 
 pub returns : goal.returns
 returns c = (omega arith, omega arith)

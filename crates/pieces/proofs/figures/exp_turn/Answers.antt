@@ -4,13 +4,13 @@ use Rattle.wire.specs.Figures.{exp_turn}
 use Rattle.wire.specs.Held.{figure_at}
 use Rattle.pieces.proofs.figures.exp_turn.Goals as goal
 
-pub returns-then-b-eq101 : goal.returns-then-b-eq101
+pub returns-then-b-eq-SMALL_E : goal.returns-then-b-eq-SMALL_E
 unfolding exp_turn figure_at
-returns-then-b-eq101 c = search picks
+returns-then-b-eq-SMALL_E c = search picks
 
-pub returns-then-b-eq69 : goal.returns-then-b-eq69
+pub returns-then-b-eq-LARGE_E : goal.returns-then-b-eq-LARGE_E
 unfolding exp_turn figure_at
-returns-then-b-eq69 c = search picks
+returns-then-b-eq-LARGE_E c = search picks
 
 pub returns : goal.returns
 unfolding exp_turn figure_at

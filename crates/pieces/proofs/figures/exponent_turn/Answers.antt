@@ -10,13 +10,13 @@ pub returns : goal.returns
 unfolding turn_of figure_at
 returns c = rw (c.digit_or.ensures, turn_either) (search picks)
 
-pub returns-then-b-eq45 : goal.returns-then-b-eq45
+pub returns-then-b-eq-MINUS : goal.returns-then-b-eq-MINUS
 unfolding turn_of figure_at
-returns-then-b-eq45 c = search picks
+returns-then-b-eq-MINUS c = search picks
 
-pub returns-then-b-eq43 : goal.returns-then-b-eq43
+pub returns-then-b-eq-PLUS : goal.returns-then-b-eq-PLUS
 unfolding turn_of figure_at
-returns-then-b-eq43 c = search picks
+returns-then-b-eq-PLUS c = search picks
 
 pub digit_or-requires : goal.digit_or-requires
 unfolding turn_of figure_at

@@ -9,9 +9,9 @@ pub returns : goal.returns
 unfolding frac_turn
 returns c = rw c.exp_turn.ensures (search picks)
 
-pub returns-then-b-eq46 : goal.returns-then-b-eq46
+pub returns-then-b-eq-POINT : goal.returns-then-b-eq-POINT
 unfolding frac_turn figure_at
-returns-then-b-eq46 c = search picks
+returns-then-b-eq-POINT c = search picks
 
 pub exp_turn-requires : goal.exp_turn-requires
 unfolding frac_turn figure_at

@@ -10,9 +10,9 @@ pub returns : goal.returns
 unfolding turn_of figure_at
 returns c = rw (c.digit_or.ensures, turn_either) (search picks)
 
-pub returns-then-b-eq48 : goal.returns-then-b-eq48
+pub returns-then-b-eq-ZERO : goal.returns-then-b-eq-ZERO
 unfolding turn_of figure_at
-returns-then-b-eq48 c = search picks
+returns-then-b-eq-ZERO c = search picks
 
 pub digit_or-requires : goal.digit_or-requires
 unfolding turn_of figure_at

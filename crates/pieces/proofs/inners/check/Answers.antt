@@ -1,32 +1,13 @@
--- `pieces::inners::check` meets its contract: the tests are those of `sound`, which decides. Assumes nothing.
-use Rattle.laws.proofs.Picks.{picks}
-use Rattle.wire.specs.Inners.{checked, sound}
+-- `pieces::inners::check` meets its contract: a string may hold what is a character. Assumes nothing.
+use mathlib.Core.Path.{sym, ◌∙◌}
+use Rattle.wire.specs.Inners.{checked}
+use Rattle.pieces.proofs.Ways.{sound_is}
 use Rattle.pieces.proofs.inners.check.Goals as goal
 
-pub returns-then-code-lt55296 : goal.returns-then-code-lt55296
-unfolding checked sound
-returns-then-code-lt55296 c = search picks
+pub returns-then-is_character : goal.returns-then-is_character
+unfolding checked
+returns-then-is_character c = let a = c.args in rw (sound_is a.code, sym c.is_character.ensures ∙ c.if-is_character.true)
 
-pub returns-then-code-lt57344 : goal.returns-then-code-lt57344
-unfolding checked sound
-returns-then-code-lt57344 c = search picks
-
-pub returns-then-code-lt64976 : goal.returns-then-code-lt64976
-unfolding checked sound
-returns-then-code-lt64976 c = search picks
-
-pub returns-then-code-lt65008 : goal.returns-then-code-lt65008
-unfolding checked sound
-returns-then-code-lt65008 c = search picks
-
-pub returns-then-code-gt1114111 : goal.returns-then-code-gt1114111
-unfolding checked sound
-returns-then-code-gt1114111 c = search picks
-
-pub returns-then-code-lt65534 : goal.returns-then-code-lt65534
-unfolding checked sound
-returns-then-code-lt65534 c = search picks
-
-pub returns-else-code-lt65534 : goal.returns-else-code-lt65534
-unfolding checked sound
-returns-else-code-lt65534 c = search picks
+pub returns-else-is_character : goal.returns-else-is_character
+unfolding checked
+returns-else-is_character c = let a = c.args in rw (sound_is a.code, sym c.is_character.ensures ∙ c.if-is_character.false)

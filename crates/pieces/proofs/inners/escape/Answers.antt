@@ -4,9 +4,9 @@ use Rattle.wire.specs.Inners.{move_of}
 use borrow.Author.Rules.{rules}
 use Rattle.pieces.proofs.inners.escape.Goals as goal
 
-pub returns-then-b-eq117 : goal.returns-then-b-eq117
+pub returns-then-b-eq-SMALL_U : goal.returns-then-b-eq-SMALL_U
 unfolding move_of
-returns-then-b-eq117 c = search picks
+returns-then-b-eq-SMALL_U c = search picks
 
 pub letter-l-requires : goal.letter-l-requires
 letter-l-requires c = search rules

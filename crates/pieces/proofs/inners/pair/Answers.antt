@@ -3,9 +3,9 @@ use Rattle.laws.proofs.Picks.{picks}
 use Rattle.wire.specs.Inners.{move_of}
 use Rattle.pieces.proofs.inners.pair.Goals as goal
 
-pub returns-then-b-eq92 : goal.returns-then-b-eq92
+pub returns-then-b-eq-BACKSLASH : goal.returns-then-b-eq-BACKSLASH
 unfolding move_of
-returns-then-b-eq92 c = search picks
+returns-then-b-eq-BACKSLASH c = search picks
 
 pub returns : goal.returns
 unfolding move_of

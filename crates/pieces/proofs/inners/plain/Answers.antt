@@ -4,13 +4,13 @@ use Rattle.wire.specs.Inners.{move_of}
 use borrow.Author.Rules.{rules}
 use Rattle.pieces.proofs.inners.plain.Goals as goal
 
-pub returns-then-b-eq34 : goal.returns-then-b-eq34
+pub returns-then-b-eq-QUOTE : goal.returns-then-b-eq-QUOTE
 unfolding move_of
-returns-then-b-eq34 c = search picks
+returns-then-b-eq-QUOTE c = search picks
 
-pub returns-then-b-eq92 : goal.returns-then-b-eq92
+pub returns-then-b-eq-BACKSLASH : goal.returns-then-b-eq-BACKSLASH
 unfolding move_of
-returns-then-b-eq92 c = search picks
+returns-then-b-eq-BACKSLASH c = search picks
 
 pub returns-then-b-lt32 : goal.returns-then-b-lt32
 unfolding move_of

@@ -17,4 +17,4 @@ pub returns : goal.returns
 unfolding held_of paper refused
 returns c =
     let h = c.args.h in
-    rw (at_going h.place h (omega arith))
+    rw (c.alone.ensures, at_going h.place h (omega arith))

@@ -19,7 +19,7 @@ unfolding feeds
 returns c = c.tidy-2.ensures ∙ ap held_of c.feed_all.ensures
 
 pub feed_all-requires : goal.feed_all-requires
-feed_all-requires c = record { text_len_bound = omega arith; going = omega arith; once = omega arith }
+feed_all-requires c = record { text_len_bound = omega arith; going = omega arith }
 
 pub slice_bounds-feed_all-end : goal.slice_bounds-feed_all-end
 slice_bounds-feed_all-end c = refl

@@ -84,9 +84,6 @@ pub loop-start-init : goal.loop-start-init
 loop-start-init c =
     (c.requires.going, omega arith, none_yet (state_of c.args.start) c.args.text.now c.args.start.place c.args.start refl)
 
-pub overflow_add-stop : goal.overflow_add-stop
-overflow_add-stop c = omega (arith, c.requires.text_len_bound, c.requires.once)
-
 pub run-run-requires : goal.run-run-requires
 run-run-requires c = record { from_in_bounds = c.loop-start.invariant.1; going = c.loop-start.invariant.0 }
 

@@ -1,8 +1,7 @@
 -- `pieces::reader::start` meets its contract by computation. Assumes nothing.
-use mathlib.Core.Path.{refl}
 use Rattle.wire.specs.Held.{held_of, bits_of}
 use Rattle.pieces.proofs.reader.start.Goals as goal
 
 pub returns : goal.returns
 unfolding held_of bits_of
-returns c = refl
+returns c = c.alone.ensures

@@ -40,7 +40,7 @@ fits c =
 
 pub feed_all-got-requires : goal.feed_all-got-requires
 feed_all-got-requires c =
-    record { text_len_bound = (fits c).1; going = omega arith; once = omega arith }
+    record { text_len_bound = (fits c).1; going = omega arith }
 
 pub slice_bounds-feed_all-end : goal.slice_bounds-feed_all-end
 slice_bounds-feed_all-end c = (fits c).0

@@ -1,14 +1,13 @@
 -- `pointers::keys::has_bad_tilde` meets its contract: each turn passes bytes without a `~` and reads one more. Assumes nothing.
 use borrow.Author.Tests.{ne_eqb}
-use Prim.Native.Nat.{◌<◌}
 use mathlib.Core.Path.{refl, ap}
 use native.Mathlib.Omega.{arith}
 use lib.ListN.{length}
 use Rattle.json_reader.proofs.Unread.{byte_left}
-use Rattle.json_reader.specs.Cursors.{rest}
 use Rattle.text.specs.Utf8.{conts}
 use Rattle.pointers.proofs.Laws.Glyphs.{AsTilded, as_tilded_past}
 use Rattle.pointers.proofs.keys.has_bad_tilde.Goals as goal
+use Rattle.pointers.proofs.keys.has_bad_tilde.Goals.{else-b-eq126-via-then-b-eq126+else-not-zero_or_one, else-b-eq126-via-else-b-eq126}
 
 pub loop-b-init : goal.loop-b-init
 unfolding conts
@@ -28,48 +27,20 @@ passed_2 c = as_tilded_past _ _ c.past_written.ensures
 
 pub returns-then-not-zero_or_one : goal.returns-then-not-zero_or_one
 returns-then-not-zero_or_one c =
-    rw (← c.loop-b.invariant, ← (passed_2 c).follows, ← c.next_byte.ensures.result_value, c.in-Byte.is, c.if-b-eq126.true, ← c.zero_or_one.ensures, c.if-not-zero_or_one.true)
-
--- no bad `~` stands in what is passed
-passed_3 : (c : goal.Else-not-zero_or_one) → AsTilded c.args.key.now c.loop-b.c c.past_written.result
-passed_3 c = as_tilded_past _ _ c.past_written.ensures
-
--- where a byte was read, less is left than the turn began with
-less : (c : goal.Else-not-zero_or_one)
-    → let key = c.args.key.now in
-    length (rest key c.in-Byte.on) < length (rest key c.loop-b.c)
-less c =
-    omega (
-      arith,
-      ap length (byte_left c.args.key.now c.past_written.result c.next_byte.ensures.result_value c.in-Byte.is),
-      (passed_3 c).fewer,
-    )
-
-pub loop-b-smaller-else-not-zero_or_one : goal.loop-b-smaller-else-not-zero_or_one
-loop-b-smaller-else-not-zero_or_one c = less c
-
-pub loop-b-preserved-else-not-zero_or_one : goal.loop-b-preserved-else-not-zero_or_one
-loop-b-preserved-else-not-zero_or_one c =
-    rw (← c.loop-b.invariant, ← (passed_3 c).follows, ← c.next_byte.ensures.result_value, c.in-Byte.is, c.if-b-eq126.true, ← c.zero_or_one.ensures, c.if-not-zero_or_one.false)
-
--- no bad `~` stands in what is passed
-passed_4 : (c : goal.Else-b-eq126) → AsTilded c.args.key.now c.loop-b.c c.past_written.result
-passed_4 c = as_tilded_past _ _ c.past_written.ensures
-
--- where a byte was read, less is left than the turn began with
-less_2 : (c : goal.Else-b-eq126)
-    → let key = c.args.key.now in
-    length (rest key c.in-Byte.on) < length (rest key c.loop-b.c)
-less_2 c =
-    omega (
-      arith,
-      ap length (byte_left c.args.key.now c.past_written.result c.next_byte.ensures.result_value c.in-Byte.is),
-      (passed_4 c).fewer,
-    )
+    rw (← c.loop-b.invariant, ← (passed_2 c).follows, ← c.next_byte.ensures.result_value, c.in-Some.is, c.if-b-eq126.true, ← c.zero_or_one.ensures, c.if-not-zero_or_one.true)
 
 pub loop-b-smaller : goal.loop-b-smaller
-loop-b-smaller c = less_2 c
+loop-b-smaller c =
+    omega (
+      arith,
+      ap length (byte_left c.args.key.now c.past_written.result c.next_byte.ensures.result_value c.in-Some.is),
+      (as_tilded_past c.args.key.now c.loop-b.c c.past_written.ensures).fewer,
+    )
 
 pub loop-b-preserved : goal.loop-b-preserved
 loop-b-preserved c =
-    rw (← c.loop-b.invariant, ← (passed_4 c).follows, ← c.next_byte.ensures.result_value, c.in-Byte.is, ne_eqb _ 126 c.if-b-eq126.false)
+    rw (← c.loop-b.invariant, ← (as_tilded_past c.args.key.now c.loop-b.c c.past_written.ensures).follows, ← c.next_byte.ensures.result_value, c.in-Some.is)
+    (elim c.else-b-eq126.branch [
+      | else-b-eq126-via-then-b-eq126+else-not-zero_or_one w ↦ rw (w.if-b-eq126.true, ← w.zero_or_one.ensures, w.if-not-zero_or_one.false) refl
+      | else-b-eq126-via-else-b-eq126 w ↦ rw (ne_eqb _ 126 w.if-b-eq126.false) refl
+    ])

@@ -6,8 +6,8 @@ use Rattle.contact.specs.Pointer.{pointer_of, parts}
 use Rattle.pointers.specs.Pointers.{pointer_order, pointer_from}
 use Rattle.pointers.proofs.keys.parts_order.Given as goal
 
-abbrev pub invariant-loop-x2 : goal.invariant-loop-x2
-invariant-loop-x2 l = pointer_order (pointer_of (rest l.a l.x)) (pointer_of (rest l.b l.y)) ≡ pointer_order (pointer_from l.a l.from) (pointer_from l.b l.from)
+abbrev pub invariant-loop-x : goal.invariant-loop-x
+invariant-loop-x l = pointer_order (pointer_of (rest l.a l.x)) (pointer_of (rest l.b l.y)) ≡ pointer_order (pointer_from l.a l.from) (pointer_from l.b l.from)
 
-abbrev pub decreases-loop-x2 : goal.decreases-loop-x2
-decreases-loop-x2 l = length (parts (pointer_of (rest l.a l.x)))
+abbrev pub decreases-loop-x : goal.decreases-loop-x
+decreases-loop-x l = length (parts (pointer_of (rest l.a l.x)))

@@ -7,6 +7,3 @@ use Rattle.pointers.proofs.parts.name_order.Goals as goal
 pub returns : goal.returns
 unfolding conts decode_from scan piece_by
 returns c = c.written_order.ensures
-
-pub written_order-requires : goal.written_order-requires
-written_order-requires c = tt

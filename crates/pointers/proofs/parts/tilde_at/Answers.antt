@@ -20,12 +20,3 @@ returns c =
     let p = c.peek-b in
     tilde_alone c.args.key.now c.args.at c.requires (omega (arith, p.ensures.value, p.ensures.small)) (λ z. c.if-b-eq-ONE.false (p.ensures.value ∙ z))
     (λ z. c.if-b-eq-ZERO.false (p.ensures.value ∙ z)) (λ z. c.if-b-eq-BACKSLASH.false (p.ensures.value ∙ z))
-
-pub peek-b-requires : goal.peek-b-requires
-peek-b-requires c = tt
-
-pub untold-requires : goal.untold-requires
-untold-requires c = tt
-
-pub returns-then-b-eq-BACKSLASH : goal.returns-then-b-eq-BACKSLASH
-returns-then-b-eq-BACKSLASH c = c.untold.ensures _ _ _

@@ -11,16 +11,16 @@ pub returns-then-b-eq49 : goal.returns-then-b-eq49
 unfolding tilde_left tilde_next
 returns-then-b-eq49 c =
     let next_byte = c.next_byte in
-    record { result_value = rw (← next_byte.ensures.result_value, c.in-Byte.is) (search picks); is = rw (← next_byte.ensures.is, c.in-Byte.is) (search picks) }
+    record { result_value = rw (← next_byte.ensures.result_value, c.in-Some.is) (search picks); is = rw (← next_byte.ensures.is, c.in-Some.is) (search picks) }
 
 pub returns-then-b-eq48 : goal.returns-then-b-eq48
 unfolding tilde_left tilde_next
 returns-then-b-eq48 c =
     let next_byte = c.next_byte in
-    record { result_value = rw (← next_byte.ensures.result_value, c.in-Byte.is) (search picks); is = rw (← next_byte.ensures.is, c.in-Byte.is) (search picks) }
+    record { result_value = rw (← next_byte.ensures.result_value, c.in-Some.is) (search picks); is = rw (← next_byte.ensures.is, c.in-Some.is) (search picks) }
 
 pub returns : goal.returns
 unfolding tilde_left tilde_next
 returns c =
     let next_byte = c.next_byte in
-    record { result_value = rw (← next_byte.ensures.result_value, c.in-Byte.is) (search picks); is = rw (← next_byte.ensures.is, c.in-Byte.is) (search picks) }
+    record { result_value = rw (← next_byte.ensures.result_value, c.in-Some.is) (search picks); is = rw (← next_byte.ensures.is, c.in-Some.is) (search picks) }

@@ -26,12 +26,6 @@ peek-b-requires c = tt
 pub returns-then-b-stop : goal.returns-then-b-stop
 returns-then-b-stop c = c.loop-from.invariant
 
-pub returns-then-b-eq-BACKSLASH : goal.returns-then-b-eq-BACKSLASH
-returns-then-b-eq-BACKSLASH c = c.loop-from.invariant
-
-pub returns-then-b-eq-OVER : goal.returns-then-b-eq-OVER
-returns-then-b-eq-OVER c = c.loop-from.invariant
-
 in_key : (c : goal.Else-b-eq-OVER) → c.loop-from.at < length c.args.key.now
 in_key c = inside c.args.key.now c.loop-from.at (byte c)
 

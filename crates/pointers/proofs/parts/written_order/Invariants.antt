@@ -9,10 +9,10 @@ use Rattle.pointers.proofs.parts.written_order.Given as goal
 
 -- no place is past both its start and the end, so none wraps
 abbrev pub invariant-loop-p : goal.invariant-loop-p
-invariant-loop-p l =
-    (order_of (left_at l.part l.key l.i) (left_at l.is_part l.name l.j) ≡ order_of (left_at l.part l.key l.from) (left_at l.is_part l.name l.name_from))
+invariant-loop-p g l =
+    (order_of (left_at g.A.Kind.part l.key l.i) (left_at g.B.Kind.part l.name l.j) ≡ order_of (left_at g.A.Kind.part l.key l.from) (left_at g.B.Kind.part l.name l.name_from))
     × (l.i - l.from ≤ length l.key - l.from)
     × (l.j - l.name_from ≤ length l.name - l.name_from)
 
 abbrev pub decreases-loop-p : goal.decreases-loop-p
-decreases-loop-p l = length (left_at l.part l.key l.i)
+decreases-loop-p g l = length (left_at g.A.Kind.part l.key l.i)

@@ -4,14 +4,14 @@ use Rattle.text.specs.Limits.{base}
 use Rattle.vault.proofs.Finishing.{packs_refused, packs_finished}
 use Rattle.vault.proofs.pack.pack.Goals as goal
 
-pub returns-in-Refused : goal.returns-in-Refused
-returns-in-Refused c =
+pub returns-in-Err : goal.returns-in-Err
+returns-in-Err c =
     let a = c.args in
-    packs_refused base (length a.table.now) a.text.now (length a.out.now) (rw c.in-Refused.is at c.read.ensures)
-    c.clear_bytes.ensures
+    packs_refused base (length a.table.now) a.text.now (length a.out.now) (rw c.in-Err.is at c.read.ensures)
+    (c.fill.ensures.after (λ y e. e))
 
-pub returns-in-Rows : goal.returns-in-Rows
-returns-in-Rows c =
+pub returns-in-Ok : goal.returns-in-Ok
+returns-in-Ok c =
     let a = c.args in
-    packs_finished base (length a.table.now) a.text.now (rw c.in-Rows.is at c.read.ensures) c.put_value-len.ensures
+    packs_finished base (length a.table.now) a.text.now (rw c.in-Ok.is at c.read.ensures) c.put_value-len.ensures
     c.read.auto.table c.finish.ensures

@@ -1,10 +1,10 @@
 -- `vault::strings::char_end` meets its contract: a raw character stands inside the content, so its end is a place. Assumes nothing.
-use mathlib.Core.Path.{sym, ◌∙◌}
+use Rattle.std.specs.Prelude.{Some, None, Ok, Err}
+use mathlib.Core.Path.{sym, ◌∙◌, ap}
 use Prim.Native.Nat.{◌≤◌}
 use native.Mathlib.Omega.{arith}
 use Rattle.laws.proofs.Places.{inside}
 use Rattle.text.specs.Text.{byte_at}
-use Rattle.text.specs.declared.Step.TheVariants.{Close, Char, Bad2, Bad3}
 use Rattle.vault.proofs.Spelling.{char_low, char_high, raw_inside}
 use Rattle.vault.proofs.strings.char_end.Goals as goal
 
@@ -15,35 +15,28 @@ pub returns-then-b-lt128 : goal.returns-then-b-lt128
 returns-then-b-lt128 c = let a = c.args in sym (char_low a.content.now a.at (omega (arith, c.peek-b.ensures.value)))
 
 -- the byte is none of ASCII
-high : (c : goal.In-Char) → let a = c.args in 128 ≤ byte_at a.content.now a.at
+high : (c : goal.In-Ok-Some) → let a = c.args in 128 ≤ byte_at a.content.now a.at
 high c = omega (arith, c.peek-b.ensures.value)
 
-pub overflow_add-result-in-Char : goal.overflow_add-result-in-Char
-overflow_add-result-in-Char c =
+pub overflow_add-result-in-Ok-Some : goal.overflow_add-result-in-Ok-Some
+overflow_add-result-in-Ok-Some c =
     let a = c.args in
-    let (l, n) = raw_inside a.content.now a.at (omega (arith, c.peek-b.ensures.value, c.peek-b.ensures.small)) (high c) (sym c.raw_at.ensures ∙ c.in-Char.is) in
+    let is = sym c.raw_at.ensures ∙ (c.in-Ok-Some.is ∙ ap Ok c.in-Ok-Some.field-0-is) in
+    let (l, n) = raw_inside a.content.now a.at (omega (arith, c.peek-b.ensures.value, c.peek-b.ensures.small)) (high c) is in
     omega (arith, l, n.few)
 
-pub returns-in-Char : goal.returns-in-Char
-returns-in-Char c = let a = c.args in sym (char_high a.content.now a.at (high c) (Char _ _) (sym c.raw_at.ensures ∙ c.in-Char.is))
+pub returns-in-Ok-Some : goal.returns-in-Ok-Some
+returns-in-Ok-Some c =
+    let a = c.args in
+    let is = sym c.raw_at.ensures ∙ (c.in-Ok-Some.is ∙ ap Ok c.in-Ok-Some.field-0-is) in
+    sym (char_high a.content.now a.at (high c) (Ok (Some (_, _))) is)
 
--- the byte is none of ASCII
-high_2 : (c : goal.In-Close) → let a = c.args in 128 ≤ byte_at a.content.now a.at
-high_2 c = omega (arith, c.peek-b.ensures.value)
+pub returns-in-Ok-None : goal.returns-in-Ok-None
+returns-in-Ok-None c =
+    let a = c.args in
+    let is = sym c.raw_at.ensures ∙ (c.in-Ok-None.is ∙ ap Ok c.in-Ok-None.field-0-is) in
+    sym (char_high a.content.now a.at (omega (arith, c.peek-b.ensures.value)) (Ok None) is)
 
-pub returns-in-Close : goal.returns-in-Close
-returns-in-Close c = let a = c.args in sym (char_high a.content.now a.at (high_2 c) Close (sym c.raw_at.ensures ∙ c.in-Close.is))
-
--- the byte is none of ASCII
-high_3 : (c : goal.In-Bad2) → let a = c.args in 128 ≤ byte_at a.content.now a.at
-high_3 c = omega (arith, c.peek-b.ensures.value)
-
-pub returns-in-Bad2 : goal.returns-in-Bad2
-returns-in-Bad2 c = let a = c.args in sym (char_high a.content.now a.at (high_3 c) (Bad2 _) (sym c.raw_at.ensures ∙ c.in-Bad2.is))
-
--- the byte is none of ASCII
-high_4 : (c : goal.In-Bad3) → let a = c.args in 128 ≤ byte_at a.content.now a.at
-high_4 c = omega (arith, c.peek-b.ensures.value)
-
-pub returns-in-Bad3 : goal.returns-in-Bad3
-returns-in-Bad3 c = let a = c.args in sym (char_high a.content.now a.at (high_4 c) (Bad3 _) (sym c.raw_at.ensures ∙ c.in-Bad3.is))
+pub returns-in-Err : goal.returns-in-Err
+returns-in-Err c =
+    let a = c.args in sym (char_high a.content.now a.at (omega (arith, c.peek-b.ensures.value)) (Err _) (sym c.raw_at.ensures ∙ c.in-Err.is))

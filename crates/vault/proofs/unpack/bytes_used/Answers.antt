@@ -3,11 +3,8 @@ use mathlib.Core.Path.{sym, ap}
 use Rattle.vault.specs.Unpack.{used_by}
 use Rattle.vault.proofs.unpack.bytes_used.Goals as goal
 
-pub returns-in-Unpacked : goal.returns-in-Unpacked
-returns-in-Unpacked c = sym (ap used_by c.in-Unpacked.is)
+pub returns-in-Ok : goal.returns-in-Ok
+returns-in-Ok c = sym (ap used_by c.in-Ok.is)
 
-pub returns-in-NotPacked : goal.returns-in-NotPacked
-returns-in-NotPacked c = sym (ap used_by c.in-NotPacked.is)
-
-pub returns-in-Short : goal.returns-in-Short
-returns-in-Short c = sym (ap used_by c.in-Short.is)
+pub returns-in-Err : goal.returns-in-Err
+returns-in-Err c = sym (ap used_by c.in-Err.is)

@@ -3,4 +3,4 @@ use Rattle.vault.proofs.Restoring.{unpacks}
 use Rattle.vault.proofs.unpack.unpack.Goals as goal
 
 pub returns : goal.returns
-returns c = unpacks c.restore-answer.ensures c.restore-answer.auto.out c.bytes_used-used.ensures c.clear_bytes.ensures
+returns c = unpacks c.restore-answer.ensures c.restore-answer.auto.out c.bytes_used-used.ensures (c.fill.ensures.after (λ y e. e))

@@ -10,7 +10,8 @@ abbrev pub decreases-put_value : goal.decreases-put_value
 decreases-put_value l = l.depth
 
 abbrev pub invariant-loop-i : goal.invariant-loop-i
-invariant-loop-i l = Onward l.packed (bracket_of l.tag) (value_of (l.depth - 1)) l.from l.end l.initial.out l.initial.p l.out l.p l.i
+invariant-loop-i l =
+    Onward l.packed (bracket_of l.field.tag) (value_of (l.depth - 1)) l.field.from l.field.end l.initial.out l.initial.p l.out l.p l.i
 
 abbrev pub decreases-loop-i : goal.decreases-loop-i
-decreases-loop-i l = l.end - l.i
+decreases-loop-i l = l.field.end - l.i

@@ -1,0 +1,2 @@
+-- The lines of the answers.
+pub mod Lines
