@@ -105,7 +105,9 @@ fn tail_at(text: &[u8], at: usize) -> u32
     tail(peek(text, at))
 }
 
-// A raw character of several bytes, with the first byte b.
+// A raw character of several bytes, with the first byte b. It becomes part of the loops that ask for it: a call hands its answer over by memory, which takes as
+// long as all else.
+#[inline(always)]
 fn raw(text: &[u8], at: usize, b: u16) -> Result<Option<(u32, usize)>, Fault<usize>>
     requires { at < length text.now }
     ensures { result ≡ raw_at text.now at b }
