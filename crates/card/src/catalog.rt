@@ -1,21 +1,24 @@
-// The catalog: the known properties of a card's types and the rules between them (docs/RULES.md, 5.5 and 5.6), as words and numbers. A call of judging makes
-// both lists once and lends them to all below, since a constant list is stored anew wherever it is used.
-// A new property is a line in contact/specs/Schema.antt and, at the same place of its type, one in WORDS and one in NUMBERS; COUNT, the starts of the types
-// after it and the places of the rules' words after it go up by one. A new rule is in the record of its type there, and at the same place its shape and its
-// words in NUMBERS; RULE_COUNT and the rules' starts after it go up by one. A word that no property has is a line in WORDS, behind the properties, and one
-// in specs/Catalog.antt; FURTHER goes up by one. A new object type is a number here, its name and how long that is, its start in both lists of starts and its
-// properties; TYPES goes up by one. COUNT, FURTHER, RULE_COUNT, EACH and TYPES stand in specs/Catalog.antt too. The proofs compute over the catalog.
+// The catalog: the known properties of a card's types and the rules between them (docs/RULES.md, 5.5 and 5.6), as words and numbers. A
+// call of judging makes both lists once and lends them to all below, since a constant list is stored anew wherever it is used. A new
+// property is a line in contact/specs/Schema.antt and, at the same place of its type, one in WORDS and one in NUMBERS; COUNT, the starts
+// of the types after it and the places of the rules' words after it go up by one. A new rule is in the record of its type there, and at
+// the same place its shape and its words in NUMBERS; RULE_COUNT and the rules' starts after it go up by one. A word that no property has
+// is a line in WORDS, behind the properties, and one in specs/Catalog.antt; FURTHER goes up by one. A new object type is a number here,
+// its name and how long that is, its start in both lists of starts and its properties; TYPES goes up by one. COUNT, FURTHER, RULE_COUNT,
+// EACH and TYPES stand in specs/Catalog.antt too. The proofs compute over the catalog.
 ghost use Rattle.std.specs.Prelude.{◌≡◌, ◌||◌, ◌+◌, ◌*◌, ◌≤◌, ◌<◌, [], length, get_or, take, drop, eqb};
 ghost use Rattle.text.specs.Text.{bytes, byte_at};
 ghost use Rattle.contact.specs.Schema.{properties, rules_of, own_name};
-ghost use Rattle.card.specs.Catalog.{name_place, name_width, type_count, lines, no_line, all_rules, no_rule, rule_at, rule_words, OwnPart, table_words, Numbers, TriesWord, span_in};
+ghost use Rattle.card.specs.Catalog.{name_place, name_width, type_count, lines, no_line, all_rules, no_rule, rule_at, rule_words};
+ghost use Rattle.card.specs.Catalog.{OwnPart, table_words, Numbers, TriesWord, span_in};
 
 use json_reader::bytes::{BACKSLASH, peek};
 
 // ---- numbers
 
-// A property's number, its code, says all but the letters of its name, as a sum: how long the name is, as `5 * LONG`; MUST if the property is mandatory;
-// LIST, FREE or IDS for a list or a map of such items; and the item. Judging hands types on as such codes, of which the last two parts count.
+// A property's number, its code, says all but the letters of its name, as a sum: how long the name is, as `5 * LONG`; MUST if the
+// property is mandatory; LIST, FREE or IDS for a list or a map of such items; and the item. Judging hands types on as such codes, of
+// which the last two parts count.
 pub(crate) const LONG: u32 = 65536;
 
 pub(crate) const MUST: u32 = 32768;
@@ -87,7 +90,8 @@ pub(crate) const SEPARATORS: u32 = 4;
 // the list of the first, where it is there, has an entry that isn't a separator.
 const NOT_ONLY: u32 = 5;
 
-// Its words are numbers too: how long the word is, and its place in WORDS, as `5 * LONG + COUNT`. A name that more than one property has is that of the first.
+// Its words are numbers too: how long the word is, and its place in WORDS, as `5 * LONG + COUNT`. A name that more than one property has
+// is that of the first.
 const NO_WORD: u32 = 0;
 
 const KIND: u32 = 4 * LONG + 5;

@@ -1,9 +1,11 @@
-// Rules between members (refusal 14; docs/RULES.md, 5.6), by the catalog's rules of a few shapes. A member of the wrong kind counts as absent.
+// Rules between members (refusal 14; docs/RULES.md, 5.6), by the catalog's rules of a few shapes. A member of the wrong kind counts as
+// absent.
 ghost use Rattle.std.specs.Prelude.{◌≡◌, Bool, List, drop};
 ghost use Rattle.text.specs.Tree.{Forest};
 ghost use Rattle.text.specs.Standing.{StandsTo};
 ghost use Rattle.text.specs.Doc.{doc_of, members_of};
-ghost use Rattle.contact.specs.Rules.{present as presentOf, is_true, is_this_string, is_separator, marks_of, marks, badly_separated, breaks_one, breaks as breaksOf};
+ghost use Rattle.contact.specs.Rules.{present as presentOf, is_true, is_this_string, is_separator, marks_of, marks, badly_separated};
+ghost use Rattle.contact.specs.Rules.{breaks_one, breaks as breaksOf};
 ghost use Rattle.card.specs.Rows.{ValueAt, ValueOf};
 ghost use Rattle.card.specs.Catalog.{MembersAt, rule_at, rule_words, Lent, OnObject, TriesRule};
 ghost use Rattle.card.specs.Marks.{no_marks, mark_on, tally};
@@ -25,7 +27,8 @@ use json_reader::rows::{OBJECT, TRUE, kind, name_end, name_start};
 // The row of the member of that name, if its kind is the one that the catalog asks.
 fn present(on: &Case, object: Object, name: &[u8]) -> Option<usize>
     requires { Lent on.now.words.now on.now.numbers.now }
-    ensures { (f : Forest) → MembersAt on.now.table.now object f → ValueOf on.now.text.now on.now.table.now result (presentOf object.of name.now (members_of on.now.text.now f)) }
+    ensures { (f : Forest) → MembersAt on.now.table.now object f
+        → ValueOf on.now.text.now on.now.table.now result (presentOf object.of name.now (members_of on.now.text.now f)) }
 {
     let Some(k) = find(on.text, on.table, object.from, object.end, name) else {
         return None;
@@ -53,7 +56,8 @@ fn counts(on: &Case, object: Object, name: &[u8]) -> bool
 // Is it there, and true?
 fn is_true(on: &Case, object: Object, name: &[u8]) -> bool
     requires { Lent on.now.words.now on.now.numbers.now }
-    ensures { (f : Forest) → MembersAt on.now.table.now object f → result ≡ is_true (presentOf object.of name.now (members_of on.now.text.now f)) }
+    ensures { (f : Forest) → MembersAt on.now.table.now object f
+        → result ≡ is_true (presentOf object.of name.now (members_of on.now.text.now f)) }
 {
     match present(on, object, name) {
         Some(k) => kind(on.table, k) == TRUE,
@@ -64,7 +68,8 @@ fn is_true(on: &Case, object: Object, name: &[u8]) -> bool
 // Is it there, and a String with that content?
 fn is_this_string(on: &Case, object: Object, name: &[u8], content: &[u8]) -> bool
     requires { Lent on.now.words.now on.now.numbers.now }
-    ensures { (f : Forest) → MembersAt on.now.table.now object f → result ≡ is_this_string content.now (presentOf object.of name.now (members_of on.now.text.now f)) }
+    ensures { (f : Forest) → MembersAt on.now.table.now object f
+        → result ≡ is_this_string content.now (presentOf object.of name.now (members_of on.now.text.now f)) }
 {
     let found = present(on, object, name);
     is_string_at(on, found, content)
@@ -73,7 +78,8 @@ fn is_this_string(on: &Case, object: Object, name: &[u8], content: &[u8]) -> boo
 // Is one of the words of rule i there, from one of them on?
 fn any_of(on: &Case, object: Object, i: usize, from: usize) -> bool
     requires { TriesRule on.now.words.now on.now.numbers.now on.now.table.now object i }
-    ensures { (f : Forest) → MembersAt on.now.table.now object f → result ≡ any_counted object.of (members_of on.now.text.now f) (drop from (rule_words (rule_at i))) }
+    ensures { (f : Forest) → MembersAt on.now.table.now object f
+        → result ≡ any_counted object.of (members_of on.now.text.now f) (drop from (rule_words (rule_at i))) }
 {
     for j in from..EACH {
         let word = rule_word(on.words, on.numbers, i, j);
@@ -146,7 +152,8 @@ fn tally_of(on: &Case, from: usize, end: usize) -> Marks
 // The entries of the list of that name; without it, those of no list.
 fn tally_in(on: &Case, object: Object, name: &[u8]) -> Marks
     requires { OnObject on.now.words.now on.now.numbers.now on.now.table.now object }
-    ensures { (f : Forest) → MembersAt on.now.table.now object f → result ≡ tally no_marks (marks (presentOf object.of name.now (members_of on.now.text.now f))) }
+    ensures { (f : Forest) → MembersAt on.now.table.now object f
+        → result ≡ tally no_marks (marks (presentOf object.of name.now (members_of on.now.text.now f))) }
 {
     let Some(k) = present(on, object, name) else {
         return no_marks();
@@ -167,7 +174,8 @@ fn badly_separated(m: Marks, ordered: bool) -> bool
 // Where the first is there, does what the shape asks then fail?
 fn breaks_then(on: &Case, object: Object, shape: u32, i: usize) -> bool
     requires { TriesRule on.now.words.now on.now.numbers.now on.now.table.now object i }
-    ensures { (f : Forest) → MembersAt on.now.table.now object f → result ≡ then_broken object.of (members_of on.now.text.now f) shape (rule_words (rule_at i)) }
+    ensures { (f : Forest) → MembersAt on.now.table.now object f
+        → result ≡ then_broken object.of (members_of on.now.text.now f) shape (rule_words (rule_at i)) }
 {
     match shape {
         NEEDS => !any_of(on, object, i, 1),
@@ -191,7 +199,8 @@ fn breaks_then(on: &Case, object: Object, shape: u32, i: usize) -> bool
 // The list of the first is badly separated, as the second is true or not. Without a separator nothing is asked of the second.
 fn breaks_separators(on: &Case, object: Object, i: usize) -> bool
     requires { TriesRule on.now.words.now on.now.numbers.now on.now.table.now object i }
-    ensures { (f : Forest) → MembersAt on.now.table.now object f → result ≡ separators_broken object.of (members_of on.now.text.now f) (rule_words (rule_at i)) }
+    ensures { (f : Forest) → MembersAt on.now.table.now object f
+        → result ≡ separators_broken object.of (members_of on.now.text.now f) (rule_words (rule_at i)) }
 {
     let first = rule_word(on.words, on.numbers, i, 0);
     let m = tally_in(on, object, first);
@@ -208,7 +217,8 @@ fn breaks_separators(on: &Case, object: Object, i: usize) -> bool
 // Do the members break rule i, whose shape is that?
 fn breaks_shape(on: &Case, object: Object, shape: u32, i: usize) -> bool
     requires { TriesRule on.now.words.now on.now.numbers.now on.now.table.now object i }
-    ensures { (f : Forest) → MembersAt on.now.table.now object f → result ≡ by_shape object.of (members_of on.now.text.now f) shape (rule_words (rule_at i)) }
+    ensures { (f : Forest) → MembersAt on.now.table.now object f
+        → result ≡ by_shape object.of (members_of on.now.text.now f) shape (rule_words (rule_at i)) }
 {
     if shape == ONE_OF {
         return !any_of(on, object, i, 0);

@@ -1,15 +1,16 @@
-// Values, and the arrays and objects that hold some (docs/RULES.md, 3.2), whose readers call each other. Each call has one container less to open, or
-// stands further on in the text.
+// Values, and the arrays and objects that hold some (docs/RULES.md, 3.2), whose readers call each other. Each call has one container less
+// to open, or stands further on in the text.
 //
-// Members are read without comparing their names. The places of the names that were closed stand in `names`, those of the object at hand from `top` on
-// behind those of the objects around it, and are looked through once the object ends or a refusal ends it (crate `repeats`). If `names` has no words, none
-// are put aside, and so none repeats another.
+// Members are read without comparing their names. The places of the names that were closed stand in `names`, those of the object at hand
+// from `top` on behind those of the objects around it, and are looked through once the object ends or a refusal ends it (crate
+// `repeats`). If `names` has no words, none are put aside, and so none repeats another.
 ghost use Rattle.std.specs.Prelude.{◌≡◌};
 ghost use Rattle.text.specs.Limits.{base};
 ghost use Rattle.text.specs.Text.{byte_at};
 ghost use Rattle.text.specs.Tokens as tokens;
 ghost use Rattle.text.specs.Reader.{scalar_at, value_at};
-ghost use Rattle.json_reader.specs.Readers.{limits_in, ItemAsks, ValueAsks, ContainerAsks, ScalarAsks, Overfull, Took, TookIn, CloseAsks, Closes, container_at, SettleAsks, Settles, ItemTook, ItemsTook};
+ghost use Rattle.json_reader.specs.Readers.{limits_in, ItemAsks, ValueAsks, ContainerAsks, ScalarAsks, Overfull, Took, TookIn};
+ghost use Rattle.json_reader.specs.Readers.{CloseAsks, Closes, container_at, SettleAsks, Settles, ItemTook, ItemsTook};
 
 use crate::bytes::{COMMA, peek};
 use crate::containers::{Container, closing, container_of, item_at, kind_in};
@@ -114,8 +115,8 @@ fn settle(
     }
 }
 
-// The value at a place, as row `count`, where at most `depth` containers may be opened. The limit is asked first and not between a value's first byte and its
-// token: so what the first byte says is asked once.
+// The value at a place, as row `count`, where at most `depth` containers may be opened. The limit is asked first and not between a
+// value's first byte and its token: so what the first byte says is asked once.
 #[cycle(read_container_read_item_read_items_read_value)]
 pub(crate) fn read_value(
     text: &[u8],
@@ -129,7 +130,8 @@ pub(crate) fn read_value(
     count: usize,
 ) -> Result<(usize, usize), Refusal>
     requires { ValueAsks text.now names.old top ns ne at count }
-    ensures { TookIn (value_at (limits_in names.old) text.now depth ns ne at count) text.now at count table.old table.new top names.old names.new result }
+    ensures { TookIn (value_at (limits_in names.old) text.now depth ns ne at count) text.now at count table.old table.new top names.old
+        names.new result }
 {
     if VALUES <= count {
         return Err(overfull(text, depth, at));
@@ -160,7 +162,8 @@ fn read_container(
     count: usize,
 ) -> Result<(usize, usize), Refusal>
     requires { ContainerAsks text.now names.old top ns ne at count }
-    ensures { TookIn (container_at of (limits_in names.old) text.now depth ns ne at count) text.now at count table.old table.new top names.old names.new result }
+    ensures { TookIn (container_at of (limits_in names.old) text.now depth ns ne at count) text.now at count table.old table.new top names.old
+        names.new result }
 {
     if depth == 0 {
         return Err(Refusal::Deep(at));

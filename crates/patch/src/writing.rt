@@ -1,10 +1,12 @@
-// Values for a lent output (docs/RULES.md, 6.6): as they are, or as the entries of a patch leave them. No white space is written, and each token stays as it is.
+// Values for a lent output (docs/RULES.md, 6.6): as they are, or as the entries of a patch leave them. No white space is written, and
+// each token stays as it is.
 ghost use Rattle.std.specs.Prelude.{◌≡◌};
 ghost use Rattle.laws.specs.Lists.{RunIn};
 ghost use Rattle.output.specs.Written.{Wrote};
 ghost use Rattle.patch.specs.Copied.{open_byte, close_byte, head_of, label_in, Copied};
 ghost use Rattle.patch.specs.Marks.{RunCued};
-ghost use Rattle.patch.specs.Patched.{pen_behind, pen_hinted, RunAsks, EntryAsks, PutAddition, PutAdditions, Settled, is_nothing, Ending, stray_of, PutReplaced, PutInside, PutMember, PutValue, PutCard};
+ghost use Rattle.patch.specs.Patched.{pen_behind, pen_hinted, RunAsks, EntryAsks, PutAddition, PutAdditions, Settled, is_nothing};
+ghost use Rattle.patch.specs.Patched.{Ending, stray_of, PutReplaced, PutInside, PutMember, PutValue, PutCard};
 
 use crate::children::key_at;
 use crate::marks::{ARRIVES, IN_ARRAY, MET, NO_OBJECT, advance, end_all, meet};
@@ -104,8 +106,8 @@ fn copy_value(text: &[u8], table: &[u32], row: usize, out: &mut [u8], at: usize)
     put_byte(out, p, close_of(k))
 }
 
-// ---- values as the entries of a patch leave them: the card's text and table, and those of the patch. `leave` is the row of a member of the card that is
-// left out; row 0 is the card itself, so 0 leaves out none. The keys of all entries begin alike up to `shared`
+// ---- values as the entries of a patch leave them: the card's text and table, and those of the patch. `leave` is the row of a member of
+// the card that is left out; row 0 is the card itself, so 0 leaves out none. The keys of all entries begin alike up to `shared`
 
 // Does nothing follow a part?
 fn is_nothing(o: Option<usize>) -> bool
@@ -114,7 +116,8 @@ fn is_nothing(o: Option<usize>) -> bool
     o.is_none()
 }
 
-// The member that the entry at the row e adds to an object that lacks it; none if it is null. Its name begins at a place of the entry's key.
+// The member that the entry at the row e adds to an object that lacks it; none if it is null. Its name begins at a place of the entry's
+// key.
 fn put_addition(
     ptext: &[u8],
     ptable: &[u32],
@@ -135,8 +138,8 @@ fn put_addition(
     behind(from, to)
 }
 
-// What becomes of the entry listed at i, where the members of its object have all been met and it met none of them: it adds one if this is its last part, and
-// else its walk meets no object.
+// What becomes of the entry listed at i, where the members of its object have all been met and it met none of them: it adds one if this
+// is its last part, and else its walk meets no object.
 fn settle(
     ptext: &[u8],
     ptable: &[u32],
@@ -160,8 +163,8 @@ fn settle(
     from
 }
 
-// The members that the run of entries adds to the object whose members have been met, and its closing brace. An entry that met one costs no more than a look
-// at its cue.
+// The members that the run of entries adds to the object whose members have been met, and its closing brace. An entry that met one costs
+// no more than a look at its cue.
 fn put_additions(
     ptext: &[u8],
     ptable: &[u32],
@@ -208,7 +211,8 @@ fn ends_first(
     is_nothing(after_part(key, cues[lo] as usize))
 }
 
-// The member at a row with the value of the entry at the row e; left out if that is null. Its own run, which is that entry, has met it and arrives.
+// The member at a row with the value of the entry at the row e; left out if that is null. Its own run, which is that entry, has met it
+// and arrives.
 fn put_replaced(
     text: &[u8],
     table: &[u32],
@@ -223,7 +227,8 @@ fn put_replaced(
     from: Pen,
 ) -> Pen
     requires { RunIn cues.old own.lo own.hi × RunIn walks.old own.lo own.hi }
-    ensures { PutReplaced text.now table.now row ptext.now ptable.now e own.lo own.hi cues.old cues.new walks.old walks.new out.old from out.new result }
+    ensures { PutReplaced text.now table.now row ptext.now ptable.now e own.lo own.hi cues.old cues.new walks.old walks.new out.old from
+        out.new result }
 {
     meet(cues, own.lo, own.hi, row);
     end_all(walks, own.lo, own.hi, ARRIVES);
@@ -235,7 +240,8 @@ fn put_replaced(
     behind(from, to)
 }
 
-// The member at a row with its value as its own run leaves that: the entries of the run go on by one part, and then they have met the member.
+// The member at a row with its value as its own run leaves that: the entries of the run go on by one part, and then they have met the
+// member.
 #[cycle(put_inside_put_member_put_value)]
 fn put_inside(
     text: &[u8],
@@ -253,7 +259,8 @@ fn put_inside(
     shared: usize,
 ) -> Pen
     requires { RunAsks rows.now cues.old walks.old own.lo own.hi }
-    ensures { PutInside text.now table.now row leave ptext.now ptable.now rows.now own.lo own.hi shared cues.old cues.new walks.old walks.new out.old from out.new result }
+    ensures { PutInside text.now table.now row leave ptext.now ptable.now rows.now own.lo own.hi shared cues.old cues.new walks.old walks.new
+        out.old from out.new result }
 {
     let p = put_head(text, table, row, OBJECT, from.first, out, from.to);
     if own.lo == own.hi {
@@ -286,7 +293,8 @@ fn put_member(
     shared: usize,
 ) -> Pen
     requires { RunAsks rows.now cues.old walks.old run.lo run.hi }
-    ensures { PutMember text.now table.now row leave ptext.now ptable.now rows.now run.lo run.hi shared cues.old cues.new walks.old walks.new out.old from out.new result }
+    ensures { PutMember text.now table.now row leave ptext.now ptable.now rows.now run.lo run.hi shared cues.old cues.new walks.old walks.new
+        out.old from out.new result }
 {
     if row == leave {
         return from;
@@ -310,8 +318,8 @@ fn stray_of(kind: usize) -> u8
     if kind == ARRAY { IN_ARRAY } else { NO_OBJECT }
 }
 
-// The value at a row as the run leaves it, without the member to leave out; and where the walks of the run end. The walk calls itself on the remaining parts
-// of the keys, for a run of them.
+// The value at a row as the run leaves it, without the member to leave out; and where the walks of the run end. The walk calls itself on
+// the remaining parts of the keys, for a run of them.
 #[cycle(put_inside_put_member_put_value)]
 fn put_value(
     text: &[u8],
@@ -329,7 +337,8 @@ fn put_value(
     shared: usize,
 ) -> usize
     requires { RunAsks rows.now cues.old walks.old run.lo run.hi }
-    ensures { PutValue text.now table.now row leave ptext.now ptable.now rows.now run.lo run.hi shared cues.old cues.new walks.old walks.new out.old at out.new result }
+    ensures { PutValue text.now table.now row leave ptext.now ptable.now rows.now run.lo run.hi shared cues.old cues.new walks.old walks.new
+        out.old at out.new result }
 {
     let k = kind(table, row);
     if k != OBJECT {
@@ -353,8 +362,8 @@ fn put_value(
     put_additions(ptext, ptable, rows, cues, walks, run, out, s)
 }
 
-// The card, whose value is at the first row, without its localizations at the row `leave` and as the first n of the listed entries leave it; and where their
-// walks end.
+// The card, whose value is at the first row, without its localizations at the row `leave` and as the first n of the listed entries leave
+// it; and where their walks end.
 pub(crate) fn put_card(
     text: &[u8],
     table: &[u32],
