@@ -5,7 +5,7 @@ ghost use Rattle.fields.specs.Survey.{name_at, is_found};
 ghost use Rattle.fields.specs.Asks.{RepeatAsks};
 
 use crate::places::Names;
-use laws::labels::{ascend, first_direct, least_beside, sort_places};
+use laws::labels::{ascend, first_direct, has_beside, sort_places};
 
 // So few names are compared each with each: to sort them would take longer.
 const FEW: usize = 8;
@@ -23,5 +23,5 @@ pub(crate) fn repeat_among(packed: &[u8], places: &mut [u32], scratch: &mut [u32
         return false;
     }
     sort_places(&names, places, scratch);
-    least_beside(&names, places).is_some()
+    has_beside(&names, places)
 }

@@ -2,6 +2,7 @@
 --     earlier_kept, earlier_taken, earlier_first      the earlier of two places
 --     known_any                                  is a label among those of some places?
 --     beside_start, beside_same, beside_other, beside_end      neighbours, from the right to the left
+--     beside_over, beside_all, found_earlier     and from the left to the right
 --     direct-start, direct-new, direct-known, direct-end      each word against those before it
 --     relabel                                    the first repeat under labels that agree in the same places
 --     in-slice, few-none, found-less             what is found is one of the words
@@ -13,17 +14,17 @@ use mathlib.Core.List.{List, [], ◌∷◌, ◌++◌}
 use mathlib.Core.Bool.{Bool, true, false, cond}
 use Prim.Native.Nat.{ℕ, zero, suc, ◌+◌, ◌-◌, ◌≤◌, ◌<◌}
 use native.Mathlib.Omega.{arith}
-use native.Mathlib.Decide.{dec_le}
+use native.Mathlib.Decide.{dec_le, dec_lt}
 use lib.ListN.{length, get_or, take}
 use lib.Seq.{slice}
 use borrow.Author.Tests.{lt-ltb, le-ltb}
-use Rattle.std.specs.Prelude.{◌||◌, Option, Some, None, unwrap_or, is_some}
+use Rattle.std.specs.Prelude.{ltb, ◌||◌, Option, Some, None, unwrap_or, is_some}
 use Rattle.std.specs.List.{list_any}
 use Rattle.laws.specs.Order.{same, before}
 use Rattle.laws.proofs.Orders.{before_irrefl, before_trans}
 use Rattle.laws.specs.Each as each
-use Rattle.laws.proofs.Slices.{slice_more, slice_none, slice_split, slice_all}
-use Rattle.laws.specs.Earliest.{Climbs, up_none, up_more, Earliest, nowhere, found, earlier, known, repeat_from, first_repeat, beside_from, least_beside, place_of, ascend_from, ascending}
+use Rattle.laws.proofs.Slices.{slice_more, slice_none, slice_over, slice_split, slice_all}
+use Rattle.laws.specs.Earliest.{Climbs, up_none, up_more, Earliest, nowhere, found, earlier, known, repeat_from, first_repeat, beside_from, least_beside, is_found, place_of, ascend_from, ascending}
 use Rattle.laws.proofs.Earliest.{Least, Repeats, least_unique, first_least}
 
 -- ---- is a label among those of some places?
@@ -57,6 +58,14 @@ pub earlier_first : (p : ℕ) (m : Earliest) → ◌≡◌ {A = Option ℕ} None
 earlier_first p nowhere e = refl
 earlier_first p (found x) e = absurd (none_not_some e)
 
+pub found_earlier : (p : ℕ) (m : Earliest) → is_found (earlier p m) ≡ true
+found_earlier p nowhere = refl
+found_earlier p (found q) = go (ltb q p)
+  where
+    go : (b : Bool) → is_found (cond b (found q) (found p)) ≡ true
+    go true = refl
+    go false = refl
+
 module _ (label : ℕ → List ℕ) (l : List ℕ) where
   -- ---- neighbours
 
@@ -81,6 +90,20 @@ module _ (label : ℕ → List ℕ) (l : List ℕ) where
   pub beside_end : (lo hi : ℕ) → lo < hi → hi ≤ length l → beside_from label (get_or l lo 0) (slice (lo + 1) hi l) ≡ least_beside label (slice lo hi l)
   unfolding least_beside
   beside_end lo hi h i = rw (slice_more lo hi l h i)
+
+  pub beside_over : (left k : ℕ) → length l ≤ k → beside_from label left (slice k (length l) l) ≡ nowhere
+  unfolding beside_from
+  beside_over left k h = rw (slice_over k l h)
+
+  -- of the second on, if there are any, it is that of all
+  pub beside_all : (k : ℕ) → (0 < length l → k ≡ 1) → beside_from label (get_or l (k - 1) 0) (slice k (length l) l) ≡ least_beside label l
+  unfolding least_beside
+  beside_all k second = elim (dec_lt 0 (length l)) [
+    | yes h ↦ rw (second h) (beside_end 0 (length l) h (omega arith) ∙ ap (least_beside label) (slice_all l))
+    | no h ↦
+        beside_over (get_or l (k - 1) 0) k (omega arith)
+        ∙ ap (least_beside label) (sym (slice_none 0 (length l) l (omega arith) (omega arith)) ∙ slice_all l)
+  ]
 
   -- ---- each against those before it
 
@@ -169,9 +192,14 @@ module _ (label : ℕ → List ℕ) (l : List ℕ) (lo hi : ℕ) (r : hi ≤ len
 
 module _ (label : ℕ → List ℕ) where
   module _ (l : List ℕ) where
-    pub ascend_start : 0 < length l → ascend_from label (get_or l 0 0) (slice 1 (length l) l) ≡ ascending label l
-    unfolding ascending
-    ascend_start h = sym (ap (ascending label) (sym (slice_all l) ∙ slice_more 0 (length l) l h (omega arith)))
+    pub ascend_start : ascend_from label (get_or l 0 0) (slice 1 (length l) l) ≡ ascending label l
+    unfolding ascend_from ascending
+    ascend_start = elim (dec_lt 0 (length l)) [
+      | yes h ↦ sym (ap (ascending label) (sym (slice_all l) ∙ slice_more 0 (length l) l h (omega arith)))
+      | no h ↦
+          rw (slice_over 1 l (omega arith))
+          (ap (ascending label) (sym (slice_none 0 (length l) l (omega arith) (omega arith)) ∙ slice_all l))
+    ]
 
     turn : (i : ℕ) → i < length l
         → ascend_from label (get_or l (i - 1) 0) (slice i (length l) l) ≡ cond (before (label (get_or l (i - 1) 0)) (label (get_or l i 0))) (ascend_from label (get_or l i 0) (slice (i + 1) (length l) l)) false
@@ -186,9 +214,9 @@ module _ (label : ℕ → List ℕ) where
         → false ≡ ascend_from label (get_or l (i - 1) 0) (slice i (length l) l)
     ascend_not i h e = sym (turn i h ∙ rw e)
 
-    pub ascend_end : (left i : ℕ) → length l ≤ i → i ≤ length l → true ≡ ascend_from label left (slice i (length l) l)
+    pub ascend_end : (left i : ℕ) → length l ≤ i → true ≡ ascend_from label left (slice i (length l) l)
     unfolding ascend_from
-    ascend_end left i h k = rw (slice_none i (length l) l k h)
+    ascend_end left i h = rw (slice_over i l h)
 
   never : {A : Type 0} {b : Bool} → b ≡ true → b ≡ false → A
   never e f = let z : ◌≡◌ {A = ℕ} 0 1 = cc in absurd (omega arith)

@@ -1,5 +1,6 @@
 -- The elements of a list from a place up to another, `slice lo hi l`:
 --     slice-more, slice-none     the first of them, and then the others
+--     slice_over                 from the end of the list on
 --     slice-split                two parts that meet
 --     slice_set                  a store behind a part makes it longer
 --     slice-agree                lists that agree from the one place to the other
@@ -11,7 +12,7 @@ use mathlib.Core.List.{List, [], ◌∷◌, ◌++◌}
 use Prim.Native.Nat.{ℕ, zero, suc, ◌+◌, ◌≤◌, ◌<◌}
 use native.Mathlib.Omega.{arith}
 use native.Mathlib.Numerals.{add-one}
-use lib.ListN.{length, get_or, set, take, drop, take-append-drop}
+use lib.ListN.{length, get_or, set, take, drop, take-append-drop, drop_of_length-le}
 use lib.Seq.{slice, take-length, slice-cons, slice_empty, length-slice, length-take-le, take-take, take-suc-set, drop-append-le, get_or-drop, get_or-take, ext_get_or}
 use Rattle.laws.specs.Each.{Each, none, more}
 
@@ -20,6 +21,9 @@ slice_more lo hi l h k = rw add-one (slice-cons lo hi l 0 h k)
 
 pub slice_none : (lo hi : ℕ) (l : List ℕ) → lo ≤ hi → hi ≤ lo → slice lo hi l ≡ []
 slice_none lo hi l h k = let e : lo ≡ hi = omega arith in rw e (slice_empty hi l)
+
+pub slice_over : (lo : ℕ) (l : List ℕ) → length l ≤ lo → slice lo (length l) l ≡ []
+slice_over lo l h = ap (drop lo) (take-length l) ∙ drop_of_length-le l h
 
 pub slice_split : (lo mid hi : ℕ) (l : List ℕ) → lo ≤ mid → mid ≤ hi → hi ≤ length l → slice lo hi l ≡ slice lo mid l ++ slice mid hi l
 slice_split lo mid hi l p q r =
