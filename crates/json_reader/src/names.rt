@@ -66,7 +66,7 @@ fn goes_on(a: &[u8], lit: &[u8], from: usize) -> bool
 pub fn slice_is(a: &[u8], lit: &[u8]) -> bool
     ensures { result ≡ same (decode a.now) lit.now }
 {
-    let i = alike_from::<RawByte>(a, 0, lit, 0, 0);
+    let i = alike_from::<RawByte>(a, 0, lit, 0);
     let p = peek(a, i);
     if p == BACKSLASH {
         return goes_on(a, lit, i);

@@ -13,15 +13,25 @@ pub trait Class {
     fn has(b: u16) -> bool
         ensures { Told (holds b) result };
 
+    // So many bytes that stand from two places on are told at once to be alike and in the class, before others are told one at a time.
+    // None, unless a class knows better.
+    fn alike_start(text: &[u8], a: usize, other: &[u8], b: usize) -> usize
+        ensures { AlikeTo holds text.now a other.now b result }
+    {
+        0
+    }
+
     // The end of a text, which is no byte, is in none.
     ghost within: { (b : ℕ) → holds b → b < 256 };
 }
 
-// A class that is told of eight bytes at once too.
-pub trait Marked: Class {
+// A class that is told of eight bytes at once.
+pub trait Marked {
+    ghost holds: { ℕ → Type 0 };
+
     // Marks of a number's eight bytes: each that isn't in the class has its highest bit.
     fn marks(w: u64) -> u64
-        ensures { MarkedBytes Self.holds result w };
+        ensures { MarkedBytes holds result w };
 }
 
 // Bytes that stand for themselves.
@@ -61,9 +71,15 @@ impl Class for PlainByte {
     fn has(b: u16) -> bool {
         matches!(b, SPACE..0x80) && b != QUOTE && b != BACKSLASH
     }
+
+    fn alike_start(text: &[u8], a: usize, other: &[u8], b: usize) -> usize {
+        alike_eights::<PlainByte>(text, a, other, b)
+    }
 }
 
 impl Marked for PlainByte {
+    ghost holds = { Plain };
+
     // No sum reaches the next byte, and with its second bit turned the quote stands among the controls, below 33, and nothing else does.
     fn marks(w: u64) -> u64 {
         let low = w & 0x7F7F7F7F7F7F7F7F;
@@ -82,9 +98,15 @@ impl Class for OwnByte {
     fn has(b: u16) -> bool {
         PlainByte::has(b) && b != SLASH && b != TILDE
     }
+
+    fn alike_start(text: &[u8], a: usize, other: &[u8], b: usize) -> usize {
+        alike_eights::<OwnByte>(text, a, other, b)
+    }
 }
 
 impl Marked for OwnByte {
+    ghost holds = { Own };
+
     // The plain marks, and those of a slash and a tilde.
     fn marks(w: u64) -> u64 {
         let low = w & 0x7F7F7F7F7F7F7F7F;
@@ -177,12 +199,11 @@ pub fn is_own_byte(b: u16) -> bool
     OwnByte::has(b)
 }
 
-// How many bytes stand alike from two places on and are in a class, up to the first that isn't so, if the first `known` of them are.
-pub fn alike_from<C: Class>(text: &[u8], a: usize, other: &[u8], b: usize, known: usize) -> usize
-    requires { AlikeTo C.holds text.now a other.now b known }
+// How many bytes stand alike from two places on and are in a class, up to the first that isn't so.
+pub fn alike_from<C: Class>(text: &[u8], a: usize, other: &[u8], b: usize) -> usize
     ensures { AlikeRun C.holds text.now a other.now b result }
 {
-    let mut k = known;
+    let mut k = C::alike_start(text, a, other, b);
     loop {
         let p = peek(text, a + k);
         if p != peek(other, b + k) {
@@ -195,23 +216,16 @@ pub fn alike_from<C: Class>(text: &[u8], a: usize, other: &[u8], b: usize, known
     }
 }
 
-// The same, told eight at a time: where the eights stop a difference is found at once.
-fn alike_run<C: Marked>(text: &[u8], a: usize, other: &[u8], b: usize) -> usize
-    ensures { AlikeRun C.holds text.now a other.now b result }
-{
-    alike_from::<C>(text, a, other, b, alike_eights::<C>(text, a, other, b))
-}
-
-// How many plain bytes stand alike from two places on.
+// How many plain bytes stand alike from two places on. Where the eights stop a difference is found at once.
 pub fn alike_plain_from(text: &[u8], a: usize, other: &[u8], b: usize) -> usize
     ensures { AlikeRun Plain text.now a other.now b result }
 {
-    alike_run::<PlainByte>(text, a, other, b)
+    alike_from::<PlainByte>(text, a, other, b)
 }
 
 // How many bytes stand alike that are plain and neither slashes nor tildes.
 pub fn alike_own_from(text: &[u8], a: usize, other: &[u8], b: usize) -> usize
     ensures { AlikeRun Own text.now a other.now b result }
 {
-    alike_run::<OwnByte>(text, a, other, b)
+    alike_from::<OwnByte>(text, a, other, b)
 }

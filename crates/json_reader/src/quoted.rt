@@ -78,7 +78,7 @@ fn ended(p: u16) -> u16
 fn order_along(text: &[u8], a: usize, b: usize) -> Ordering
     ensures { result ≡ order_of (quoted_from text.now a) (quoted_from text.now b) }
 {
-    let k = alike_from::<WrittenByte>(text, a, text, b, 0);
+    let k = alike_from::<WrittenByte>(text, a, text, b);
     let x = a + k;
     let y = b + k;
     let p = peek(text, x);

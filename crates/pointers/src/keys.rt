@@ -5,7 +5,6 @@ ghost use Rattle.text.specs.Strings.{decode};
 ghost use Rattle.text.specs.Text.{bytes};
 ghost use Rattle.json_reader.specs.Cursors.{rest, cursor};
 ghost use Rattle.json_reader.specs.Names.{Raw};
-ghost use Rattle.json_reader.specs.Plain.{AlikeTo};
 ghost use Rattle.contact.specs.Pointer.{pointer_of, bad_tilde, zero_or_one, first_part, clash};
 ghost use Rattle.pointers.specs.Parts.{GoesAt, CrossesTo};
 ghost use Rattle.pointers.specs.Pointers.{pointer_order, is_coded, tells, pointer_from, AlikeKeys, ends_before, rank_of};
@@ -16,7 +15,7 @@ use crate::parts::{
 use json_reader::bytes::{BACKSLASH, OVER, SLASH, TILDE, peek};
 use json_reader::decode::{Cursor, cursor_at, next_byte, start};
 use json_reader::names::{RawByte, order_at};
-use json_reader::plain::{alike_from, alike_plain_from};
+use json_reader::plain::{Class, alike_from, alike_plain_from};
 use std::cmp::Ordering;
 
 // Is the next byte `0` or `1`?
@@ -52,14 +51,25 @@ pub fn is_own(key: &[u8]) -> bool
     part_same(left(key, start()), left::<Name>(b"localizations", start()))
 }
 
-// Plain bytes that two keys begin with alike, told eight at a time. Short keys aren't asked: to ask would take longer.
-fn alike_start(a: &[u8], b: &[u8]) -> usize
-    ensures { AlikeTo Raw a.now 0 b.now 0 result }
-{
-    if is_short(a, 0) || is_short(b, 0) {
-        return 0;
+// Bytes of a key that mean nothing but themselves, as in any string (`RawByte`).
+struct KeyByte;
+
+impl Class for KeyByte {
+    ghost holds = { Raw };
+
+    ghost within = { λ b raw. raw.byte };
+
+    fn has(b: u16) -> bool {
+        RawByte::has(b)
     }
-    alike_plain_from(a, 0, b, 0)
+
+    // Plain bytes are told eight at a time. Short keys aren't asked: to ask would take longer.
+    fn alike_start(text: &[u8], a: usize, other: &[u8], b: usize) -> usize {
+        if is_short(text, a) || is_short(other, b) {
+            return 0;
+        }
+        alike_plain_from(text, a, other, b)
+    }
 }
 
 // Bytes that two keys begin with alike so that what is left decides. A tilde at the end of these is left, to be read with what follows: it is the second byte of
@@ -67,7 +77,7 @@ fn alike_start(a: &[u8], b: &[u8]) -> usize
 fn alike_keys(a: &[u8], b: &[u8]) -> usize
     ensures { AlikeKeys a.now b.now result }
 {
-    let k = alike_from::<RawByte>(a, 0, b, 0, alike_start(a, b));
+    let k = alike_from::<KeyByte>(a, 0, b, 0);
     if k == 0 {
         return 0;
     }

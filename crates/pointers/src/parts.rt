@@ -6,7 +6,6 @@ ghost use Rattle.laws.specs.Order.{order_of, same};
 ghost use Rattle.text.specs.Text.{byte_at};
 ghost use Rattle.text.specs.Strings.{decode};
 ghost use Rattle.json_reader.specs.Cursors.{rest, cursor, next_of};
-ghost use Rattle.json_reader.specs.Plain.{AlikeTo};
 ghost use Rattle.contact.specs.Pointer.{pointer_of};
 ghost use Rattle.pointers.specs.Parts.{part_left, part_unread, name_left, Goes, name_unread, tilde_left, left_at, ShownAt, Spelled, tilde_next, part_next, Crosses, RunTo, Passes, OwnTo};
 
@@ -223,17 +222,15 @@ impl Class for SpelledByte {
     fn has(b: u16) -> bool {
         b != SLASH && (b < BACKSLASH || (b != BACKSLASH && b != TILDE && b < OVER))
     }
-}
 
-// Such bytes that stand alike from two places on: those of ASCII, where eight are left of both. Not asked at a tilde or a slash: they often
-// stand in a row, and each would be looked at with all that follow.
-fn alike_own(key: &[u8], i: usize, name: &[u8], j: usize) -> usize
-    ensures { AlikeTo Spelled key.now i name.now j result }
-{
-    if is_short(key, i) || is_short(name, j) || matches!(peek(key, i), TILDE | SLASH) {
-        return 0;
+    // Those of ASCII are told at once, where eight are left of both. Not asked at a tilde or a slash: they often stand in a row, and each
+    // would be looked at with all that follow.
+    fn alike_start(text: &[u8], a: usize, other: &[u8], b: usize) -> usize {
+        if is_short(text, a) || is_short(other, b) || matches!(peek(text, a), TILDE | SLASH) {
+            return 0;
+        }
+        alike_own_from(text, a, other, b)
     }
-    alike_own_from(key, i, name, j)
 }
 
 // The order of a part, or a name, and another, from places where a character begins: they are compared as written, up to what no glyph
@@ -249,7 +246,7 @@ fn written_order<A: Kind, B: Kind>(
     let mut i = from;
     let mut j = name_from;
     loop {
-        let run = alike_from::<SpelledByte>(key, i, name, j, alike_own(key, i, name, j));
+        let run = alike_from::<SpelledByte>(key, i, name, j);
         i = i + run;
         j = j + run;
         let (Some(p), Some(q)) = (A::glyph_at(key, i), B::glyph_at(name, j)) else {

@@ -10,7 +10,7 @@ returns g c =
     let a = c.args in
     let m = c.marks.result in
     let ends = bit_or m (bit_xor a.v a.w) in
-    (few ends, alike_marked g.C.Class.holds m a.v a.w _ c.marks.ensures (few ends) (counted ends))
+    (few ends, alike_marked g.C.Marked.holds m a.v a.w _ c.marks.ensures (few ends) (counted ends))
 
 pub overflow_cast-result : goal.overflow_cast-result
 overflow_cast-result g c = omega (arith, few (bit_or c.marks.result (bit_xor c.args.v c.args.w)))
