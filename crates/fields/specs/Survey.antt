@@ -2,11 +2,10 @@
 -- the other, those of a container right behind its head, so the walk goes through them in their order and needs no stack. It asks nothing else: of bytes
 -- that are no packing it says something too. Assumes nothing: these are definitions.
 use Rattle.std.specs.Prelude.{Option, Some, None}
-use Rattle.std.specs.Prelude.{ℕ, zero, suc, ◌+◌, ◌-◌, List, [], ◌∷◌, Bool, false, cond, length, leb, ltb, eqb}
+use Rattle.std.specs.Prelude.{ℕ, zero, suc, ◌+◌, ◌-◌, List, [], ◌∷◌, Bool, true, false, cond, length, leb, ltb, eqb}
 use Rattle.laws.specs.Lists.{part_of}
 use Rattle.laws.specs.Scan.{scan}
-use Rattle.laws.specs.Earliest.{first_repeat}
-pub use Rattle.laws.specs.Earliest.{is_found}
+use Rattle.laws.specs.Earliest.{Earliest, nowhere, found, first_repeat}
 use Rattle.text.specs.Text.{byte_at}
 use Rattle.text.specs.Doc.{Name, Doc, count_of}
 pub use Rattle.packing.specs.Packed.{longest}
@@ -32,6 +31,11 @@ unfoldable pub member_places : List ℕ → (at end : ℕ) → List ℕ
 member_places p at end = scan (places_body p end) [] end at
 
 -- ---- one field
+
+-- is there a place?
+abbrev pub is_found : Earliest → Bool
+is_found nowhere = false
+is_found (found k) = true
 
 -- does an object stand here that has a name twice?
 unfoldable pub repeats_at : List ℕ → (at : ℕ) → Bool

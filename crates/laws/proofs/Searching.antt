@@ -24,7 +24,7 @@ use Rattle.laws.specs.Order.{same, before}
 use Rattle.laws.proofs.Orders.{before_irrefl, before_trans}
 use Rattle.laws.specs.Each as each
 use Rattle.laws.proofs.Slices.{slice_more, slice_none, slice_over, slice_split, slice_all}
-use Rattle.laws.specs.Earliest.{Climbs, up_none, up_more, Earliest, nowhere, found, earlier, known, repeat_from, first_repeat, beside_from, least_beside, is_found, place_of, ascend_from, ascending}
+use Rattle.laws.specs.Earliest.{Climbs, up_none, up_more, Earliest, nowhere, found, earlier, known, repeat_from, first_repeat, beside_from, least_beside, place_of, ascend_from, ascending}
 use Rattle.laws.proofs.Earliest.{Least, Repeats, least_unique, first_least}
 
 -- ---- is a label among those of some places?
@@ -58,11 +58,11 @@ pub earlier_first : (p : ℕ) (m : Earliest) → ◌≡◌ {A = Option ℕ} None
 earlier_first p nowhere e = refl
 earlier_first p (found x) e = absurd (none_not_some e)
 
-pub found_earlier : (p : ℕ) (m : Earliest) → is_found (earlier p m) ≡ true
+pub found_earlier : (p : ℕ) (m : Earliest) → is_some (place_of (earlier p m)) ≡ true
 found_earlier p nowhere = refl
 found_earlier p (found q) = go (ltb q p)
   where
-    go : (b : Bool) → is_found (cond b (found q) (found p)) ≡ true
+    go : (b : Bool) → is_some (place_of (cond b (found q) (found p))) ≡ true
     go true = refl
     go false = refl
 
