@@ -63,7 +63,7 @@ fn judge_rows(text: &[u8], table: &mut [u32], n: usize) -> Result<usize, CardRef
         Some((row, broken)) => {
             let place = value_start(table, row);
             table.fill(0);
-            Err(CardRefusal::Card(fault_of(broken, place)))
+            Err(CardRefusal::from(fault_of(broken, place)))
         }
     }
 }
@@ -77,10 +77,7 @@ fn judge_read(
     requires { (L : Limits) × (lent : List ℕ) × WasRead L text.now lent read table.old }
     ensures { (L : Limits) (lent : List ℕ) → WasRead L text.now lent read table.old → JudgesRows L text.now lent result table.new }
 {
-    match read {
-        Err(r) => Err(CardRefusal::Text(r)),
-        Ok(n) => judge_rows(text, table, n),
-    }
+    judge_rows(text, table, read?)
 }
 
 // Clears behind the rows of a card that passed: after a refusal nothing is left to clear.

@@ -1,7 +1,6 @@
 -- Laws of the definitions of a value and of a member, one for each way that the code goes. Assumes nothing.
 use Rattle.std.specs.Prelude.{Result, Ok, Err}
 use Rattle.text.specs.declared.Fault.{Fault}
-use Rattle.text.specs.declared.Fault.TheVariants.{Malformed, Forbidden}
 use mathlib.Core.Path.{◌≡◌, refl, ap, ◌∙◌}
 use mathlib.Core.List.{List, [], ◌∷◌}
 use mathlib.Core.Bool.{Bool, true, false, cond}
@@ -21,7 +20,8 @@ use Rattle.text.specs.Tree.{curly, Forest, none, leaf}
 use Rattle.text.specs.Firsts.{HasFirst, rest_at}
 use Rattle.text.specs.Grammar.{closing}
 use Rattle.text.specs.Reader.{Read, good, bad, Reader, scalar_with, scalar_at, close_of, container, deep, value_with, inside_of, colon_at, member_with, member_of, value_at, elements_at, members_at, array_at, object_at}
-use Rattle.text.specs.declared.Refusal.TheVariants.{Grammar, Character, Deep, Many}
+use Rattle.text.specs.Sheet.{refusal_of}
+use Rattle.text.specs.declared.Refusal.TheVariants.{Grammar, Deep, Many}
 use Rattle.text.proofs.Laws.{value_parts}
 use Rattle.text.proofs.Placing.{single_value}
 use Rattle.repeats.specs.Quoted.{tail_at}
@@ -44,13 +44,9 @@ module _ (L : Limits) (t : List ℕ) (kind ns ne at n : ℕ) where
     unfolding scalar_at scalar_with
     scalar_end to e = rw (lt-leb _ _ h, e)
 
-    pub scalar_no2 : (p : ℕ) → token_at t kind at ≡ Err (Malformed p) → scalar_at L t kind ns ne at n ≡ bad (Grammar p)
+    pub scalar_no : (fault : Fault ℕ) → token_at t kind at ≡ Err fault → scalar_at L t kind ns ne at n ≡ bad (refusal_of fault)
     unfolding scalar_at scalar_with
-    scalar_no2 p e = rw (lt-leb _ _ h, e)
-
-    pub scalar_no3 : (p : ℕ) → token_at t kind at ≡ Err (Forbidden p) → scalar_at L t kind ns ne at n ≡ bad (Character p)
-    unfolding scalar_at scalar_with
-    scalar_no3 p e = rw (lt-leb _ _ h, e)
+    scalar_no fault e = rw (lt-leb _ _ h, e)
 
 -- whether names are compared is nothing to it
 pub scalar_alike : (compare : Bool) (L : Limits) (t : List ℕ) (kind ns ne at n : ℕ) → scalar_at (comparing compare L) t kind ns ne at n ≡ scalar_at L t kind ns ne at n
@@ -161,13 +157,9 @@ module _ (L : Limits) (t : List ℕ) (value : Reader) (done : Forest) (at n : �
   member_none h = rw (ne_eqb _ _ h)
 
   module _ (h : byte_at t at ≡ 34) where
-    pub member_no2 : (p : ℕ) → string_end t (at + 1) ≡ Err (Malformed p) → member_of (loose L) t value done at n ≡ bad (Grammar p)
+    pub member_no : (fault : Fault ℕ) → string_end t (at + 1) ≡ Err fault → member_of (loose L) t value done at n ≡ bad (refusal_of fault)
     unfolding member_of member_with
-    member_no2 p e = rw (eq-eqb _ _ h, e)
-
-    pub member_no3 : (p : ℕ) → string_end t (at + 1) ≡ Err (Forbidden p) → member_of (loose L) t value done at n ≡ bad (Character p)
-    unfolding member_of member_with
-    member_no3 p e = rw (eq-eqb _ _ h, e)
+    member_no fault e = rw (eq-eqb _ _ h, e)
 
     pub member_closed : (end : ℕ) → string_end t (at + 1) ≡ Ok end → member_of (loose L) t value done at n ≡ colon_at t value at end n
     unfolding member_of member_with
@@ -186,11 +178,8 @@ module _ (L : Limits) (t : List ℕ) (at : ℕ) where
   own_none h = none_aside (rw (ne_eqb _ _ h))
 
   module _ (h : byte_at t at ≡ 34) where
-    pub own_no2 : (p : ℕ) → string_end t (at + 1) ≡ Err (Malformed p) → aside_name L t curly at ≡ []
-    own_no2 p e = none_aside (rw (eq-eqb _ _ h, e))
-
-    pub own_no3 : (p : ℕ) → string_end t (at + 1) ≡ Err (Forbidden p) → aside_name L t curly at ≡ []
-    own_no3 p e = none_aside (rw (eq-eqb _ _ h, e))
+    pub own_no : (fault : Fault ℕ) → string_end t (at + 1) ≡ Err fault → aside_name L t curly at ≡ []
+    own_no fault e = none_aside (rw (eq-eqb _ _ h, e))
 
 module _ (t : List ℕ) (at : ℕ) (h : byte_at t at ≡ 34) where
   pub own_closed : (end : ℕ) → string_end t (at + 1) ≡ Ok end → own_name t curly at ≡ at ∷ []
@@ -221,5 +210,4 @@ item_one L Object t depth done at n = one_if (eqb (byte_at t at) 34) _ _ (member
   where
     member : (k : Result ℕ (Fault ℕ)) → OneValue (member_with (loose L) t (value_at L t depth) done at n k)
     member (Ok end) = one_if (eqb (byte_at t (skip t end)) 58) _ _ (value_one L t (at + 1) (end - 1) (skip t (skip t end + 1)) n depth) tt
-    member (Err (Malformed p)) = tt
-    member (Err (Forbidden p)) = tt
+    member (Err fault) = tt

@@ -7,7 +7,7 @@ ghost use Rattle.json_reader.specs.declared.containers.Container.TheVariants.{Ob
 use crate::bytes::{COLON, QUOTE, peek};
 use crate::strings::string_end;
 use crate::tokens::skip;
-use text::{Fault, Refusal};
+use text::Refusal;
 
 // How an item begins: the places of its name, 0 and 0 where it has none, and the place of its value; or the refusal. Last, where the names end that were
 // put aside.
@@ -52,8 +52,7 @@ pub(crate) fn read_key(text: &[u8], names: &mut [u32], end: usize, at: usize) ->
         return ItemStart::Wrong(Refusal::Grammar(at), end);
     }
     match string_end(text, at + 1) {
-        Err(Fault::Malformed(p)) => ItemStart::Wrong(Refusal::Grammar(p), end),
-        Err(Fault::Forbidden(p)) => ItemStart::Wrong(Refusal::Character(p), end),
+        Err(fault) => ItemStart::Wrong(Refusal::from(fault), end),
         Ok(to) => {
             let last = put_name(names, end, at);
             colon(text, at + 1, to, last)

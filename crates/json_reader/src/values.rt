@@ -19,7 +19,7 @@ use crate::members::ItemStart;
 use crate::repeated::first_repeat;
 use crate::rows::{ARRAY, link, put_row};
 use crate::tokens::{kind_of, skip, token_end};
-use text::{Fault, Refusal};
+use text::Refusal;
 
 // What reading items gives, and where the names end that they and the items before them closed.
 #[derive(Clone, Copy)]
@@ -65,15 +65,10 @@ fn read_scalar(
     requires { ScalarAsks text.now kind ns ne at count }
     ensures { Took 0 (scalar_at base text.now kind ns ne at count) text.now at count table.old table.new result }
 {
-    match token_end(text, kind, at) {
-        Ok(to) => {
-            put_row(table, count, kind, ns, ne, at, to, 0);
-            let after = count + 1;
-            Ok((to, after))
-        }
-        Err(Fault::Malformed(p)) => Err(Refusal::Grammar(p)),
-        Err(Fault::Forbidden(p)) => Err(Refusal::Character(p)),
-    }
+    let to = token_end(text, kind, at)?;
+    put_row(table, count, kind, ns, ne, at, to, 0);
+    let after = count + 1;
+    Ok((to, after))
 }
 
 // Closes a container: its row, once what is inside is read.

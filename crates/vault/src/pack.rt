@@ -88,7 +88,7 @@ pub fn pack(text: &[u8], out: &mut [u8], table: &mut [u32]) -> Result<(usize, us
     match read(text, table) {
         Err(r) => {
             out.fill(0);
-            Err(PackRefusal::Given(r))
+            Err(PackRefusal::from(r))
         }
         Ok(n) => {
             let len = put_value(text, table, 0, out, 0);

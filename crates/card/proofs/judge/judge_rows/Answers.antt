@@ -22,7 +22,8 @@ returns-in-Some c =
     let value_start = c.value_start-place in
     let e = (sym (card-breach.ensures f (card_value h) (card_kinds h)) ∙ ap found_of c.in-Some.is) in
     rw e (
-      ap (λ x. Err (Card x)) (c.fault_of.ensures
+      ap Err c.from.ensures
+          ∙ ap (λ x. Err (Card x)) (c.fault_of.ensures
           ∙ ap (fault_of (sheet_number c.in-Some.broken)) (value_start.ensures ∙ sym (card_place h c.in-Some.row (sheet_number c.in-Some.broken) e))),
       c.fill.ensures.after (λ y e. e),
     )

@@ -1,13 +1,14 @@
 -- `json_reader::members::read_key` meets its contract: one law of `member_of` for each return, and the name is in the store once it is closed. Assumes nothing.
-use Rattle.std.specs.Prelude.{Ok, Err}
+use Rattle.std.specs.Prelude.{Ok}
 use Prim.Native.Nat.{ℕ, ◌+◌}
-use mathlib.Core.Path.{◌≡◌, sym, ◌∙◌, ap}
+use mathlib.Core.Path.{◌≡◌, sym, ◌∙◌}
 use mathlib.Core.List.{List, []}
 use native.Mathlib.Omega.{arith}
 use Rattle.text.specs.Text.{byte_at}
 use Rattle.text.specs.Strings.{string_end}
 use Rattle.text.specs.Tree.{curly}
 use Rattle.text.specs.Reader.{value_at}
+use Rattle.text.specs.Sheet.{refusal_of}
 use Rattle.text.specs.declared.Refusal.{Refusal}
 use Rattle.text.proofs.Laws.{EndInside, end_inside}
 use Rattle.repeats.specs.Closed.{aside_name}
@@ -15,7 +16,7 @@ use Rattle.json_reader.specs.Readers.{limits_in, Put, NameAsks, Begun, Coloned, 
 use Rattle.json_reader.specs.declared.containers.Container.TheVariants.{Object}
 use Rattle.json_reader.specs.declared.members.ItemStart.{ItemStart}
 use Rattle.json_reader.specs.declared.members.ItemStart.TheVariants.{At, Wrong}
-use Rattle.json_reader.proofs.Ways.{member_none, member_no2, member_no3, member_closed, own_none, own_no2, own_no3, own_closed}
+use Rattle.json_reader.proofs.Ways.{member_none, member_no, member_closed, own_none, own_no, own_closed}
 use Rattle.json_reader.proofs.Store.{added_none}
 use Rattle.json_reader.proofs.members.read_key.Goals as goal
 
@@ -58,25 +59,16 @@ returns-then-peek-ne-QUOTE c =
     unclosed a.text.now a.names.now a.end a.at s.requires _ (own_none (limits_in a.names.now) a.text.now a.at h)
     (λ L depth n done. member_none L a.text.now (value_at L a.text.now depth) done a.at n h)
 
-pub returns-in-Err-Malformed : goal.returns-in-Err-Malformed
-returns-in-Err-Malformed c =
+pub returns-in-Err : goal.returns-in-Err
+returns-in-Err c =
     let s = c in
     let a = s.args in
     let h : byte_at a.text.now a.at ≡ 34 = omega arith in
-    let p = c.in-Err-Malformed.p in
-    let e = sym c.string_end.ensures ∙ (c.in-Err-Malformed.is ∙ ap Err c.in-Err-Malformed.field-0-is) in
-    unclosed a.text.now a.names.now a.end a.at s.requires _ (own_no2 (limits_in a.names.now) a.text.now a.at h p e)
-    (λ L depth n done. member_no2 L a.text.now (value_at L a.text.now depth) done a.at n h p e)
-
-pub returns-in-Err-Forbidden : goal.returns-in-Err-Forbidden
-returns-in-Err-Forbidden c =
-    let s = c in
-    let a = s.args in
-    let h : byte_at a.text.now a.at ≡ 34 = omega arith in
-    let p = c.in-Err-Forbidden.p in
-    let e = sym c.string_end.ensures ∙ (c.in-Err-Forbidden.is ∙ ap Err c.in-Err-Forbidden.field-0-is) in
-    unclosed a.text.now a.names.now a.end a.at s.requires _ (own_no3 (limits_in a.names.now) a.text.now a.at h p e)
-    (λ L depth n done. member_no3 L a.text.now (value_at L a.text.now depth) done a.at n h p e)
+    let fault = c.in-Err.fault in
+    let e = sym c.string_end.ensures ∙ c.in-Err.is in
+    rw c.from.ensures
+    (unclosed a.text.now a.names.now a.end a.at s.requires (refusal_of fault) (own_no (limits_in a.names.now) a.text.now a.at h fault e)
+    (λ L depth n done. member_no L a.text.now (value_at L a.text.now depth) done a.at n h fault e))
 
 -- the place where a name has ended
 ended : (c : goal.After-slice_known-in-Ok-1) → EndInside c.args.text.now (c.args.at + 1) c.in-Ok.to

@@ -7,8 +7,9 @@ use Rattle.vault.proofs.pack.pack.Goals as goal
 pub returns-in-Err : goal.returns-in-Err
 returns-in-Err c =
     let a = c.args in
-    packs_refused base (length a.table.now) a.text.now (length a.out.now) (rw c.in-Err.is at c.read.ensures)
-    (c.fill.ensures.after (λ y e. e))
+    rw c.from.ensures
+    (packs_refused base (length a.table.now) a.text.now (length a.out.now) (rw c.in-Err.is at c.read.ensures)
+    (c.fill.ensures.after (λ y e. e)))
 
 pub returns-in-Ok : goal.returns-in-Ok
 returns-in-Ok c =
