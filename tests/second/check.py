@@ -2,7 +2,7 @@
 import sys
 
 import intake
-from duds import ASKED, DUDS
+from duds import ASKED, DUDS, LATER
 from packing import pack, unpack
 from pieces import Pieces
 from program import said
@@ -45,12 +45,12 @@ def fault(case):
 
 def main():
     faults = 0
-    for case in ASKED:
+    for case in ASKED + [case for _, case, _ in LATER]:
         why = fault(case)
         if why:
             faults += 1
             print(f"{case['service']} {case['text'][:200]!r}: {why}, wanted {case['wanted']}")
-    for edits, case, wrong in DUDS:
+    for edits, case, wrong in DUDS + LATER:
         if (whole(wrong) if isinstance(wrong, bytes) else wrong) == case["wanted"]:
             faults += 1
             print(f"{edits}: the wrong program is right")
@@ -64,7 +64,7 @@ def main():
             faults += 1
             print(f"the parents and siblings of {text!r}: {table[6::ROW_WORDS]} {table[7::ROW_WORDS]}")
     print(f"{len(RULINGS)} inputs of rulings, {len(SPECIMENS) + 1} specimens, {len(LINKED)} texts with parents and siblings, "
-        f"{len(DUDS)} inputs against wrong programs, {faults} faults")
+        f"{len(DUDS + LATER)} inputs against wrong programs, {faults} faults")
     return 1 if faults else 0
 
 

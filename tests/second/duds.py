@@ -1,4 +1,4 @@
-"""A stored case against each wrong program: the must-fail edits that it tells apart, the case with the right answer, and what such a program would answer.
+"""A case against each wrong program: the must-fail edits that it tells apart, the case with the right answer, and what such a program would answer.
 
 `OTHER` stands for other rows, other bytes or another sum, with the same first two numbers. An edit that no call shows is in UNSEEN, with the reason.
 tests/docs.py sees that every must-fail edit is here.
@@ -56,7 +56,6 @@ DUDS = [
     ("contact/prefix_by_bytes", localize(
         patch(b'"emails/e1":null,"emails/e10":null', b',"emails":{"e1":{"address":"a"},"e10":{"address":"b"}}'), b'{..,"emails":{}}'), (24, 120)),
     ("answers/output_left_dirty", localize(patch(b'"uid":null'), (28, 12), room=100), OTHER),
-    ("json_reader/first_word_left", read(b"1 x", (2, 2)), OTHER),
     # repeated names: objects of few members, whose names are compared in pairs, and of more than sixteen, whose names are sorted
     ("json_reader/hash_compared", read(named(b"a!"), OK), (4, 7)),
     ("json_reader/hash_compared", read(named(b"iabcdefgh!"), OK), (4, 55)),
@@ -64,8 +63,6 @@ DUDS = [
     ("json_reader/neighbours_in_text laws/halves_unmerged laws/sorted_by_place", read(named(b"abcdefghijklmnopqa"), (4, 103)), OK),
     ("json_reader/neighbours_in_text", read(named(b"qponmlkjihgfedcbaq"), (4, 103)), OK),
     ("json_reader/last_of_two_names", read(named(b"aa"), (4, 7)), OK),
-    ("laws/itself_counts", read(b'{"a":1}', OK), (4, 1)),
-    ("laws/ascend_weakly", read(named(b"aabcdefghijklmnopq"), (4, 7)), OK),
     ("json_reader/names_undecoded", read(named(b"a", rb',"\u0061":0'), (4, 7)), OK),
     ("json_reader/names_undecoded", read(named(b"abcdefghi", rb',"\u0061":0'), (4, 55)), OK),
     ("json_reader/names_undecoded", read(named(b"abcdefghijklmnopq", rb',"\u0061":0'), (4, 103)), OK),
@@ -185,7 +182,6 @@ DUDS = [
     ("packing/needed_unsaid", pack(b"null", (52, 3), room=2), (52, 0)),
     ("packing/refuses_all", pack(b"null", b"\x01\x00\x00"), (51, 0)),
     # unpacking: just what packing writes, and 01's escapes
-    ("output/bracket_of_array", unpack(b"\x07\x00\x00", b"{}"), b"{]"),
     ("packing/refuses_all", unpack(b"\x01\x00\x00", b"null"), NOT_PACKED),
     ("packing/bytes_left_over", unpack(b"\x01\x00\x00\x00", NOT_PACKED), b"null"),
     ("packing/bytes_left_over vault/trailing_byte_taken", unpack(b"\x01\x00\x00\x01\x00\x00", NOT_PACKED), b"null"),
@@ -208,6 +204,31 @@ DUDS = [
     ("desk/thirty_four_after_two desk/thirty_four_last", program(b"x" * 65537, (34, 0)), (2, 0)),
 ]
 
+# Inputs that came later. They are asked too, but not stored: of the stored cases some are one in so many of all, and would become others.
+LATER = [
+    ("json_reader/first_word_left", read(b"1 x", (2, 2)), OTHER),
+    ("laws/itself_counts", read(b'{"a":1}', OK), (4, 1)),
+    ("laws/ascend_weakly", read(named(b"aabcdefghijklmnopq"), (4, 7)), OK),
+    ("output/bracket_of_array", unpack(b"\x07\x00\x00", b"{}"), b"{]"),
+    ("output/opened_as_array", unpack(b"\x07\x00\x00", b"{}"), b"[}"),
+    ("laws/smaller_is_same", unpack(stored(b"a", b"b"), b'{"a":null,"b":null}'), NOT_PACKED),
+    ("laws/same_is_before", unpack(stored(*(b"%c" % name for name in b"aabcdefghi")), NOT_PACKED), OK),
+    ("json_reader/tilde_for_itself", localize(patch(b'"~01":1'), b'{..,"~1":1}'), b'{..,"~01":1}'),
+    # the answers in the sheet's numbers
+    ("answers/deep_as_many", read(b"[" * 65, (5, 64)), (6, 64)),
+    ("text/character_as_grammar", read(rb'"\uDC00"', (3, 1)), (2, 1)),
+    ("answers/rows_as_length", read(b"1", OK), (0, 0)),
+    ("answers/value_as_rule", judge(b'{..,"created":"1900-02-29T00:00:00Z"}', (13, 53)), (14, 53)),
+    ("contact/rule_as_value", judge(b'{..,"name":{}}', (14, 50)), (13, 50)),
+    ("answers/place_of_text_lost", judge(b'{..,"uid":"u2"}', (4, 43)), (4, 0)),
+    ("contact/unread_as_kind", judge(b'{..,"uid":"u2"}', (4, 43)), (11, 0)),
+    ("answers/given_as_inner", localize(b'{..,"kind":5,"localizations":{"de":{}}}', (11, 50)), (28, 11)),
+    ("answers/count_and_length_swapped", pack(b"null", b"\x01\x00\x00"), (0, 3)),
+    ("answers/needed_as_length", pack(b"null", (52, 3), room=2), (52, 0)),
+    ("packing/unread_as_wide", pack(b"[1", (2, 2)), (51, 0)),
+    ("answers/short_as_not_packed", unpack(b"\x01\x00\x00", (52, 4), room=3), (53, 4)),
+]
+
 UNSEEN = {
     "packing/text_too_long": "a packing has at most 65,538 bytes, and its compact text at most six times as many: never over the limit",
     "contact/type_not_chosen": "no line of the table hangs on `@type`",
@@ -216,10 +237,10 @@ UNSEEN = {
     "bezinkol/output_unsaid": "an edit of what a contract says, not of a program",
 }
 
-# All inputs with an answer that a person wrote down.
+# All inputs with an answer that a person wrote down, those in LATER aside.
 ASKED = RULINGS + SPECIMENS + [case for _, case, _ in DUDS]
 
 
 def edits():
     """The must-fail edits that are told apart, or said to be unseen."""
-    return {edit for some, _, _ in DUDS for edit in some.split()} | set(UNSEEN)
+    return {edit for some, _, _ in DUDS + LATER for edit in some.split()} | set(UNSEEN)
