@@ -178,7 +178,8 @@ fn unit(text: &[u8], at: usize, u: u32) -> Result<Option<(u32, usize)>, Fault<us
     checked(at, u, 6)
 }
 
-// The escape whose backslash stands at `at`.
+// The escape whose backslash stands at `at`. It becomes part of the loops that ask for it, as `raw` does.
+#[inline(always)]
 pub(crate) fn escape(text: &[u8], at: usize) -> Result<Option<(u32, usize)>, Fault<usize>>
     requires { at < length text.now }
     ensures { result ≡ escape_at text.now at }

@@ -34,7 +34,9 @@ pub fn start() -> Cursor
     cursor_at(0)
 }
 
-// The first byte of a code point; the cursor goes on after it, and then at `at`.
+// The first byte of a code point; the cursor goes on after it, and then at `at`. Here and below: a call hands its answer over by memory, and
+// the cursor has to be put together anew for the next one, which takes longer than all else. So these become part of the loops that ask.
+#[inline(always)]
 fn first_byte(code: u32, at: usize) -> Option<(u8, Cursor)>
     ensures by_index { (t : List ℕ) → unread t result ≡ utf8 code ++ decode_from t at }
     ensures is { result ≡ first_of code at }
@@ -55,6 +57,7 @@ fn first_byte(code: u32, at: usize) -> Option<(u8, Cursor)>
 }
 
 // The byte at a place where a character begins.
+#[inline(always)]
 fn fresh_byte(name: &[u8], at: usize) -> Option<(u8, Cursor)>
     ensures result_value { unread name.now result ≡ decode_from name.now at }
     ensures is { result ≡ fresh_of name.now at }
@@ -81,6 +84,7 @@ fn fresh_byte(name: &[u8], at: usize) -> Option<(u8, Cursor)>
 }
 
 // The next decoded byte.
+#[inline(always)]
 pub fn next_byte(name: &[u8], c: Cursor) -> Option<(u8, Cursor)>
     ensures result_value { unread name.now result ≡ rest name.now c }
     ensures is { result ≡ next_of name.now c }
@@ -107,6 +111,7 @@ impl<'a> Iterator for Decoded<'a> {
 
     ghost remaining = { item_count (λ s. rest s.name.now s.at) };
 
+    #[inline(always)]
     fn next(&mut self) -> Option<u8> {
         let (b, on) = next_byte(self.name, self.at)?;
         self.at = on;

@@ -50,7 +50,9 @@ pub(crate) fn is_less(o: Ordering) -> bool
     o.is_lt()
 }
 
-// Do a string's inner bytes, decoded from a place on, go on as the literal does from there?
+// Do a string's inner bytes, decoded from a place on, go on as the literal does from there? Few names have a backslash: as a call it leaves
+// the test of all others short enough to stand where it is asked.
+#[inline(never)]
 fn goes_on(a: &[u8], lit: &[u8], from: usize) -> bool
     requires { from ≤ length lit.now }
     ensures { result ≡ same (decode_from a.now from) (drop from lit.now) }

@@ -27,6 +27,7 @@ impl<'a> Iterator for Quoted<'a> {
 
     ghost remaining = { item_count (λ s. rest_to s.text.now s.at) };
 
+    #[inline(always)]
     fn next(&mut self) -> Option<u8> {
         if self.at.left == 0 && peek(self.text, self.at.at) == QUOTE {
             return None;

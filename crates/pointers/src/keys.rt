@@ -132,7 +132,10 @@ fn parts_clash(a: &[u8], b: &[u8], from: usize) -> bool
         if !part_same(left(a, x), left::<Part>(b, y)) {
             return false;
         }
-        let (Some(x2), Some(y2)) = (next_part(a, x), next_part(b, y)) else {
+        let Some(x2) = next_part(a, x) else {
+            return true;
+        };
+        let Some(y2) = next_part(b, y) else {
             return true;
         };
         x = x2;

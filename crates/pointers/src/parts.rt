@@ -20,6 +20,7 @@ use std::marker::PhantomData;
 const ONE: u16 = b'1' as u16;
 
 // What a `~` stands for, the cursor being behind it: `~1` is `/`, `~0` is `~`, and both bytes are passed; before any other byte it is `~` itself.
+#[inline(always)]
 fn tilde_byte(key: &[u8], on: Cursor) -> Option<(u8, Cursor)>
     ensures result_value { part_unread key.now result ≡ tilde_left (rest key.now on) }
     ensures is { result ≡ tilde_next on (next_of key.now on) }
@@ -36,7 +37,8 @@ fn tilde_byte(key: &[u8], on: Cursor) -> Option<(u8, Cursor)>
     Some((b'~', on))
 }
 
-// The next byte of the part at the cursor; over at its end.
+// The next byte of the part at the cursor; over at its end. It becomes part of the loops that ask for it, as `next_byte` does.
+#[inline(always)]
 pub fn part_byte(key: &[u8], c: Cursor) -> Option<(u8, Cursor)>
     ensures result_value { part_unread key.now result ≡ part_left (rest key.now c) }
     ensures is { result ≡ part_next key.now c }
@@ -127,6 +129,7 @@ fn coded_at(name: &[u8], at: usize) -> Option<Glyph>
 impl Kind for Name {
     ghost part = { false };
 
+    #[inline(always)]
     fn byte(key: &[u8], c: Cursor) -> Option<(u8, Cursor)> {
         next_byte(key, c)
     }
@@ -144,6 +147,7 @@ impl Kind for Name {
 impl Kind for Part {
     ghost part = { true };
 
+    #[inline(always)]
     fn byte(key: &[u8], c: Cursor) -> Option<(u8, Cursor)> {
         part_byte(key, c)
     }
@@ -196,11 +200,21 @@ impl<'a, K: Kind> Iterator for Side<'a, K> {
 
     ghost remaining = { item_count (λ s. name_left K.part s.key.now s.at) };
 
+    #[inline(always)]
     fn next(&mut self) -> Option<u8> {
         let (b, on) = K::byte(self.key, self.at)?;
         self.at = on;
         Some(b)
     }
+}
+
+// The order of what is left of two, decoded. It becomes part of no other function: so what it keeps is in no frame of the walk over a card,
+// which is open once a container.
+#[inline(never)]
+fn decoded_order<A: Kind, B: Kind>(x: Side<A>, y: Side<B>) -> Ordering
+    ensures { result ≡ order_of (name_left A.part x.entry.key.now x.entry.at) (name_left B.part y.entry.key.now y.entry.at) }
+{
+    x.cmp(y)
 }
 
 // Are fewer than eight bytes left from a place on? Then bytes are compared one by one: to ask for eight would take longer.
@@ -250,7 +264,7 @@ fn written_order<A: Kind, B: Kind>(
         i = i + run;
         j = j + run;
         let (Some(p), Some(q)) = (A::glyph_at(key, i), B::glyph_at(name, j)) else {
-            return left::<A>(key, cursor_at(i)).cmp(left::<B>(name, cursor_at(j)));
+            return decoded_order(left::<A>(key, cursor_at(i)), left::<B>(name, cursor_at(j)));
         };
         let x = p.value;
         let y = q.value;
@@ -270,7 +284,7 @@ pub(crate) fn part_order<K: Kind>(part: Side<Part>, other: Side<K>) -> Ordering
     ensures { result ≡ order_of (part_left (rest part.entry.key.now part.entry.at)) (name_left K.part other.entry.key.now other.entry.at) }
 {
     if part.at.left != 0 || other.at.left != 0 {
-        return part.cmp(other);
+        return decoded_order(part, other);
     }
     written_order::<Part, K>(part.key, part.at.at, other.key, other.at.at)
 }

@@ -4,10 +4,7 @@ use Prim.Native.Nat.{◌+◌, ◌<◌}
 use mathlib.Core.Path.{◌≡◌, refl, ap, ◌∙◌}
 use native.Mathlib.Omega.{arith}
 use lib.ListN.{length}
-use Rattle.std.specs.Ordering.{nat_cmp}
-use Rattle.std.proofs.lemmas.Iterator.Consumers.{YieldsList-from_first}
-use Rattle.std.proofs.lemmas.Iterator.Search.{cmp_from_yields_List}
-use Rattle.json_reader.proofs.Ordered.{ordered}
+use Rattle.laws.specs.Order.{order_of}
 use Rattle.pointers.specs.Parts.{name_left, left_at}
 use Rattle.pointers.proofs.Laws.Glyphs.{common_spelled, shown_order, shown_ends, shown_on}
 use Rattle.pointers.proofs.parts.written_order.Goals as goal
@@ -17,12 +14,13 @@ returns-in_default g c =
     let a = c.args in
     let i = c.loop-p.i + c.alike_from-run.result in
     let j = c.loop-p.j + c.alike_from-run.result in
-    cmp_from_yields_List (λ x y. y ≡ x) _ nat_cmp _ c.cmp.ensures.ran
-    (YieldsList-from_first (λ x. x) (λ s. name_left g.A.Kind.part s.key.now s.at) (left_at g.A.Kind.part a.key.now i)
-    (rw (c.left.ensures.0, c.left.ensures.1, c.cursor_at.ensures) refl))
-    (λ it e. YieldsList-from_first (λ x. x) (λ s. name_left g.B.Kind.part s.key.now s.at) (left_at g.B.Kind.part a.name.now j)
-    (rw (e, c.left-in_default.ensures.0, c.left-in_default.ensures.1, c.cursor_at-in_default.ensures) refl)) (λ x y. refl)
-    ∙ ordered _ _ ∙ (common_spelled _ _ _ _ _ c.alike_from-run.ensures.run.alike).ordered g.A.Kind.part g.B.Kind.part ∙ c.loop-p.invariant.0
+    let x = c.left.result in
+    let y = c.left-in_default.result in
+    let one : name_left g.A.Kind.part x.key.now x.at ≡ left_at g.A.Kind.part a.key.now i = rw (c.left.ensures.0, c.left.ensures.1, c.cursor_at.ensures) refl in
+    let two : name_left g.B.Kind.part y.key.now y.at ≡ left_at g.B.Kind.part a.name.now j
+    = rw (c.left-in_default.ensures.0, c.left-in_default.ensures.1, c.cursor_at-in_default.ensures) refl in
+    c.decoded_order.ensures ∙ ap (λ l. order_of l (name_left g.B.Kind.part y.key.now y.at)) one ∙ ap (order_of (left_at g.A.Kind.part a.key.now i)) two
+    ∙ (common_spelled _ _ _ _ _ c.alike_from-run.ensures.run.alike).ordered g.A.Kind.part g.B.Kind.part ∙ c.loop-p.invariant.0
 
 pub returns-then-x-y : goal.returns-then-x-y
 returns-then-x-y g c =
