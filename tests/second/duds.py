@@ -1,4 +1,5 @@
-"""A case against each wrong program: the must-fail edits that it tells apart, the case with the right answer, and what such a program would answer.
+"""A case against each wrong program: the must-fail edits that it tells apart, the case with the right answer, and what such a
+program would answer.
 
 `OTHER` stands for other rows, other bytes or another sum, with the same first two numbers. An edit that no call shows is in UNSEEN, with the reason.
 tests/docs.py sees that every must-fail edit is here.
