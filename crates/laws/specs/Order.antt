@@ -10,7 +10,7 @@ order_of [] (y ∷ ys) = Less
 order_of (x ∷ xs) [] = Greater
 order_of (x ∷ xs) (y ∷ ys) = let more = order_of xs ys in cond (ltb x y) Less (cond (ltb y x) Greater more)
 
--- is it Same?
+-- is it Equal?
 abbrev pub is_same : Ordering → Bool
 is_same Less = false
 is_same Equal = true

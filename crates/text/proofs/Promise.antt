@@ -1,10 +1,10 @@
 -- The reading layer's promise: the one file on which the layers above rely. What is passed on here is all that they may ask of a text that was read.
 --
 -- An answer and a table that meet reading's contract (`Reads`, specs/Whole.antt):
---     rows-tree             after `Rows n` there is one tree of n values whose rows are the table's first n (`Filled`, specs/Promised.antt): one root,
+--     rows-tree             after `Ok n`    there is one tree of n values whose rows are the table's first n (`Filled`, specs/Promised.antt): one root,
 --                           that stands in the text (`Placed`, specs/Placed.antt), names distinct, limits kept; and the rows name their parents and
 --                           next siblings (`Kinship`, specs/Kin.antt)
---     refusal_is            after `Refused r` the definition refuses with r, and the table is zero
+--     refusal_is            after `Err r` the definition refuses with r, and the table is zero
 --     whole-bad             what is refused of the text is refused whatever the table's room
 --     paper-unique, answer-is, same_outcome      the answer and the table are determined
 --

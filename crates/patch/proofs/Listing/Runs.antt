@@ -28,7 +28,7 @@ use Rattle.patch.proofs.Listing.Orders.{key_is}
 
 -- ---- by the order of names
 
--- a name that is not More than one that stands before the place stands before it too
+-- a name that is not Greater than one that stands before the place stands before it too
 before_upto : (past : Bool) (f g n : Name) → order_of f g ≢ Greater → stands_before past (order_of g n) ≡ true → stands_before past (order_of f n) ≡ true
 before_upto past f g n u e = go (order_of f g) refl
   where

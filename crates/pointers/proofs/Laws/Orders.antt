@@ -1,8 +1,8 @@
 -- Laws of the order of pointers:
---     pointer-flip, pointer-eq, pointer-trans     Less and More are opposite, Same is said of equals alone, and Less leads on
+--     pointer-flip, pointer-eq, pointer-trans     Less and Greater are opposite, Equal is said of equals alone, and Less leads on
 --     pointer-total                               so pointers sort
 --     first-not-more, first-upto                  a pointer before another, or the same, has a first part before the other's or the same
---     less-apart                                  of two pointers that do not clash, one that is not More is Less
+--     less-apart                                  of two pointers that do not clash, one that is not Greater is Less
 -- Assumes nothing.
 use Rattle.std.specs.declared.cmp.Ordering.{Ordering}
 use Rattle.std.specs.declared.cmp.Ordering.TheVariants.{Less, Equal, Greater}

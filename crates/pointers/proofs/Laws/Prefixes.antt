@@ -1,6 +1,6 @@
 -- A pointer that is a prefix of another, in the order of pointers and in the order of bytes:
 --     between         what stands between two pointers that clash clashes with the first of them
---     prefix-first    of two keys without a loose `~` whose pointers clash, the one whose pointer is not More is not after the other in byte order
+--     prefix-first    of two keys without a loose `~` whose pointers clash, the one whose pointer is not Greater is not after the other in byte order
 -- Assumes nothing.
 use Rattle.std.specs.declared.cmp.Ordering.{Ordering}
 use Rattle.std.specs.declared.cmp.Ordering.TheVariants.{Less, Equal, Greater}
@@ -21,7 +21,7 @@ use Rattle.pointers.proofs.Laws.Orders.{name_eq, first_not_more}
 
 -- ---- the same first part
 
--- two names, neither of which is More than the other
+-- two names, neither of which is Greater than the other
 squeeze : (n m : Name) → order_of n m ≢ Greater → order_of m n ≢ Greater → n ≡ m
 squeeze n m f g = go (order_of n m) refl
   where
