@@ -14,7 +14,7 @@ import sys
 # go from a value to one inside it, also the walk of a pointer, however many parts its key has. Sorting, which is compiled for each order, halves at most 32,768
 # rows or places down to one.
 OPEN = {"json_reader::values::read_value": 65, "json_reader::values::read_container": 64, "card::walk::breach_at": 65,
-    "patch::writing::copy_value": 65, "patch::writing::put_value": 65, "laws::sort::sort": 16,
+    "patch::writing::copy_value": 65, "patch::writing::put_value": 65, "laws::sort::sort_run": 16,
     "vault::pack::put_value": 65, "vault::values::put_value": 65}
 # These only a text of more than BEZINKOL_SHORT_BYTES bytes reaches, which has more than 1,024 names or more than 640 entries, or a packing of more
 # than 6,144 bytes: they are left out of the figure for short texts. Behind a generic function stands the size of its arrays.
