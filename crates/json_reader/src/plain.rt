@@ -199,17 +199,18 @@ pub fn is_own_byte(b: u16) -> bool
     OwnByte::has(b)
 }
 
-// How many bytes stand alike from two places on and are in a class, up to the first that isn't so.
+// How many bytes stand alike from two places on and are in a class, up to the first that isn't so. The class is asked first: a byte in it is
+// no end of the first text, which then need not be asked for again.
 pub fn alike_from<C: Class>(text: &[u8], a: usize, other: &[u8], b: usize) -> usize
     ensures { AlikeRun C.holds text.now a other.now b result }
 {
     let mut k = C::alike_start(text, a, other, b);
     loop {
         let p = peek(text, a + k);
-        if p != peek(other, b + k) {
+        if !C::has(p) {
             return k;
         }
-        if !C::has(p) {
+        if p != peek(other, b + k) {
             return k;
         }
         k += 1;
