@@ -215,7 +215,8 @@ LATER = [
     ("laws/smaller_is_same", unpack(stored(b"a", b"b"), b'{"a":null,"b":null}'), NOT_PACKED),
     ("laws/exact_scratch_unused", read(named(b"#$%&'()*+,-./0123456789:;<=>?@ABCDEFGHIJKLMNOPQRSTUVWXYZ[]^_`ab#"), (4, 379)), OK),
     ("laws/first_pair_alone", unpack(stored(*(b"%c" % name for name in b"bacdefghii")), NOT_PACKED), OK),
-    ("json_reader/slash_told_plain", localize(patch(b'"abcdefgh/i":2', b',"abcdefgh/i":1'), (26, 81)), b'{..,"abcdefgh/i":2}'),
+    ("json_reader/slash_told_plain", localize(
+        patch(b'"ab/cdefgh":2', b',"ab/cdefgh":{}'), (26, 81)), b'{..,"ab/cdefgh":{"cdefgh":2}}'),
     ("laws/same_is_before", unpack(stored(*(b"%c" % name for name in b"aabcdefghi")), NOT_PACKED), OK),
     ("json_reader/tilde_for_itself", localize(patch(b'"~01":1'), b'{..,"~1":1}'), b'{..,"~01":1}'),
     # the answers in the sheet's numbers
