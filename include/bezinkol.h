@@ -59,12 +59,12 @@ extern "C" {
 /* The words that reading in pieces keeps from call to call. */
 #define BEZINKOL_PIECES_WORDS 9
 
-/* The bytes of stack that a call needs, for any text and for one of at most BEZINKOL_SHORT_BYTES bytes. By the frames of the machine code for x86-64 of this
- * kit (rattle-kit-13f) no call takes more than 285 KiB for reading and judging and 319 KiB for localizing, and for a short text no more than 29, 29 and 36
- * KiB: what is said here is more by 35 KiB or more, for short texts by 11, 27 and 28; reading in pieces takes 464 bytes. Packing takes what reading does,
- * unpacking 88 KiB, and 11 for a packing of at most BEZINKOL_SHORT_BYTES bytes: what is said here is more by 40 and 13.
- * tests/c counts them again (frames.py), measures calls at the limits (stack.c), and fails where it is more than is said here; another kit may write other
- * machine code. */
+/* The bytes of stack that a call needs, for any text and for one of at most BEZINKOL_SHORT_BYTES bytes. By the frames of the machine code
+ * for x86-64 of this kit (rattle-kit-13f) no call takes more than 285 KiB for reading and judging and 319 KiB for localizing, and for a
+ * short text no more than 29, 29 and 36 KiB: what is said here is more by 35 KiB or more, for short texts by 11, 27 and 28; reading in
+ * pieces takes 464 bytes. Packing takes what reading does, unpacking 88 KiB, and 11 for a packing of at most BEZINKOL_SHORT_BYTES bytes:
+ * what is said here is more by 40 and 13. tests/c counts them again (frames.py), measures calls at the limits (stack.c), and fails where
+ * it is more than is said here; another kit may write other machine code. */
 #define BEZINKOL_READ_STACK 327680
 #define BEZINKOL_JUDGE_STACK 327680
 #define BEZINKOL_LOCALIZE_STACK 393216
