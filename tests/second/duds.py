@@ -219,6 +219,8 @@ LATER = [
         patch(b'"ab/cdefgh":2', b',"ab/cdefgh":{}'), (26, 81)), b'{..,"ab/cdefgh":{"cdefgh":2}}'),
     ("laws/same_is_before", unpack(stored(*(b"%c" % name for name in b"aabcdefghi")), NOT_PACKED), OK),
     ("json_reader/tilde_for_itself", localize(patch(b'"~01":1'), b'{..,"~1":1}'), b'{..,"~01":1}'),
+    ("json_reader/large_as_small", judge(rb'{..,"\u004bind":5}', OK), (11, 55)),
+    ("json_reader/quote_told_plain", read(b'["a","bcdefgh"]', OK), OTHER),
     # the answers in the sheet's numbers
     ("answers/deep_as_many", read(b"[" * 65, (5, 64)), (6, 64)),
     ("text/character_as_grammar", read(rb'"\uDC00"', (3, 1)), (2, 1)),
@@ -237,6 +239,7 @@ LATER = [
 UNSEEN = {
     "packing/text_too_long": "a packing has at most 65,538 bytes, and its compact text at most six times as many: never over the limit",
     "contact/type_not_chosen": "no line of the table hangs on `@type`",
+    "laws/sorted_in_part": "every call lends a scratch for as many words as it sorts",
     "laws/equal_words_swapped": "places of one label differ, and of two keys that are one pointer both clash: no answer hangs on their order",
     "desk/one_byte_more": "an edit of the reading of an input, which no stored answer is about",
     "bezinkol/output_unsaid": "an edit of what a contract says, not of a program",

@@ -86,7 +86,8 @@ pub fn is_character(code: u32) -> bool
     code % 65536 < 0xFFFE
 }
 
-// A character of `len` bytes at `at`, if its code point is one; else refusal 3 at `at`. As a part of its callers it hands over no answer by memory.
+// A character of `len` bytes at `at`, if its code point is one; else refusal 3 at `at`. As a part of its callers it hands over no answer by
+// memory.
 #[inline(always)]
 pub fn checked(at: usize, code: u32, len: usize) -> Result<Option<(u32, usize)>, Fault<usize>>
     ensures { result ≡ checked_at at code len }

@@ -34,8 +34,8 @@ pub fn start() -> Cursor
     cursor_at(0)
 }
 
-// The first byte of a code point; the cursor goes on after it, and then at `at`. Here and below: a call hands its answer over by memory, and
-// the cursor has to be put together anew for the next one, which takes longer than all else. So these become part of the loops that ask.
+// The first byte of a code point; the cursor goes on after it, and then at `at`. Here and below: a call hands its answer over by memory,
+// and the cursor has to be put together anew for the next one, which takes longest. So these become part of the loops that ask.
 #[inline(always)]
 fn first_byte(code: u32, at: usize) -> Option<(u8, Cursor)>
     ensures by_index { (t : List ℕ) → unread t result ≡ utf8 code ++ decode_from t at }

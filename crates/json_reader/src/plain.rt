@@ -199,8 +199,8 @@ pub fn is_own_byte(b: u16) -> bool
     OwnByte::has(b)
 }
 
-// How many bytes stand alike from two places on and are in a class, up to the first that isn't so. The class is asked first: a byte in it is
-// no end of the first text, which then need not be asked for again.
+// How many bytes stand alike from two places on and are in a class, up to the first that isn't so. The class is asked first: a byte in it
+// is no end of the first text, which then need not be asked for again.
 pub fn alike_from<C: Class>(text: &[u8], a: usize, other: &[u8], b: usize) -> usize
     ensures { AlikeRun C.holds text.now a other.now b result }
 {

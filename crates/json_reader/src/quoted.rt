@@ -2,7 +2,7 @@
 // first and a comparison stops at the first difference, so it costs no more than the shorter name.
 ghost use Rattle.std.specs.Prelude.{◌≡◌, ◌+◌};
 ghost use Rattle.std.specs.Iterator.{YieldsFirst, item_count};
-ghost use Rattle.laws.specs.Order.{order_of};
+ghost use Rattle.laws.specs.Order.{order_of, same};
 ghost use Rattle.repeats.specs.Quoted.{quoted_from, tail_at};
 ghost use Rattle.json_reader.specs.Quoted.{rest_to, ended, Written};
 
@@ -75,7 +75,9 @@ fn ended(p: u16) -> u16
     p
 }
 
-// The order of two names from two places on: as written up to a backslash, and decoded from there on.
+// The order of two names from two places on: as written up to a backslash, and decoded from there on. It stays a call: as a part of the
+// search of a few names, which asks for it seldom, it would take the registers from the test of first bytes.
+#[inline(never)]
 fn order_along(text: &[u8], a: usize, b: usize) -> Ordering
     ensures { result ≡ order_of (quoted_from text.now a) (quoted_from text.now b) }
 {
@@ -93,22 +95,23 @@ fn order_along(text: &[u8], a: usize, b: usize) -> Ordering
     order_at(ended(p), ended(q))
 }
 
-// The same, where most names differ in the first byte: a test that is short enough to stand where a few names are compared.
-fn order_from(text: &[u8], a: usize, b: usize) -> Ordering
-    ensures { result ≡ order_of (quoted_from text.now a) (quoted_from text.now b) }
+// Are two names the same from two places on? Most differ in the first byte: a test that is short enough to stand where a few names are
+// compared. It answers no order, which would be made up for each pair only to be asked whether it is that of two that are the same.
+fn same_from(text: &[u8], a: usize, b: usize) -> bool
+    ensures { result ≡ same (quoted_from text.now a) (quoted_from text.now b) }
 {
     let first = peek(text, a);
     let second = peek(text, b);
     if first == second {
-        return order_along(text, a, b);
+        return order_along(text, a, b).is_eq();
     }
     if first == BACKSLASH {
-        return order_along(text, a, b);
+        return order_along(text, a, b).is_eq();
     }
     if second == BACKSLASH {
-        return order_along(text, a, b);
+        return order_along(text, a, b).is_eq();
     }
-    order_at(ended(first), ended(second))
+    order_at(ended(first), ended(second)).is_eq()
 }
 
 // The order of two names from two places on, where many begin alike. Only sorting calls it, in one place, so that it becomes part of the merge.
@@ -147,7 +150,7 @@ impl<'a> Labels for Names<'a> {
     }
 
     fn same(&self, p: u32, q: u32) -> bool {
-        order_from(self.text, self.inside(p), self.inside(q)).is_eq()
+        same_from(self.text, self.inside(p), self.inside(q))
     }
 
     fn before(&self, p: u32, q: u32) -> bool {
