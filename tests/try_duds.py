@@ -73,15 +73,16 @@ fn main(rt: HostRuntime) -> io::Result<()> {
 
 
 def code_edits():
-    """The edits of code: the crate, the name, the file, and what is to be replaced by what."""
+    """The edits of code: the crate and the name, and by the file what is to be replaced by what. What they change of a proof is no part of a program."""
     for crate in CRATES:
         for path in sorted(glob.glob(os.path.join(ROOT, "crates", crate, "must-fail", "*.edit"))):
             with open(path, encoding="utf-8") as file:
-                said = file.read()
-            place = re.search(r"^file: (src/.*)$", said, re.M)
-            if place:
-                pairs = list(zip(re.findall(r"^old: (.*)$", said, re.M), re.findall(r"^new: (.*)$", said, re.M)))
-                yield f"{crate}/{os.path.basename(path)[:-len('.edit')]}", os.path.join("crates", crate, place[1]), pairs
+                parts = re.split(r"^file: ", file.read(), flags=re.M)[1:]
+            changes = [(os.path.join("crates", crate, part.split("\n", 1)[0]),
+                        list(zip(re.findall(r"^old: (.*)$", part, re.M), re.findall(r"^new: (.*)$", part, re.M))))
+                       for part in parts if part.startswith("src/")]
+            if changes:
+                yield f"{crate}/{os.path.basename(path)[:-len('.edit')]}", changes
 
 
 def cases_against(edit):
@@ -131,17 +132,19 @@ def run(room, cases):
     return subprocess.run(["rt", "try", "--cases", asked], cwd=folder, stdin=subprocess.DEVNULL, capture_output=True, check=False)
 
 
-def told(room, edit, path, pairs):
+def told(room, edit, changes):
     """Does the program with the edit miss one of its cases?"""
-    with open(os.path.join(ROOT, path), encoding="utf-8") as file:
-        text = file.read()
-    for old, new in pairs:
-        assert text.count(old) == 1, (edit, old)
-        text = text.replace(old, new)
-    with open(os.path.join(room, path), "w", encoding="utf-8") as file:
-        file.write(text)
+    for path, pairs in changes:
+        with open(os.path.join(ROOT, path), encoding="utf-8") as file:
+            text = file.read()
+        for old, new in pairs:
+            assert text.count(old) == 1, (edit, old)
+            text = text.replace(old, new)
+        with open(os.path.join(room, path), "w", encoding="utf-8") as file:
+            file.write(text)
     done = run(room, list(cases_against(edit)))
-    shutil.copy(os.path.join(ROOT, path), os.path.join(room, path))
+    for path, _ in changes:
+        shutil.copy(os.path.join(ROOT, path), os.path.join(room, path))
     return b" output=differs " in done.stdout + done.stderr
 
 
@@ -155,12 +158,12 @@ def main(wanted):
         with open(os.path.join(room, "crates.txt"), "a", encoding="utf-8") as file:
             file.write("in_pieces: wire pieces\n")
         tried = [one for one in code_edits() if one[0] not in UNSEEN and (not wanted or one[0] in wanted)]
-        for cases in batches([case for edit, _, _ in tried for case in cases_against(edit)]):
+        for cases in batches([case for edit, _ in tried for case in cases_against(edit)]):
             if run(room, cases).returncode:
                 sys.exit("wrong programs: the right one fails their cases")
-        for edit, path, pairs in tried:
+        for edit, changes in tried:
             count += 1
-            if not told(room, edit, path, pairs):
+            if not told(room, edit, changes):
                 faults += 1
                 print(f"{edit}: the wrong program answers its cases rightly, or didn't run")
     print(f"wrong programs: {count} run, {faults} not told apart")

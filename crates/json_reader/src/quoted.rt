@@ -96,7 +96,7 @@ fn order_along(text: &[u8], a: usize, b: usize) -> Ordering
 }
 
 // Are two names the same from two places on? Most differ in the first byte: a test that is short enough to stand where a few names are
-// compared. It answers no order, which would be made up for each pair only to be asked whether it is that of two that are the same.
+// compared. It answers no order, which would be put together for each pair only to be asked whether it is that of two that are the same.
 fn same_from(text: &[u8], a: usize, b: usize) -> bool
     ensures { result ≡ same (quoted_from text.now a) (quoted_from text.now b) }
 {
