@@ -73,7 +73,7 @@ fn main(rt: HostRuntime) -> io::Result<()> {
 
 
 def code_edits():
-    """The edits of code: the crate and the name, and by the file what is to be replaced by what. What they change of a proof is no part of a program."""
+    """The edits of code: the crate and the name, and by the file what is replaced by what. What they change of a proof is in no program."""
     for crate in CRATES:
         for path in sorted(glob.glob(os.path.join(ROOT, "crates", crate, "must-fail", "*.edit"))):
             with open(path, encoding="utf-8") as file:

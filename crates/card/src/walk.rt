@@ -17,8 +17,8 @@ use crate::types::{allows, key_fits, member_type};
 use json_reader::lookup::next_row;
 use json_reader::rows::{kind, value_end, value_start};
 
-// What a value breaks by itself: its kind isn't the type's (11), it lacks a mandatory member (12), it or its key isn't allowed (13), or a rule between its
-// members fails (14).
+// What a value breaks by itself: its kind isn't the type's (11), it lacks a mandatory member (12), it or its key isn't allowed (13), or a
+// rule between its members fails (14).
 #[derive(Clone, Copy)]
 pub(crate) enum Broken {
     Kind,
@@ -30,7 +30,8 @@ pub(crate) enum Broken {
 // 12 to 14 on an object.
 fn object_broken(on: &Case, object: Object, key: bool) -> Option<Broken>
     requires { OnObject on.now.words.now on.now.numbers.now on.now.table.now object }
-    ensures { (f : Forest) → MembersAt on.now.table.now object f → number_of result ≡ object_number object.of key (members_of on.now.text.now f) }
+    ensures { (f : Forest) → MembersAt on.now.table.now object f
+        → number_of result ≡ object_number object.of key (members_of on.now.text.now f) }
 {
     if is_lacking(on, object) {
         return Some(Broken::Missing);
@@ -47,7 +48,8 @@ fn object_broken(on: &Case, object: Object, key: bool) -> Option<Broken>
 // 13 on a value of a type that is no object type.
 fn value_broken(on: &Case, row: usize, code: u32, key: bool) -> Option<Broken>
     requires { on.now.words.now ≡ table_words }
-    ensures { (f : Forest) → ValueAt on.now.table.now row f → Kinds f → number_of result ≡ value_number (type_at code) key on.now.text.now f }
+    ensures { (f : Forest) → ValueAt on.now.table.now row f → Kinds f
+        → number_of result ≡ value_number (type_at code) key on.now.text.now f }
 {
     if !key {
         return Some(Broken::Value);
@@ -63,7 +65,8 @@ fn value_broken(on: &Case, row: usize, code: u32, key: bool) -> Option<Broken>
 // What the value at a row breaks by itself, of the smallest number.
 fn row_broken(on: &Case, row: usize, code: u32, key: bool) -> Option<Broken>
     requires { OnValue on.now.words.now on.now.numbers.now on.now.table.now row }
-    ensures { (f : Forest) → ValueAt on.now.table.now row f → Kinds f → number_of result ≡ row_number (type_at code) key (doc_of on.now.text.now f) }
+    ensures { (f : Forest) → ValueAt on.now.table.now row f → Kinds f
+        → number_of result ≡ row_number (type_at code) key (doc_of on.now.text.now f) }
 {
     let ty = type_of(code);
     if !kind_fits(ty, kind(on.table, row)) {
@@ -90,7 +93,8 @@ fn is_free(code: u32, key: bool) -> bool
 // The first breach of the value at a row, of a type, under a key that is allowed or not, and of what is below it.
 pub(crate) fn breach_at(on: &Case, row: usize, code: u32, key: bool) -> Option<(usize, Broken)>
     requires { OnWhole on.now.words.now on.now.numbers.now on.now.table.now row }
-    ensures { (f : Forest) → ValueAt on.now.table.now row f → Kinds f → found_of result ≡ breach_of (type_at code) key row (doc_of on.now.text.now f) }
+    ensures { (f : Forest) → ValueAt on.now.table.now row f → Kinds f
+        → found_of result ≡ breach_of (type_at code) key row (doc_of on.now.text.now f) }
 {
     if is_free(code, key) {
         return None;

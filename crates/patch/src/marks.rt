@@ -1,9 +1,10 @@
-// What is marked of the entries while they are walked (docs/RULES.md, 6.3), by their places in the sorted list. A word, the cue: below MET the place in the
-// entry's key where its part at hand begins; from MET on the entry has met a member of the object at hand, and the rest is that member's row. And a byte: where
-// the walk ends.
+// What is marked of the entries while they are walked (docs/RULES.md, 6.3), by their places in the sorted list. A word, the cue: below MET
+// the place in the entry's key where its part at hand begins; from MET on the entry has met a member of the object at hand, and the rest is
+// that member's row. And a byte: where the walk ends.
 ghost use Rattle.std.specs.Prelude.{◌≡◌, true, ◌<◌};
 ghost use Rattle.laws.specs.Lists.{RunIn};
-ghost use Rattle.patch.specs.Marks.{PlaceWord, MetWord, FilledWith, MetWith, RunCued, NextCue, Advanced, AllAt, PassesSlash, SharedStep, AdvancedBy};
+ghost use Rattle.patch.specs.Marks.{PlaceWord, MetWord, FilledWith, MetWith, RunCued, NextCue, Advanced, AdvancedBy};
+ghost use Rattle.patch.specs.Marks.{AllAt, PassesSlash, SharedStep};
 
 use crate::children::key_at;
 use json_reader::bytes::{SLASH, peek};
@@ -113,8 +114,8 @@ fn behind_slash(key: &[u8], at: usize, most: usize) -> u32
     0
 }
 
-// Where the next part of each of the entries from lo up to hi begins, told by the key of the first alone: all keys begin alike up to `shared`. 0 if it can't
-// be told so, or there is no other key to spare.
+// Where the next part of each of the entries from lo up to hi begins, told by the key of the first alone: all keys begin alike up to
+// `shared`. 0 if it can't be told so, or there is no other key to spare.
 fn shared_step(
     ptext: &[u8],
     ptable: &[u32],
@@ -142,8 +143,8 @@ fn shared_step(
     behind_slash(key, at, shared)
 }
 
-// The entries from lo up to hi go on to their next parts. While these are in what all keys begin with, only one key is looked at: the others are mostly far
-// apart in memory.
+// The entries from lo up to hi go on to their next parts. While these are in what all keys begin with, only one key is looked at: the
+// others are mostly far apart in memory.
 pub(crate) fn advance(
     ptext: &[u8],
     ptable: &[u32],

@@ -18,7 +18,8 @@ pub(crate) struct Run {
     pub hi: usize,
 }
 
-// The order of the part at hand of the entry listed at i and a name. An entry that has met a member goes by the name of that one, which is its part.
+// The order of the part at hand of the entry listed at i and a name. An entry that has met a member goes by the name of that one, which is
+// its part.
 fn part_order_of(
     text: &[u8],
     table: &[u32],
@@ -53,7 +54,8 @@ fn stands_before(
     past: bool,
 ) -> bool
     requires { MarkIn rows.now cues.now i }
-    ensures { result ≡ stands_before past (order_of (part_at text.now table.now ptext.now ptable.now rows.now cues.now i) (decode name.now)) }
+    ensures { result ≡ stands_before past
+        (order_of (part_at text.now table.now ptext.now ptable.now rows.now cues.now i) (decode name.now)) }
 {
     match part_order_of(text, table, ptext, ptable, rows, cues, i, name) {
         Ordering::Less => true,
@@ -62,8 +64,8 @@ fn stands_before(
     }
 }
 
-// A place from a on and before b: the one that was hinted at, or, where that was looked at, a step from the end that is nearest to it, or the middle if that is
-// nearer.
+// A place from a on and before b: the one that was hinted at, or, where that was looked at, a step from the end that is nearest to it, or
+// the middle if that is nearer.
 fn probe(a: usize, b: usize, near: usize, step: usize) -> usize
     requires { a < b }
     ensures { (a ≤ result) × (result < b) }
@@ -78,8 +80,8 @@ fn probe(a: usize, b: usize, near: usize, step: usize) -> usize
     near
 }
 
-// The next step, which stays the same after the hint itself. The end of a run is mostly near, so it is looked for in steps that double; for any other place
-// the middle is best.
+// The next step, which stays the same after the hint itself. The end of a run is mostly near, so it is looked for in steps that double; for
+// any other place the middle is best.
 fn next_step(step: usize, room: usize, past: bool, reached: bool) -> usize
     ensures { result ≡ next_step step room past reached }
 {
@@ -112,8 +114,8 @@ pub(crate) fn next_hint(hint: usize, run: Run) -> usize
     if hint <= run.lo { run.hi } else { NOWHERE }
 }
 
-// The place in the words lo up to hi before which stand the entries whose part at hand is before the name, or, with `past`, is before it or the same. It is
-// looked for at a hint first, since members and entries often stand in one order, and then by halving.
+// The place in the words lo up to hi before which stand the entries whose part at hand is before the name, or, with `past`, is before it or
+// the same. It is looked for at a hint first, since members and entries often stand in one order, and then by halving.
 fn bound(
     text: &[u8],
     table: &[u32],

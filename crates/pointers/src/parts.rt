@@ -1,5 +1,5 @@
-// One part of a pointer, read off a key while the key is decoded: nothing is copied. In a part `~1` is `/` and `~0` is `~` (docs/RULES.md, 6.2).
-// Up to a backslash keys are compared, and passed, as they are written; an escape that spells one byte is compared as that byte.
+// One part of a pointer, read off a key while the key is decoded: nothing is copied. In a part `~1` is `/` and `~0` is `~` (docs/RULES.md,
+// 6.2). Up to a backslash keys are compared, and passed, as they are written; an escape that spells one byte is compared as that byte.
 ghost use Rattle.std.specs.Prelude.{◌≡◌, Bool, true, false, ◌+◌, ◌<◌, ltb, length};
 ghost use Rattle.std.specs.Iterator.{YieldsFirst, item_count};
 ghost use Rattle.laws.specs.Order.{order_of, same};
@@ -7,7 +7,8 @@ ghost use Rattle.text.specs.Text.{byte_at};
 ghost use Rattle.text.specs.Strings.{decode};
 ghost use Rattle.json_reader.specs.Cursors.{rest, cursor, next_of};
 ghost use Rattle.contact.specs.Pointer.{pointer_of};
-ghost use Rattle.pointers.specs.Parts.{part_left, part_unread, name_left, Goes, name_unread, tilde_left, left_at, ShownAt, Spelled, tilde_next, part_next, Crosses, RunTo, Passes, OwnTo};
+ghost use Rattle.pointers.specs.Parts.{part_left, part_unread, part_next, name_left, name_unread, tilde_left, tilde_next, left_at};
+ghost use Rattle.pointers.specs.Parts.{Goes, ShownAt, Spelled, Crosses, RunTo, Passes, OwnTo};
 
 use json_reader::bytes::{BACKSLASH, OVER, SLASH, TILDE, ZERO, peek};
 use json_reader::decode::{Cursor, cursor_at, next_byte};
@@ -19,7 +20,8 @@ use std::marker::PhantomData;
 // A byte that is told apart as written, as wide as what `peek` gives.
 const ONE: u16 = b'1' as u16;
 
-// What a `~` stands for, the cursor being behind it: `~1` is `/`, `~0` is `~`, and both bytes are passed; before any other byte it is `~` itself.
+// What a `~` stands for, the cursor being behind it: `~1` is `/`, `~0` is `~`, and both bytes are passed; before any other byte it is `~`
+// itself.
 #[inline(always)]
 fn tilde_byte(key: &[u8], on: Cursor) -> Option<(u8, Cursor)>
     ensures result_value { part_unread key.now result ≡ tilde_left (rest key.now on) }
@@ -281,7 +283,8 @@ fn written_order<A: Kind, B: Kind>(
 
 // The order of what is left of a part and what is left of another, or of a name.
 pub(crate) fn part_order<K: Kind>(part: Side<Part>, other: Side<K>) -> Ordering
-    ensures { result ≡ order_of (part_left (rest part.entry.key.now part.entry.at)) (name_left K.part other.entry.key.now other.entry.at) }
+    ensures { result ≡ order_of (part_left (rest part.entry.key.now part.entry.at))
+        (name_left K.part other.entry.key.now other.entry.at) }
 {
     if part.at.left != 0 || other.at.left != 0 {
         return decoded_order(part, other);
