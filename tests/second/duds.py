@@ -240,6 +240,7 @@ UNSEEN = {
     "packing/text_too_long": "a packing has at most 65,538 bytes, and its compact text at most six times as many: never over the limit",
     "contact/type_not_chosen": "no line of the table hangs on `@type`",
     "laws/sorted_in_part": "every call lends a scratch for as many words as it sorts",
+    "json_reader/slash_marked_plain": "reading has a class's marks from `Eights`: none of its calls asks for these",
     "laws/equal_words_swapped": "places of one label differ, and of two keys that are one pointer both clash: no answer hangs on their order",
     "desk/one_byte_more": "an edit of the reading of an input, which no stored answer is about",
     "bezinkol/output_unsaid": "an edit of what a contract says, not of a program",

@@ -25,13 +25,20 @@ pub trait Class {
     ghost within: { (b : ℕ) → holds b → b < 256 };
 }
 
-// A class that is told of eight bytes at once.
-pub trait Marked {
+// What is told of eight bytes at once, by its own word of what it tells: so a class can be told by it before it is known to be one.
+pub trait Eights {
     ghost holds: { ℕ → Type 0 };
 
+    // Marks of a number's eight bytes: each of which it doesn't hold has its highest bit.
+    fn marks_of(w: u64) -> u64
+        ensures { MarkedBytes holds result w };
+}
+
+// A class that is told of eight bytes at once too.
+pub trait Marked: Class {
     // Marks of a number's eight bytes: each that isn't in the class has its highest bit.
     fn marks(w: u64) -> u64
-        ensures { MarkedBytes holds result w };
+        ensures { MarkedBytes Self.holds result w };
 }
 
 // Bytes that stand for themselves.
@@ -77,16 +84,22 @@ impl Class for PlainByte {
     }
 }
 
-impl Marked for PlainByte {
+impl Eights for PlainByte {
     ghost holds = { Plain };
 
     // No sum reaches the next byte, and with its second bit turned the quote stands among the controls, below 33, and nothing else does.
-    fn marks(w: u64) -> u64 {
+    fn marks_of(w: u64) -> u64 {
         let low = w & 0x7F7F7F7F7F7F7F7F;
         let shown = (low ^ 0x0202020202020202) + 0x5F5F5F5F5F5F5F5F;
         let no_back = (low ^ 0x5C5C5C5C5C5C5C5C) + 0x7F7F7F7F7F7F7F7F;
         let good = shown & no_back;
         (w | (good ^ 0x8080808080808080)) & 0x8080808080808080
+    }
+}
+
+impl Marked for PlainByte {
+    fn marks(w: u64) -> u64 {
+        PlainByte::marks_of(w)
     }
 }
 
@@ -104,17 +117,23 @@ impl Class for OwnByte {
     }
 }
 
-impl Marked for OwnByte {
+impl Eights for OwnByte {
     ghost holds = { Own };
 
     // The plain marks, and those of a slash and a tilde.
-    fn marks(w: u64) -> u64 {
+    fn marks_of(w: u64) -> u64 {
         let low = w & 0x7F7F7F7F7F7F7F7F;
         let no_slash = (low ^ 0x2F2F2F2F2F2F2F2F) + 0x7F7F7F7F7F7F7F7F;
         let no_tilde = (low ^ 0x7E7E7E7E7E7E7E7E) + 0x7F7F7F7F7F7F7F7F;
         let good = no_slash & no_tilde;
         let marks = (w | (good ^ 0x8080808080808080)) & 0x8080808080808080;
-        PlainByte::marks(w) | marks
+        PlainByte::marks_of(w) | marks
+    }
+}
+
+impl Marked for OwnByte {
+    fn marks(w: u64) -> u64 {
+        OwnByte::marks_of(w)
     }
 }
 
@@ -122,14 +141,14 @@ impl Marked for OwnByte {
 fn plain_bytes(w: u64) -> usize
     ensures { (result ≤ 8) × Bytes Plain result w }
 {
-    (u64::trailing_zeros(PlainByte::marks(w)) / 8) as usize
+    (u64::trailing_zeros(PlainByte::marks_of(w)) / 8) as usize
 }
 
 // So many of two numbers' eight bytes, from the lowest on, are in a class and the same: those up to the lowest mark or bit that differs.
-fn alike_bytes<C: Marked>(v: u64, w: u64) -> usize
+fn alike_bytes<C: Eights>(v: u64, w: u64) -> usize
     ensures { (result ≤ 8) × AlikeBytes C.holds result v w }
 {
-    let ends = C::marks(v) | (v ^ w);
+    let ends = C::marks_of(v) | (v ^ w);
     (u64::trailing_zeros(ends) / 8) as usize
 }
 
@@ -172,7 +191,7 @@ fn room(text: &[u8], a: usize, other: &[u8], b: usize) -> usize
 
 // So many bytes stand alike from two places on and are in a class, told eight at a time: up to the first that isn't so, or fewer than eight bytes before the
 // end of a text. A turn adds eight, whatever it finds, so that none waits for the one before.
-pub(crate) fn alike_eights<C: Marked>(text: &[u8], a: usize, other: &[u8], b: usize) -> usize
+pub(crate) fn alike_eights<C: Eights>(text: &[u8], a: usize, other: &[u8], b: usize) -> usize
     ensures { AlikeTo C.holds text.now a other.now b result }
 {
     let most = room(text, a, other, b);
@@ -229,4 +248,47 @@ pub fn alike_own_from(text: &[u8], a: usize, other: &[u8], b: usize) -> usize
     ensures { AlikeRun Own text.now a other.now b result }
 {
     alike_from::<OwnByte>(text, a, other, b)
+}
+
+#[cfg(test)]
+mod tests {
+    use super::*;
+    use std::test::Fail;
+
+    fn told(right: bool, what: &'static str) -> Result<(), &'static str> {
+        if right { Ok(()) } else { Err(what) }
+    }
+
+    // So many of eight bytes, from the first on, are in a class: those below the lowest mark.
+    fn at_once<C: Marked>(bytes: &[u8; 8]) -> usize {
+        (u64::trailing_zeros(C::marks(u64::from_le_bytes(*bytes))) / 8) as usize
+    }
+
+    // And those before the first that is told not to be in it.
+    fn one_by_one<C: Marked>(bytes: &[u8; 8]) -> usize {
+        for (i, b) in bytes.iter().enumerate() {
+            if !C::has(*b as u16) {
+                return i;
+            }
+        }
+        8
+    }
+
+    #[test]
+    fn eight_bytes_are_told_at_once() -> Result<(), Fail> {
+        for (bytes, plain, own) in [
+            (b"abcdefgh", 8, 8),
+            (b"emails/e", 8, 6),
+            (b"a~b/c\"de", 5, 1),
+            (b"\\u0041bc", 0, 0),
+            (b"Z\xC3\xBCrich!", 1, 1),
+            (b"line\nfed", 4, 4),
+        ] {
+            told(at_once::<PlainByte>(bytes) == plain, "plain, at once")?;
+            told(at_once::<OwnByte>(bytes) == own, "own, at once")?;
+            told(one_by_one::<PlainByte>(bytes) == plain, "plain, one by one")?;
+            told(one_by_one::<OwnByte>(bytes) == own, "own, one by one")?;
+        }
+        Ok(())
+    }
 }

@@ -8,9 +8,9 @@ use Rattle.json_reader.proofs.plain.alike_bytes.Goals as goal
 pub returns : goal.returns
 returns g c =
     let a = c.args in
-    let m = c.marks.result in
+    let m = c.marks_of.result in
     let ends = bit_or m (bit_xor a.v a.w) in
-    (few ends, alike_marked g.C.Marked.holds m a.v a.w _ c.marks.ensures (few ends) (counted ends))
+    (few ends, alike_marked g.C.Eights.holds m a.v a.w _ c.marks_of.ensures (few ends) (counted ends))
 
 pub overflow_cast-result : goal.overflow_cast-result
-overflow_cast-result g c = omega (arith, few (bit_or c.marks.result (bit_xor c.args.v c.args.w)))
+overflow_cast-result g c = omega (arith, few (bit_or c.marks_of.result (bit_xor c.args.v c.args.w)))

@@ -10,14 +10,14 @@ use Rattle.json_reader.proofs.plain.alike_eights.Goals as goal
 on : (g : _) (c : goal.Else-run-lt8 g)
     → let l = c in
     let a = l.args in
-    AlikeTo g.C.Marked.holds a.text.now a.a a.other.now a.b (l.loop-k.k + c.alike_bytes-run.result)
+    AlikeTo g.C.Eights.holds a.text.now a.a a.other.now a.b (l.loop-k.k + c.alike_bytes-run.result)
 on g c =
     let l = c in
     let r = c in
     let o = c in
     let t = c in
     let a = t.args in
-    alike_eight g.C.Marked.holds a.text.now a.other.now (λ i. omega (arith, t.type_inv.text i))
+    alike_eight g.C.Eights.holds a.text.now a.other.now (λ i. omega (arith, t.type_inv.text i))
     (λ i. omega (arith, o.type_inv.other i)) a.a a.b 8 c.alike_bytes-run.result l.loop-k.k l.loop-k.invariant
     c.alike_bytes-run.ensures.0 (omega (arith, r.room-most.ensures.0)) (omega (arith, r.room-most.ensures.1))
     (rw (c.eight.ensures, c.eight-in-loop-k.ensures) at c.alike_bytes-run.ensures.1)
@@ -47,14 +47,14 @@ eight-requires-in-loop-k g c = omega (arith, c.room-most.ensures.1)
 on_2 : (g : _) (c : goal.Then-run-lt8 g)
     → let l = c in
     let a = l.args in
-    AlikeTo g.C.Marked.holds a.text.now a.a a.other.now a.b (l.loop-k.k + c.alike_bytes-run.result)
+    AlikeTo g.C.Eights.holds a.text.now a.a a.other.now a.b (l.loop-k.k + c.alike_bytes-run.result)
 on_2 g c =
     let l = c in
     let r = c in
     let o = c in
     let t = c in
     let a = t.args in
-    alike_eight g.C.Marked.holds a.text.now a.other.now (λ i. omega (arith, t.type_inv.text i))
+    alike_eight g.C.Eights.holds a.text.now a.other.now (λ i. omega (arith, t.type_inv.text i))
     (λ i. omega (arith, o.type_inv.other i)) a.a a.b 8 c.alike_bytes-run.result l.loop-k.k l.loop-k.invariant
     c.alike_bytes-run.ensures.0 (omega (arith, r.room-most.ensures.0)) (omega (arith, r.room-most.ensures.1))
     (rw (c.eight.ensures, c.eight-in-loop-k.ensures) at c.alike_bytes-run.ensures.1)

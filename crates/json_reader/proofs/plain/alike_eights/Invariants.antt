@@ -6,7 +6,7 @@ use Rattle.json_reader.specs.Plain.{AlikeTo}
 use Rattle.json_reader.proofs.plain.alike_eights.Given as goal
 
 abbrev pub invariant-loop-k : goal.invariant-loop-k
-invariant-loop-k g l = AlikeTo g.C.Marked.holds l.text l.a l.other l.b l.k
+invariant-loop-k g l = AlikeTo g.C.Eights.holds l.text l.a l.other l.b l.k
 
 abbrev pub decreases-loop-k : goal.decreases-loop-k
 decreases-loop-k g l = length l.text - l.k
