@@ -76,7 +76,7 @@ HEAD = re.compile(MARKS + r"(?:data|record|ruleset|mod)\s+([^\s({:]+)", re.M)
 TYPED = re.compile(MARKS + r"([^\s(){}:=|]+(?:[ \t]+[^\s(){}:=|]+)*)\s+:(?=\s)", re.M)
 PARAMETERS = re.compile(MARKS + r"(?:data|record)\s+\S+((?:\s*[({][^(){}]*[)}])*)", re.M)
 # And in the code: an item, a field, a case of an enum.
-ITEM = re.compile(r"\b(?:fn|struct|enum|const|mod)\s+(\w+)")
+ITEM = re.compile(r"\b(?:fn|struct|enum|trait|const|mod)\s+(\w+)")
 FIELD = re.compile(r"^    (?:pub )?([a-z]\w*): ", re.M)
 ENUM = re.compile(r"\benum \w+ \{(.*?)\n\}", re.S)
 CASE = re.compile(r"^    ([A-Z]\w*)", re.M)
