@@ -152,8 +152,8 @@ fn alike_bytes<C: Eights>(v: u64, w: u64) -> usize
     (u64::trailing_zeros(ends) / 8) as usize
 }
 
-// A place that plain bytes lead to from a place inside a string; fewer than eight of them may follow. A byte above 127 ends them at once, so that a space
-// between words of another script costs no eight bytes.
+// A place that plain bytes lead to from a place inside a string; fewer than eight of them may follow. A byte above 127 ends them at once, so
+// that a space between words of another script costs no eight bytes.
 pub(crate) fn plain_end(text: &[u8], from: usize) -> usize
     ensures { Chars text.now from result }
 {
@@ -189,8 +189,8 @@ fn room(text: &[u8], a: usize, other: &[u8], b: usize) -> usize
     left_from(text, a).min(left_from(other, b))
 }
 
-// So many bytes stand alike from two places on and are in a class, told eight at a time: up to the first that isn't so, or fewer than eight bytes before the
-// end of a text. A turn adds eight, whatever it finds, so that none waits for the one before.
+// So many bytes stand alike from two places on and are in a class, told eight at a time: up to the first that isn't so, or fewer than eight
+// bytes before the end of a text. A turn adds eight, whatever it finds, so that none waits for the one before.
 pub(crate) fn alike_eights<C: Eights>(text: &[u8], a: usize, other: &[u8], b: usize) -> usize
     ensures { AlikeTo C.holds text.now a other.now b result }
 {
